@@ -1,0 +1,2 @@
+-- The lemmas that every layer cites.
+pub mod Bools

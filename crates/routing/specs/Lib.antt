@@ -1,0 +1,2 @@
+-- Drawable placements: the trusted definitions.
+pub mod Paths

@@ -1,0 +1,42 @@
+-- TRUSTED. Document 01's limits on a stack: k from 1 to 8, strip lengths from 1 to 1,000, up to 32 pairs in a channel, terminals within their
+-- strip and strictly rising along each edge. Assumes nothing: these are definitions.
+use mathlib.Core.Bool.{Bool, true, false, _&&_}
+use mathlib.Core.List.{List, [], _∷_}
+use Prim.Native.Nat.{ℕ}
+use lib.Dec.{ltb, leb}
+use lib.ListN.{length, getD}
+use Rattle.stack.specs.Stack.{Pair, Stack}
+
+-- each pair's terminals are above those of the pair before it, the first's above p and q
+unfoldable pub rises-above : (p q : ℕ) → List Pair → Bool
+rises-above p q [] = true
+rises-above p q (x ∷ xs) = (ltb p (x .p) && ltb q (x .q)) && rises-above (x .p) (x .q) xs
+
+unfoldable pub rising : List Pair → Bool
+rising [] = true
+rising (x ∷ xs) = rises-above (x .p) (x .q) xs
+
+-- every terminal is at most its strip's length
+unfoldable pub on-strips : (lower upper : ℕ) → List Pair → Bool
+on-strips a b [] = true
+on-strips a b (x ∷ xs) = (leb (x .p) a && leb (x .q) b) && on-strips a b xs
+
+unfoldable pub channel-within : (lower upper : ℕ) → List Pair → Bool
+channel-within a b c = leb (length c) 32 && (rising c && on-strips a b c)
+
+-- one channel above each strip but the last
+unfoldable pub channels-within : (strips : List ℕ) → List (List Pair) → Bool
+channels-within [] cs = false
+channels-within (a ∷ []) [] = true
+channels-within (a ∷ []) (c ∷ cs) = false
+channels-within (a ∷ b ∷ ls) [] = false
+channels-within (a ∷ b ∷ ls) (c ∷ cs) = channel-within a b c && channels-within (b ∷ ls) cs
+
+unfoldable pub strips-within : List ℕ → Bool
+strips-within [] = true
+strips-within (l ∷ ls) = (leb 1 l && leb l 1000) && strips-within ls
+
+unfoldable pub within-limits : Stack → Bool
+within-limits k =
+    (leb 1 (length (k .channels)) && leb (length (k .channels)) 8)
+    && (strips-within (k .strips) && channels-within (k .strips) (k .channels))

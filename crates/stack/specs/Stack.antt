@@ -1,0 +1,119 @@
+-- TRUSTED. Stacks of strips and channels; when a channel can be wired; legal placements, totals, the answer for a spread, a table's rows.
+-- Document 01, "Strips, columns and tracks", "When a channel can be wired" and "Choosing among equals". Assumes nothing: these are definitions.
+use mathlib.Core.Path.{_≡_}
+use mathlib.Core.Bool.{Bool, true, false, _&&_, _||_, cond}
+use mathlib.Core.List.{List, [], _∷_}
+use Prim.Native.Nat.{ℕ, zero, suc, _+_, _-_, _≤_, _<_}
+use lib.Dec.{ltb, leb, eqb}
+use lib.ListN.{length, getD}
+
+-- a PAIR joins terminal p of the lower strip's upper edge to terminal q of the upper strip's lower edge
+pub record Pair : Type 0 where
+  pub p : ℕ
+  pub q : ℕ
+
+-- a STACK: its strips' lengths from the bottom, and the pairs of the channel above each strip but the last
+pub record Stack : Type 0 where
+  pub strips : List ℕ
+  pub channels : List (List Pair)
+
+unfoldable pub pair : (p q : ℕ) → Pair
+pair a b = record { p = a; q = b }
+
+unfoldable pub stack : List ℕ → List (List Pair) → Stack
+stack s c = record { strips = s; channels = c }
+
+unfoldable pub p-at : List Pair → (j : ℕ) → ℕ
+p-at ps j = getD ps j (pair 0 0) .p
+
+unfoldable pub q-at : List Pair → (j : ℕ) → ℕ
+q-at ps j = getD ps j (pair 0 0) .q
+
+-- a test passes at each of the numbers j, j + 1, .., as many as are left
+unfoldable pub every : (left j : ℕ) → (ℕ → Bool) → Bool
+every zero j f = true
+every (suc k) j f = f j && every k (suc j) f
+
+-- L(t) ≤ w at j: p(j - t) + t - q(j) ≤ upper - lower, each side kept above zero
+unfoldable pub left-good : List Pair → (t lower upper j : ℕ) → Bool
+left-good ps t a b j = leb (p-at ps (j - t) + t + a) (b + q-at ps j)
+
+-- w ≤ R(t) at j: upper - lower ≤ p(j + t) - t - q(j), each side kept above zero
+unfoldable pub right-good : List Pair → (t lower upper j : ℕ) → Bool
+right-good ps t a b j = leb (b + t + q-at ps j) (p-at ps (j + t) + a)
+
+-- FEASIBLE at separation t with the strips at these positions: L(t) at most the offset upper - lower, the offset at most R(t); from t = m on every offset
+unfoldable pub feasible : List Pair → (t lower upper : ℕ) → Bool
+feasible ps t a b =
+    leb (length ps) t
+    || (every (length ps - t) t (λ j. left-good ps t a b j) && every (length ps - t) 0 (λ j. right-good ps t a b j))
+
+-- a PLACEMENT, separations and positions, lies WITHIN the spread
+unfoldable pub in-spread : (s : ℕ) → (strips positions : List ℕ) → Bool
+in-spread s [] [] = true
+in-spread s [] (x ∷ xs) = false
+in-spread s (l ∷ ls) [] = false
+in-spread s (l ∷ ls) (x ∷ xs) = leb (x + l) s && in-spread s ls xs
+
+unfoldable pub channels-good : List (List Pair) → (separations positions : List ℕ) → Bool
+channels-good [] [] xs = true
+channels-good [] (t ∷ ts) xs = false
+channels-good (c ∷ cs) [] xs = false
+channels-good (c ∷ cs) (t ∷ ts) [] = false
+channels-good (c ∷ cs) (t ∷ ts) (x ∷ xs) = feasible c t x (getD xs 0 0) && channels-good cs ts xs
+
+-- LEGAL in a spread
+unfoldable pub legal : Stack → (s : ℕ) → (separations positions : List ℕ) → Bool
+legal k s ts xs = in-spread s (k .strips) xs && channels-good (k .channels) ts xs
+
+-- the TOTAL of separations
+unfoldable pub sum : List ℕ → ℕ
+sum [] = 0
+sum (x ∷ xs) = x + sum xs
+
+unfoldable pub longest : List ℕ → ℕ
+longest [] = 0
+longest (x ∷ xs) = cond (ltb x (longest xs)) (longest xs) x
+
+-- DICTIONARY ORDER of lists of one length: not later
+unfoldable pub not-later : (xs ys : List ℕ) → Bool
+not-later [] ys = true
+not-later (x ∷ xs) [] = false
+not-later (x ∷ xs) (y ∷ ys) = ltb x y || (eqb x y && not-later xs ys)
+
+-- THE ANSWER for a spread: least total, then separations, then positions first in dictionary order
+pub record Answer (k : Stack) (s : ℕ) (ts xs : List ℕ) : Type 0 where
+  pub is-legal : legal k s ts xs ≡ true
+  pub least : (us ys : List ℕ) → legal k s us ys ≡ true → sum ts ≤ sum us
+  pub first : (us ys : List ℕ) → legal k s us ys ≡ true → sum us ≡ sum ts → not-later ts us ≡ true
+  pub first-places : (ys : List ℕ) → legal k s ts ys ≡ true → not-later xs ys ≡ true
+
+-- a ROW of the table
+pub record Row : Type 0 where
+  pub spread : ℕ
+  pub separations : List ℕ
+  pub positions : List ℕ
+
+unfoldable pub row : (spread : ℕ) → (ts xs : List ℕ) → Row
+row s ts xs = record { spread = s; separations = ts; positions = xs }
+
+unfoldable pub total : Row → ℕ
+total r = sum (r .separations)
+
+-- nothing legal from a spread up to below another has a smaller total
+unfoldable pub Stays : Stack → (from upto total : ℕ) → Type 0
+Stays k a b v = (s : ℕ) (us ys : List ℕ) → a ≤ s → s < b → legal k s us ys ≡ true → v ≤ sum us
+
+unfoldable pub Stays-on : Stack → (from total : ℕ) → Type 0
+Stays-on k a v = (s : ℕ) (us ys : List ℕ) → a ≤ s → legal k s us ys ≡ true → v ≤ sum us
+
+-- ROWS: the longest strip's length and every greater spread at which the least total falls
+unfoldable pub Rows-after : Stack → Row → List Row → Type 0
+Rows-after k r [] = Stays-on k (r .spread) (total r)
+Rows-after k r (q ∷ qs) =
+    (r .spread < q .spread) × (total q < total r) × Stays k (r .spread) (q .spread) (total r)
+    × Answer k (q .spread) (q .separations) (q .positions) × Rows-after k q qs
+
+unfoldable pub Rows-are : Stack → List Row → Type 0
+Rows-are k [] = ⊥
+Rows-are k (r ∷ rs) = (r .spread ≡ longest (k .strips)) × Answer k (r .spread) (r .separations) (r .positions) × Rows-after k r rs
