@@ -16,6 +16,10 @@ unfoldable pub rising : List Pair → Bool
 rising [] = true
 rising (x ∷ xs) = rises-above (x .p) (x .q) xs
 
+unfoldable pub all-rising : List (List Pair) → Bool
+all-rising [] = true
+all-rising (c ∷ cs) = rising c && all-rising cs
+
 -- every terminal is at most its strip's length
 unfoldable pub on-strips : (lower upper : ℕ) → List Pair → Bool
 on-strips a b [] = true
