@@ -1,4 +1,22 @@
 // Stacks of strips and channels, with document 01's limits as constants of the types and constructors that test them.
+ghost use mathlib.Core.Path.{_≡_};
+ghost use mathlib.Core.List.{[]};
+ghost use Prim.Native.Nat.{_-_, _≤_, _<_};
+ghost use lib.ListN.{getD};
+ghost use Rattle.stack.specs.Value.{columns, channel-of, stack-of};
+ghost use Rattle.stack.specs.Made.{
+  strip-made,
+  is-good,
+  not-above,
+  pair-found,
+  Pair-made,
+  Terminals-made,
+  bare,
+  Stack-made,
+  Strip-set,
+  Channel-set,
+  Stored,
+};
 
 // A count of tracks: a separation. Document 01, "Strips, columns and tracks".
 pub struct Tracks(pub u32);
@@ -11,10 +29,29 @@ pub struct Strip {
     pub length: Columns,
 }
 
+pub enum StripMade {
+    Made(Strip),
+    Length,
+}
+
 impl Strip {
     pub const MIN_LENGTH: u32 = 1;
 
     pub const MAX_LENGTH: u32 = 1000;
+
+    pub fn new(length: u32) -> StripMade
+        ensures { λ r. ⌜ r ≡ strip-made length ⌝ }
+    {
+        if length < Strip::MIN_LENGTH {
+            return StripMade::Length;
+        }
+        if Strip::MAX_LENGTH < length {
+            return StripMade::Length;
+        }
+        StripMade::Made(Strip {
+            length: Columns(length),
+        })
+    }
 }
 
 // The terminals of a channel's pairs: pair j joins lower[j] to upper[j]; places from count on are unused.
@@ -24,8 +61,179 @@ pub struct Terminals {
     pub count: usize,
 }
 
+// Whether terminals keep the limits; a fault carries its place in p(0), q(0), p(1), q(1) and so on.
+pub enum TerminalsFound {
+    Good,
+    Crowd,
+    Overhang(usize),
+    Crossing(usize),
+}
+
+impl TerminalsFound {
+    pub fn is_good(self) -> bool
+        ensures { λ r. ⌜ r ≡ is-good self ⌝ }
+    {
+        match self {
+            TerminalsFound::Good => true,
+            TerminalsFound::Crowd => false,
+            TerminalsFound::Overhang(_) => false,
+            TerminalsFound::Crossing(_) => false,
+        }
+    }
+}
+
+// What was found of terminals, and those that are good.
+pub struct TerminalsMade {
+    pub found: TerminalsFound,
+    pub terminals: Terminals,
+}
+
 impl Terminals {
     pub const MAX_PAIRS: usize = 32;
+
+    pub fn none() -> Terminals
+        ensures { λ r. ⌜ channel-of r ≡ [] ⌝ }
+    {
+        Terminals {
+            lower: [Columns(0); Terminals::MAX_PAIRS],
+            upper: [Columns(0); Terminals::MAX_PAIRS],
+            count: 0,
+        }
+    }
+
+    // Whether one pair more keeps the limits.
+    fn found_with(self, p: u32, q: u32, lower: Strip, upper: Strip) -> TerminalsFound
+        ensures { λ r. ⌜ r ≡ pair-found (channel-of self) (lower .length .0) (upper .length .0) p q ⌝ }
+    {
+        let n = self.count;
+        let ps = self.lower;
+        let qs = self.upper;
+        if Terminals::MAX_PAIRS <= n {
+            return TerminalsFound::Crowd;
+        }
+        if lower.length.0 < p {
+            return TerminalsFound::Overhang(2 * n);
+        }
+        if is_not_above(ps, n, p) {
+            return TerminalsFound::Crossing(2 * n);
+        }
+        if upper.length.0 < q {
+            return TerminalsFound::Overhang(2 * n + 1);
+        }
+        if is_not_above(qs, n, q) {
+            return TerminalsFound::Crossing(2 * n + 1);
+        }
+        TerminalsFound::Good
+    }
+
+    // The terminals with one pair more, or as they were where it does not keep the limits.
+    pub fn with_pair(self, p: u32, q: u32, lower: Strip, upper: Strip) -> TerminalsMade
+        ensures { λ r. ⌜ Pair-made self (lower .length .0) (upper .length .0) p q r ⌝ }
+    {
+        let found = self.found_with(p, q, lower, upper);
+        let at = self.count;
+        let ps = self.lower;
+        let qs = self.upper;
+        if !found.is_good() {
+            return TerminalsMade {
+                found,
+                terminals: self,
+            };
+        }
+        let longer_ps = columns_stored(ps, at, Columns(p));
+        let longer_qs = columns_stored(qs, at, Columns(q));
+        let longer = Terminals {
+            lower: longer_ps,
+            upper: longer_qs,
+            count: at + 1,
+        };
+        TerminalsMade {
+            found,
+            terminals: longer,
+        }
+    }
+
+    // The pairs of terminals that stand in the order p(0), q(0), p(1), q(1) and so on.
+    pub fn new(
+        values: &[u32; 2 * Terminals::MAX_PAIRS],
+        pairs: usize,
+        lower: Strip,
+        upper: Strip,
+    ) -> TerminalsMade
+        ensures { λ r. ⌜ Terminals-made (now (values .entry)) pairs (lower .length .0) (upper .length .0) r ⌝ }
+    {
+        let none = Terminals::none();
+        if Terminals::MAX_PAIRS < pairs {
+            return TerminalsMade {
+                found: TerminalsFound::Crowd,
+                terminals: none,
+            };
+        }
+        let mut terminals = none;
+        for j in 0..pairs {
+            let made = terminals.with_pair(values[2 * j], values[2 * j + 1], lower, upper);
+            let found = made.found;
+            if !found.is_good() {
+                return TerminalsMade {
+                    found,
+                    terminals: none,
+                };
+            }
+            terminals = made.terminals;
+        }
+        TerminalsMade {
+            found: TerminalsFound::Good,
+            terminals,
+        }
+    }
+}
+
+// A terminal is not above the one before it, where there is one.
+fn is_not_above(before: [Columns; Terminals::MAX_PAIRS], n: usize, x: u32) -> bool
+    requires { ⌜ n < 32 ⌝ }
+    ensures { λ r. ⌜ r ≡ not-above n (getD before (n - 1) (columns 0) .0) x ⌝ }
+{
+    if n == 0 {
+        return false;
+    }
+    x <= before[n - 1].0
+}
+
+// The three stores also say how long their arrays are, which is known of an array that is passed and not of a struct's field.
+fn columns_stored(
+    mut all: [Columns; Terminals::MAX_PAIRS],
+    i: usize,
+    x: Columns,
+) -> [Columns; Terminals::MAX_PAIRS]
+    requires { ⌜ i < 32 ⌝ }
+    ensures { λ r. ⌜ Stored all 32 i x r ⌝ }
+{
+    all[i] = x;
+    all
+}
+
+fn strip_stored(
+    mut all: [Strip; Stack::MAX_CHANNELS + 1],
+    i: usize,
+    x: Strip,
+) -> [Strip; Stack::MAX_CHANNELS + 1]
+    requires { ⌜ i < 9 ⌝ }
+    ensures { λ r. ⌜ Stored all 9 i x r ⌝ }
+{
+    all[i] = x;
+    all
+}
+
+fn terminals_stored(
+    mut all: [Terminals; Stack::MAX_CHANNELS],
+    i: usize,
+    x: Terminals,
+) -> [Terminals; Stack::MAX_CHANNELS]
+    requires { ⌜ i < 8 ⌝ }
+    ensures { λ r. ⌜ Stored all 8 i x r ⌝ }
+{
+    all[i] = x;
+    all
 }
 
 // k channels and k + 1 strips, strip 0 at the bottom; places past them are unused.
@@ -33,6 +241,16 @@ pub struct Stack {
     pub count: usize,
     pub strips: [Strip; Stack::MAX_CHANNELS + 1],
     pub channels: [Terminals; Stack::MAX_CHANNELS],
+}
+
+pub enum StackFound {
+    Sized,
+    Oversized,
+}
+
+pub struct StackMade {
+    pub found: StackFound,
+    pub stack: Stack,
 }
 
 impl Stack {
@@ -45,4 +263,64 @@ impl Stack {
     pub const MAX_TOTAL: usize = Stack::MAX_CHANNELS * Stack::MAX_SEPARATION;
     // Added to offsets and limits, so that none is negative: more than any position and terminal together.
     pub const BIAS: u64 = 8_589_934_592;
+
+    // k channels without pairs between the shortest strips.
+    fn bare(k: usize) -> Stack
+        requires { ⌜ k ≤ 8 ⌝ }
+        ensures { λ r. ⌜ (r .count ≡ k) × (stack-of r ≡ bare k) ⌝ }
+    {
+        let shortest = Strip {
+            length: Columns(Strip::MIN_LENGTH),
+        };
+        let none = Terminals::none();
+        Stack {
+            count: k,
+            strips: [shortest; Stack::MAX_CHANNELS + 1],
+            channels: [none; Stack::MAX_CHANNELS],
+        }
+    }
+
+    // k channels without pairs between the shortest strips; one channel where k is refused.
+    pub fn new(k: usize) -> StackMade
+        ensures { λ r. ⌜ Stack-made k r ⌝ }
+    {
+        if k < Stack::MIN_CHANNELS {
+            return StackMade {
+                found: StackFound::Oversized,
+                stack: Stack::bare(Stack::MIN_CHANNELS),
+            };
+        }
+        if Stack::MAX_CHANNELS < k {
+            return StackMade {
+                found: StackFound::Oversized,
+                stack: Stack::bare(Stack::MIN_CHANNELS),
+            };
+        }
+        StackMade {
+            found: StackFound::Sized,
+            stack: Stack::bare(k),
+        }
+    }
+
+    // The stack with another strip at a place.
+    pub fn with_strip(mut self, i: usize, strip: Strip) -> Stack
+        requires { ⌜ (i ≤ self .count) × (self .count ≤ 8) ⌝ }
+        ensures { λ r. ⌜ Strip-set self i (strip .length .0) r ⌝ }
+    {
+        let old = self.strips;
+        let strips = strip_stored(old, i, strip);
+        self.strips = strips;
+        self
+    }
+
+    // The stack with other terminals in a channel.
+    pub fn with_channel(mut self, i: usize, terminals: Terminals) -> Stack
+        requires { ⌜ (i < self .count) × (self .count ≤ 8) ⌝ }
+        ensures { λ r. ⌜ Channel-set self i (channel-of terminals) r ⌝ }
+    {
+        let old = self.channels;
+        let channels = terminals_stored(old, i, terminals);
+        self.channels = channels;
+        self
+    }
 }

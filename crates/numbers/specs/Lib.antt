@@ -1,0 +1,2 @@
+-- Definitions on lists that several layers use.
+pub mod Lists

@@ -1,0 +1,150 @@
+-- What the constructors find: the tests that the code makes are those of pair-found, and pairs in which no fault is found keep document 01's limits.
+-- Assumes nothing.
+use mathlib.Core.Path.{_≡_, refl, sym, _∙_}
+use mathlib.Core.Bool.{Bool, true, false, cond}
+use mathlib.Core.List.{List, [], _∷_, _++_}
+use Prim.Native.Nat.{ℕ, zero, suc, _+_, _*_, _-_, _≤_, _<_}
+use native.Mathlib.Nat.{zero-add}
+use native.Mathlib.Numerals.{add-one}
+use native.Mathlib.Omega.{arith}
+use lib.Dec.{ltb, leb}
+use lib.ListN.{length, getD, drop, drop-of-length-le}
+use lib.Seq.{drop-cons}
+use borrow.Author.Tests.{leb-false, lt-ltb, le-ltb, lt-leb, le-leb}
+use Rattle.numbers.specs.Lists.{tabulate}
+use Rattle.numbers.proofs.Lists.{length-tabulate, getD-tabulate, tabulate-snoc}
+use Rattle.stack.specs.Stack.{Pair, pair, p-at, q-at}
+use Rattle.stack.specs.Value.{columns, channel-of}
+use Rattle.stack.specs.Made.{not-above, is-good, pair-found, or-fault, pairs-found, terminals-found, kept, pairs-in, Pair-made, Making, Terminals-made, Stored}
+use Rattle.stack.specs.declared.Columns.{Columns}
+use Rattle.stack.specs.declared.Terminals.{Terminals}
+use Rattle.stack.specs.declared.TerminalsMade.{TerminalsMade}
+use Rattle.stack.specs.declared.TerminalsFound.{TerminalsFound}
+use Rattle.stack.specs.declared.TerminalsFound.the-variants.{Good, Crowd, Overhang, Crossing}
+use Rattle.stack.proofs.Values.{channel-length, channel-p-at, channel-q-at, channel-longer}
+
+-- the terminal before is read only where there is one
+not-above-by : (n a b x : ℕ) → (0 < n → a ≡ b) → not-above n a x ≡ not-above n b x
+unfolding not-above
+not-above-by zero a b x h = refl
+not-above-by (suc n) a b x h = rw (h (omega arith))
+
+-- the tests of pair-found on a channel's places
+pub found-in-places : (t : Terminals) (lo hi p q : ℕ) →
+    let n = t .count in
+    pair-found (channel-of t) lo hi p q
+    ≡ cond (leb 32 n) Crowd
+    (cond (ltb lo p) (Overhang (2 * n))
+    (cond (not-above n (getD (t .lower) (n - 1) (columns 0) .0) p) (Crossing (2 * n))
+    (cond (ltb hi q) (Overhang (2 * n + 1))
+    (cond (not-above n (getD (t .upper) (n - 1) (columns 0) .0) q) (Crossing (2 * n + 1)) Good))))
+unfolding pair-found
+found-in-places t lo hi p q =
+    let n = t .count in
+    rw (
+      channel-length t,
+      not-above-by n (p-at (channel-of t) (n - 1)) (getD (t .lower) (n - 1) (columns 0) .0) p (λ h. channel-p-at t (n - 1) (omega arith)),
+      not-above-by n (q-at (channel-of t) (n - 1)) (getD (t .upper) (n - 1) (columns 0) .0) q (λ h. channel-q-at t (n - 1) (omega arith)),
+    )
+
+good-is : (f : TerminalsFound) → is-good f ≡ true → f ≡ Good
+good-is Good h = refl
+good-is Crowd h = let z : _≡_ {A = ℕ} 0 1 = cc in absurd (omega arith)
+good-is (Overhang n) h = let z : _≡_ {A = ℕ} 0 1 = cc in absurd (omega arith)
+good-is (Crossing n) h = let z : _≡_ {A = ℕ} 0 1 = cc in absurd (omega arith)
+
+fault-keeps : (f : TerminalsFound) (new old : List Pair) → is-good f ≡ false → kept f new old ≡ old
+unfolding kept
+fault-keeps Good new old h = let z : _≡_ {A = ℕ} 0 1 = cc in absurd (omega arith)
+fault-keeps Crowd new old h = refl
+fault-keeps (Overhang n) new old h = refl
+fault-keeps (Crossing n) new old h = refl
+
+fault-stays : (f r : TerminalsFound) → is-good f ≡ false → or-fault f r ≡ f
+unfolding or-fault
+fault-stays Good r h = let z : _≡_ {A = ℕ} 0 1 = cc in absurd (omega arith)
+fault-stays Crowd r h = refl
+fault-stays (Overhang n) r h = refl
+fault-stays (Crossing n) r h = refl
+
+-- where a pair more is good there is a place for it
+pub room : (t : Terminals) (lo hi p q : ℕ) (f : TerminalsFound) → f ≡ pair-found (channel-of t) lo hi p q → is-good f ≡ true → t .count < 32
+room t lo hi p q f e g = go (leb 32 (t .count)) refl
+  where
+    go : (b : Bool) → leb 32 (t .count) ≡ b → t .count < 32
+    go true h =
+        let crowd : f ≡ Crowd = e ∙ (found-in-places t lo hi p q ∙ rw h) in
+        let good : f ≡ Good = good-is f g in
+        let z : _≡_ {A = ℕ} 0 1 = cc in absurd (omega arith)
+    go false h = leb-false 32 (t .count) h
+
+pub pair-refused : (t : Terminals) (lo hi p q : ℕ) (f : TerminalsFound) → f ≡ pair-found (channel-of t) lo hi p q → is-good f ≡ false →
+    Pair-made t lo hi p q (record { found = f; terminals = t })
+pair-refused t lo hi p q f e g = record { found = e; pairs = sym (fault-keeps f _ _ g) }
+
+pub pair-stored : (t : Terminals) (lo hi p q : ℕ) (f : TerminalsFound) (ps qs : List Columns) → f ≡ pair-found (channel-of t) lo hi p q → is-good f ≡ true →
+    Stored (t .lower) 32 (t .count) (columns p) ps → Stored (t .upper) 32 (t .count) (columns q) qs →
+    Pair-made t lo hi p q (record { found = f; terminals = record { lower = ps; upper = qs; count = t .count + 1 } })
+unfolding kept
+pair-stored t lo hi p q f ps qs e g a b =
+    let h : t .count < 32 = room t lo hi p q f e g in
+    record { found = e; pairs = rw (good-is f g, a .stored, b .stored) (channel-longer t p q (omega (arith, a .long)) (omega (arith, b .long))) }
+
+pairs-in-more : (xs : List ℕ) (j : ℕ) → pairs-in xs (j + 1) ≡ pairs-in xs j ++ (pair (getD xs (2 * j) 0) (getD xs (2 * j + 1) 0) ∷ [])
+unfolding pairs-in
+pairs-in-more xs j =
+    let f : ℕ → Pair = λ j. pair (getD xs (2 * j) 0) (getD xs (2 * j + 1) 0) in rw (add-one j, tabulate-snoc j 0 f, zero-add j)
+
+pub pairs-in-length : (xs : List ℕ) (n : ℕ) → length (pairs-in xs n) ≡ n
+unfolding pairs-in
+pairs-in-length xs n = length-tabulate n 0 (λ j. pair (getD xs (2 * j) 0) (getD xs (2 * j + 1) 0))
+
+pairs-in-rest : (xs : List ℕ) (n j : ℕ) → j < n →
+    drop j (pairs-in xs n) ≡ pair (getD xs (2 * j) 0) (getD xs (2 * j + 1) 0) ∷ drop (j + 1) (pairs-in xs n)
+unfolding pairs-in
+pairs-in-rest xs n j h =
+    let f : ℕ → Pair = λ j. pair (getD xs (2 * j) 0) (getD xs (2 * j + 1) 0) in
+    rw (drop-cons (tabulate n 0 f) j (pair 0 0) (omega (arith, length-tabulate n 0 f)), getD-tabulate n j f (pair 0 0) h, add-one j)
+
+pub making-starts : (xs : List ℕ) (n lo hi : ℕ) (t : Terminals) → channel-of t ≡ [] → Making xs n lo hi t 0
+unfolding pairs-in tabulate
+making-starts xs n lo hi t e = record { below = omega arith; stand = e; rest = rw e }
+
+-- the pair at j, and what is found of the pairs from it on
+module _ (xs : List ℕ) (n lo hi : ℕ) (t : Terminals) (j : ℕ) (r : TerminalsMade) (less : j < n) (m : Making xs n lo hi t j)
+    (made : Pair-made t lo hi (getD xs (2 * j) 0) (getD xs (2 * j + 1) 0) r) where
+  from-here : pairs-found [] lo hi (pairs-in xs n) ≡ or-fault (r .found) (pairs-found (channel-of t ++ (pair (getD xs (2 * j) 0) (getD xs (2 * j + 1) 0) ∷ [])) lo hi (drop (j + 1) (pairs-in xs n)))
+  unfolding pairs-found pair
+  from-here = rw (m .rest, pairs-in-rest xs n j less, made .found)
+
+  pub making-steps : is-good (r .found) ≡ true → Making xs n lo hi (r .terminals) (j + 1)
+  unfolding kept or-fault
+  making-steps g =
+      let good : r .found ≡ Good = good-is (r .found) g in
+      let now : channel-of (r .terminals) ≡ channel-of t ++ (pair (getD xs (2 * j) 0) (getD xs (2 * j + 1) 0) ∷ []) = made .pairs ∙ rw good in
+      record {
+        below = omega arith;
+        stand = now ∙ rw (m .stand, pairs-in-more xs j);
+        rest = from-here ∙ rw (now, good);
+      }
+
+  pub making-refuses : (none : Terminals) → n ≤ 32 → channel-of none ≡ [] → is-good (r .found) ≡ false → Terminals-made xs n lo hi (record { found = r .found; terminals = none })
+  unfolding terminals-found
+  making-refuses none few e g = record {
+    found = sym (rw (pairs-in-length xs n, le-ltb 32 n few, from-here) (fault-stays (r .found) _ g));
+    pairs = e ∙ sym (fault-keeps (r .found) _ _ g);
+  }
+
+pub making-ends : (xs : List ℕ) (n lo hi : ℕ) (t : Terminals) (j : ℕ) → n ≤ 32 → n ≤ j → Making xs n lo hi t j → Terminals-made xs n lo hi (record { found = Good; terminals = t })
+unfolding terminals-found pairs-found kept
+making-ends xs n lo hi t j few past m =
+    let e : j ≡ n = omega (arith, m .below) in
+    let gone : drop j (pairs-in xs n) ≡ [] = drop-of-length-le (pairs-in xs n) {i = j} (omega (arith, pairs-in-length xs n)) in
+    record {
+      found = sym (rw (pairs-in-length xs n, le-ltb 32 n few, m .rest, gone));
+      pairs = m .stand ∙ rw e;
+    }
+
+pub making-crowded : (xs : List ℕ) (n lo hi : ℕ) (none : Terminals) → 32 < n → channel-of none ≡ [] → Terminals-made xs n lo hi (record { found = Crowd; terminals = none })
+unfolding terminals-found kept
+making-crowded xs n lo hi none h e = record { found = rw (pairs-in-length xs n, lt-ltb 32 n h); pairs = e }

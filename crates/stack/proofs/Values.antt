@@ -1,0 +1,85 @@
+-- Which list value a struct stands for: its lengths and elements, and how a store changes it. Assumes nothing.
+use mathlib.Core.Path.{_≡_, refl, ap, ap₂, sym, _∙_}
+use mathlib.Core.List.{List, [], _∷_, _++_}
+use mathlib.Core.Logic.{_≢_}
+use Prim.Native.Nat.{ℕ, zero, suc, _+_, _-_, _≤_, _<_}
+use native.Mathlib.Nat.{zero-add}
+use native.Mathlib.Numerals.{add-one}
+use native.Mathlib.Omega.{arith}
+use lib.ListN.{length, getD, set, replicate, getD-replicate}
+use lib.Seq.{getD-set-same, getD-set-other}
+use Rattle.numbers.specs.Lists.{tabulate}
+use Rattle.numbers.proofs.Lists.{length-tabulate, getD-tabulate, tabulate-same, tabulate-snoc, tabulate-set, tabulate-constant}
+use Rattle.stack.specs.Stack.{Pair, pair, p-at, q-at, Stack, stack}
+use Rattle.stack.specs.Value.{columns, strip, no-terminals, pair-at, channel-of, length-at, channel-at, stack-of}
+use Rattle.stack.specs.Made.{bare}
+use Rattle.stack.specs.declared.Columns.{Columns}
+use Rattle.stack.specs.declared.Strip.{Strip}
+use Rattle.stack.specs.declared.Terminals.{Terminals}
+use Rattle.stack.specs.declared.Stack.{Stack as Stack-struct}
+
+pub channel-length : (t : Terminals) → length (channel-of t) ≡ t .count
+unfolding channel-of
+channel-length t = length-tabulate (t .count) 0 (λ j. pair-at t j)
+
+pub channel-p-at : (t : Terminals) (j : ℕ) → j < t .count → p-at (channel-of t) j ≡ getD (t .lower) j (columns 0) .0
+unfolding channel-of p-at pair
+channel-p-at t j h = ap (λ (x : Pair). x .p) (getD-tabulate (t .count) j (λ j. pair-at t j) (pair 0 0) h)
+
+pub channel-q-at : (t : Terminals) (j : ℕ) → j < t .count → q-at (channel-of t) j ≡ getD (t .upper) j (columns 0) .0
+unfolding channel-of q-at pair
+channel-q-at t j h = ap (λ (x : Pair). x .q) (getD-tabulate (t .count) j (λ j. pair-at t j) (pair 0 0) h)
+
+-- one pair more behind the last
+pub channel-longer : (t : Terminals) (p q : ℕ) → t .count < length (t .lower) → t .count < length (t .upper) →
+    channel-of (record { lower = set (t .lower) (t .count) (columns p); upper = set (t .upper) (t .count) (columns q); count = t .count + 1 })
+    ≡ channel-of t ++ (pair p q ∷ [])
+unfolding channel-of
+channel-longer t p q hl hu =
+    let n = t .count in
+    let l = set (t .lower) n (columns p) in
+    let u = set (t .upper) n (columns q) in
+    let f : ℕ → Pair = λ j. pair (getD l j (columns 0) .0) (getD u j (columns 0) .0) in
+    let same : tabulate n 0 f ≡ tabulate n 0 (λ j. pair-at t j) = tabulate-same n 0 f (λ j. pair-at t j) (λ j a b. agrees j (omega (arith, zero-add n))) in
+    let last : f n ≡ pair p q = rw (getD-set-same (t .lower) n (columns p) (columns 0) hl, getD-set-same (t .upper) n (columns q) (columns 0) hu) in
+    rw (add-one n, tabulate-snoc n 0 f, zero-add n, same, last)
+  where
+    agrees : (j : ℕ) → j < t .count →
+        pair (getD (set (t .lower) (t .count) (columns p)) j (columns 0) .0) (getD (set (t .upper) (t .count) (columns q)) j (columns 0) .0) ≡ pair-at t j
+    agrees j h =
+        rw (getD-set-other (t .lower) (t .count) j (columns p) (columns 0) (omega arith), getD-set-other (t .upper) (t .count) j (columns q) (columns 0) (omega arith))
+
+-- another strip at a place
+pub strip-stored : (k : Stack-struct) (i : ℕ) (s : Strip) → i < length (k .strips) →
+    stack-of (record { count = k .count; strips = set (k .strips) i s; channels = k .channels })
+    ≡ stack (set (stack-of k .strips) i (s .length .0)) (stack-of k .channels)
+unfolding stack-of stack
+strip-stored k i s h =
+    ap (λ (ls : List ℕ). stack ls (tabulate (k .count) 0 (λ i. channel-at k i)))
+    (tabulate-set (suc (k .count)) i (λ j. length-at k j) (λ j. getD (set (k .strips) i s) j (strip 0) .length .0) (s .length .0)
+    (ap (λ (x : Strip). x .length .0) (getD-set-same (k .strips) i s (strip 0) h))
+    (λ j d. ap (λ (x : Strip). x .length .0) (getD-set-other (k .strips) i j s (strip 0) d)))
+
+-- other terminals in a channel
+pub channel-stored : (k : Stack-struct) (i : ℕ) (t : Terminals) → i < length (k .channels) →
+    stack-of (record { count = k .count; strips = k .strips; channels = set (k .channels) i t })
+    ≡ stack (stack-of k .strips) (set (stack-of k .channels) i (channel-of t))
+unfolding stack-of stack
+channel-stored k i t h =
+    ap (λ (cs : List (List Pair)). stack (tabulate (suc (k .count)) 0 (λ i. length-at k i)) cs)
+    (tabulate-set (k .count) i (λ j. channel-at k j) (λ j. channel-of (getD (set (k .channels) i t) j no-terminals)) (channel-of t)
+    (ap (λ (x : Terminals). channel-of x) (getD-set-same (k .channels) i t no-terminals h))
+    (λ j d. ap (λ (x : Terminals). channel-of x) (getD-set-other (k .channels) i j t no-terminals d)))
+
+-- the shortest strips and channels without pairs
+pub bare-stack : (k : ℕ) (t : Terminals) → k ≤ 8 → channel-of t ≡ [] →
+    stack-of (record { count = k; strips = replicate 9 (strip 1); channels = replicate 8 t }) ≡ bare k
+unfolding stack-of bare
+bare-stack k t h e =
+    ap₂ stack
+    (tabulate-same (suc k) 0 (λ i. getD (replicate 9 (strip 1)) i (strip 0) .length .0) (λ i. 1)
+    (λ j a b. ap (λ (x : Strip). x .length .0) (getD-replicate 9 j (strip 1) (strip 0) (omega (arith, zero-add (suc k)))))
+    ∙ tabulate-constant (suc k) 0 1)
+    (tabulate-same k 0 (λ i. channel-of (getD (replicate 8 t) i no-terminals)) (λ i. [])
+    (λ j a b. ap (λ (x : Terminals). channel-of x) (getD-replicate 8 j t no-terminals (omega (arith, zero-add k))) ∙ e)
+    ∙ tabulate-constant k 0 [])
