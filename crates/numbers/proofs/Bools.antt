@@ -30,3 +30,7 @@ or-left false b h = let z : _≡_ {A = ℕ} 0 1 = cc in absurd (omega arith)
 pub or-right : (a b : Bool) → b ≡ true → (a || b) ≡ true
 or-right true b h = refl
 or-right false b h = h
+
+pub not-true-false : (a : Bool) → (a ≡ true → ⊥) → a ≡ false
+not-true-false true h = absurd (h refl)
+not-true-false false h = refl

@@ -1,12 +1,15 @@
--- Laws of tabulate: its length, its elements, one element more, agreement, and one element changed. Assumes nothing.
-use mathlib.Core.Path.{_≡_, refl, ap}
-use mathlib.Core.List.{List, [], _∷_, _++_}
+-- Laws of tabulate: its length, its elements, one element more, agreement, and one element changed; of filled: its start, a step, its end.
+-- Assumes nothing.
+use mathlib.Core.Path.{_≡_, refl, ap, sym, _∙_}
+use mathlib.Core.List.{List, [], _∷_, _++_, append-assoc}
 use mathlib.Core.Logic.{_≢_}
-use Prim.Native.Nat.{ℕ, zero, suc, _+_, _≤_, _<_}
-use native.Mathlib.Nat.{add-zero, zero-add, add-suc, suc-add}
+use Prim.Native.Nat.{ℕ, zero, suc, _+_, _-_, _≤_, _<_}
+use native.Mathlib.Nat.{add-zero, zero-add, add-suc, suc-add, sub-zero}
+use native.Mathlib.Numerals.{add-one}
 use native.Mathlib.Omega.{arith}
-use lib.ListN.{length, getD, set, take, drop, replicate}
-use Rattle.numbers.specs.Lists.{tabulate}
+use lib.ListN.{length, getD, set, replicate}
+use lib.Seq.{set-at}
+use Rattle.numbers.specs.Lists.{tabulate, filled}
 
 pub length-tabulate {ℓ} : {A : Type ℓ} (n i : ℕ) (f : ℕ → A) → length (tabulate n i f) ≡ n
 unfolding tabulate
@@ -54,3 +57,38 @@ tabulate-set-from (suc n) i (suc k) f g v e h =
 pub tabulate-set {ℓ} : {A : Type ℓ} (n k : ℕ) (f g : ℕ → A) (v : A) → g k ≡ v → ((j : ℕ) → j ≢ k → g j ≡ f j) →
     tabulate n 0 g ≡ set (tabulate n 0 f) k v
 tabulate-set n k f g v e h = tabulate-set-from n 0 k f g v (rw zero-add e) (rw zero-add h)
+
+pub tabulate-append {ℓ} : {A : Type ℓ} (n m i : ℕ) (f : ℕ → A) → tabulate (n + m) i f ≡ tabulate n i f ++ tabulate m (i + n) f
+unfolding tabulate
+tabulate-append zero m i f = rw (zero-add, add-zero)
+tabulate-append (suc n) m i f =
+    let e : suc n + m ≡ suc (n + m) = omega arith in
+    let k : i + suc n ≡ suc i + n = omega arith in
+    rw (e, k) (ap (λ r. f i ∷ r) (tabulate-append n m (suc i) f))
+
+pub filled-starts {ℓ} : {A : Type ℓ} (n : ℕ) (f : ℕ → A) (d : A) → filled n 0 f d ≡ replicate n d
+unfolding filled tabulate
+filled-starts n f d = rw sub-zero
+
+pub filled-steps {ℓ} : {A : Type ℓ} (n t : ℕ) (f : ℕ → A) (d : A) → t < n → set (filled n t f d) t (f t) ≡ filled n (t + 1) f d
+unfolding filled
+filled-steps n t f d h =
+    let e : n - t ≡ suc (n - (t + 1)) = omega arith in
+    rw (
+      e,
+      set-at (tabulate t 0 f) d (replicate (n - (t + 1)) d) (f t) t (length-tabulate t 0 f),
+      add-one t,
+      tabulate-snoc t 0 f,
+      zero-add t,
+      append-assoc (tabulate t 0 f) (f t ∷ []) (replicate (n - suc t) d),
+    )
+
+-- where the rule gives d from t on, the list is full
+pub filled-ends {ℓ} : {A : Type ℓ} (n t : ℕ) (f : ℕ → A) (d : A) → t ≤ n → ((s : ℕ) → t ≤ s → f s ≡ d) → filled n t f d ≡ tabulate n 0 f
+unfolding filled
+filled-ends n t f d h k =
+    let e : n ≡ t + (n - t) = omega arith in
+    sym (ap (λ m. tabulate m 0 f) e ∙ (tabulate-append t (n - t) 0 f ∙ ap (λ r. tabulate t 0 f ++ r) (rest ∙ tabulate-constant (n - t) (0 + t) d)))
+  where
+    rest : tabulate (n - t) (0 + t) f ≡ tabulate (n - t) (0 + t) (λ s. d)
+    rest = tabulate-same (n - t) (0 + t) f (λ s. d) (λ s l u. k s (omega (arith, zero-add t)))

@@ -1,0 +1,2 @@
+-- A channel's limits.
+pub mod Limits

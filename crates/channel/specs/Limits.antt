@@ -1,0 +1,87 @@
+-- A channel's limits L(t) and R(t) on the offset, raised by a bias b so that none is negative. Assumes nothing: these are definitions.
+-- The greatest of no numbers is 0 and the least of none is 2b, below and above every biased offset: a separation of m or more, and a channel
+-- without pairs, are no special cases.
+use mathlib.Core.Path.{_≡_}
+use mathlib.Core.Bool.{Bool, true, _&&_}
+use mathlib.Core.List.{List}
+use Prim.Native.Nat.{ℕ, zero, suc, _+_, _*_, _-_, _^_, _≤_, _<_, min, max}
+use lib.Dec.{leb}
+use lib.ListN.{length}
+use Rattle.numbers.specs.Lists.{tabulate, filled}
+use Rattle.stack.specs.Stack.{Pair, p-at, q-at}
+use Rattle.channel.specs.declared.Bounds.{Bounds}
+use Rattle.channel.specs.declared.Limits.{Limits}
+
+-- p(j - t) + t - q(j) with j = i + t
+unfoldable pub low-term : (b : ℕ) → List Pair → (t i : ℕ) → ℕ
+low-term b c t i = b + p-at c i + t - q-at c (i + t)
+
+-- p(i + t) - t - q(i)
+unfoldable pub high-term : (b : ℕ) → List Pair → (t i : ℕ) → ℕ
+high-term b c t i = b + p-at c (i + t) - (t + q-at c i)
+
+-- the greatest of the first n
+unfoldable pub greatest : (b : ℕ) → List Pair → (t n : ℕ) → ℕ
+greatest b c t zero = 0
+greatest b c t (suc n) = max (greatest b c t n) (low-term b c t n)
+
+-- the least of the first n
+unfoldable pub least : (b : ℕ) → List Pair → (t n : ℕ) → ℕ
+least b c t zero = 2 * b
+least b c t (suc n) = min (least b c t n) (high-term b c t n)
+
+-- L(t) + b and R(t) + b
+unfoldable pub low-limit : (b : ℕ) → List Pair → (t : ℕ) → ℕ
+low-limit b c t = greatest b c t (length c - t)
+
+unfoldable pub high-limit : (b : ℕ) → List Pair → (t : ℕ) → ℕ
+high-limit b c t = least b c t (length c - t)
+
+-- the offset y - x is between the limits
+pub record Between (b : ℕ) (c : List Pair) (t x y : ℕ) : Type 0 where
+  pub left : x + low-limit b c t ≤ y + b
+  pub right : y + b ≤ x + high-limit b c t
+
+-- what the code's bias is
+abbrev pub bias : ℕ
+bias = 8589934592
+
+-- a number of columns, and that it fits 32 bits
+pub record Wide (n r : ℕ) : Type 0 where
+  pub same : r ≡ n
+  pub fits : r < 2 ^ 32
+
+-- the limits at one separation
+pub record Bounds-at (c : List Pair) (t : ℕ) (r : Bounds) : Type 0 where
+  pub low : r .low ≡ low-limit bias c t
+  pub high : r .high ≡ high-limit bias c t
+
+-- while the limits at a separation are found: the first i terms are seen
+pub record Seeking (c : List Pair) (t i low high : ℕ) : Type 0 where
+  pub seen : i ≤ length c - t
+  pub greatest-seen : low ≡ greatest bias c t i
+  pub least-seen : high ≡ least bias c t i
+
+-- while the arrays are filled: the first t separations stand, the rest is open
+pub record Filling (c : List Pair) (t : ℕ) (low high : List ℕ) : Type 0 where
+  pub below : t ≤ length c
+  pub lows : low ≡ filled 33 t (λ s. low-limit bias c s) 0
+  pub highs : high ≡ filled 33 t (λ s. high-limit bias c s) (2 * bias)
+
+-- the limits for every separation from 0 to 32
+pub record Limits-of (c : List Pair) (r : Limits) : Type 0 where
+  pub low : r .low ≡ tabulate 33 0 (λ s. low-limit bias c s)
+  pub high : r .high ≡ tabulate 33 0 (λ s. high-limit bias c s)
+
+-- the tests of feasibility at one i = j - t: pair i joins p to q, pair i + t joins pt to qt
+unfoldable pub clear : (p q pt qt t lower upper : ℕ) → Bool
+clear p q pt qt t a b = leb (p + t + a) (b + qt) && leb (b + t + q) (pt + a)
+
+-- the test at i of a channel
+unfoldable pub clear-at : List Pair → (t lower upper i : ℕ) → Bool
+clear-at c t a b i = clear (p-at c i) (q-at c i) (p-at c (i + t)) (q-at c (i + t)) t a b
+
+-- while feasibility is tested: the first i pass
+pub record Trying (c : List Pair) (t lower upper i : ℕ) : Type 0 where
+  pub seen : i ≤ length c - t
+  pub passed : (j : ℕ) → j < i → clear-at c t lower upper j ≡ true
