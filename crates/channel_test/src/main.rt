@@ -1,0 +1,119 @@
+// Prints the limits and the feasibility of the channels in standard input, for comparison with what another program made of the same input.
+// Input: how many channels; for each its count of pairs, p(0), q(0), p(1), q(1) and so on, how many pairs of positions, and those.
+ghost use Prim.Native.Nat.{_≤_};
+use channel::Limits;
+use channel::channel_limits;
+use channel::is_feasible;
+use numbers::difference;
+use stack::Columns;
+use stack::Stack;
+use stack::Strip;
+use stack::StripMade;
+use stack::Terminals;
+use stack::TerminalsFound;
+use stack::TerminalsMade;
+use stack::Tracks;
+
+// A biased number, with its sign.
+fn print_biased(v: u64) {
+    if v < Stack::BIAS {
+        io::write_all(1, b"-");
+        print_number(difference(Stack::BIAS, v));
+    } else {
+        print_number(difference(v, Stack::BIAS));
+    }
+}
+
+fn print_limits(limits: Limits, pairs: usize) {
+    for t in 0..pairs {
+        if t < 33 {
+            io::write_all(1, b"\t");
+            print_biased(limits.low[t]);
+            io::write_all(1, b" to ");
+            print_biased(limits.high[t]);
+        }
+    }
+    io::write_all(1, b"\n");
+}
+
+// For each separation up to one more than the count of pairs, 1 if the channel is feasible with the strips at these positions.
+fn print_feasible(terminals: Terminals, lower: u32, upper: u32)
+    requires { ⌜ terminals .count ≤ 32 ⌝ }
+{
+    print_number(lower as u64);
+    io::write_all(1, b" ");
+    print_number(upper as u64);
+    io::write_all(1, b": ");
+    let mut t: u32 = 0;
+    let last = terminals.count as u32 + 1;
+    while t <= last {
+        if is_feasible(terminals, Tracks(t), Columns(lower), Columns(upper)) {
+            io::write_all(1, b"1");
+        } else {
+            io::write_all(1, b"0");
+        }
+        t += 1;
+    }
+    io::write_all(1, b"\n");
+}
+
+fn print_all_feasible(terminals: Terminals, text: &[u8], from: usize) -> usize
+    requires { ⌜ terminals .count ≤ 32 ⌝ }
+{
+    let queries = next_number(text, from);
+    let mut at = queries.at;
+    for _ in 0..queries.value {
+        let lower = next_number(text, at);
+        let upper = next_number(text, lower.at);
+        print_feasible(terminals, lower.value, upper.value);
+        at = upper.at;
+    }
+    at
+}
+
+fn read_values(text: &[u8], from: usize, count: usize, values: &mut [u32; 64]) -> usize {
+    let mut at = from;
+    for j in 0..count {
+        let number = next_number(text, at);
+        at = number.at;
+        if j < 64 {
+            values[j] = number.value;
+        }
+    }
+    at
+}
+
+fn longest() -> Strip {
+    match Strip::new(Strip::MAX_LENGTH) {
+        StripMade::Made(s) => s,
+        StripMade::Length => Strip { length: Columns(0) },
+    }
+}
+
+fn channel(text: &[u8], from: usize) -> usize {
+    let pairs = next_number(text, from);
+    let m = pairs.value as usize % 64;
+    let mut values = [0u32; 64];
+    let at = read_values(text, pairs.at, 2 * m, &mut values);
+    let made = Terminals::new(&values, m, longest(), longest());
+    let found = made.found;
+    if !found.is_good() {
+        io::write_all(1, b"refused\n");
+        return at;
+    }
+    let terminals = made.terminals;
+    io::write_all(1, b"pairs ");
+    print_number(m as u64);
+    print_limits(channel_limits(terminals), m);
+    print_all_feasible(terminals, text, at)
+}
+
+fn main() {
+    let mut text = io::large_buffer();
+    let n = io::read_full(0, &mut text);
+    let channels = next_number(&text[..n], 0);
+    let mut at = channels.at;
+    for _ in 0..channels.value {
+        at = channel(&text[..n], at);
+    }
+}
