@@ -1,0 +1,6 @@
+-- The routing theorem: a placement is drawable exactly if it is legal.
+pub mod Points
+pub mod Rising
+pub mod Feasible
+pub mod Crossing
+pub mod Necessity
