@@ -4,3 +4,9 @@ pub mod Rising
 pub mod Feasible
 pub mod Crossing
 pub mod Necessity
+pub mod Counts
+pub mod Staircase
+pub mod Tracks
+pub mod Listed
+pub mod Sufficiency
+pub mod Drawable

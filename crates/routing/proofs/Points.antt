@@ -36,7 +36,7 @@ pub same-point-self : (a : Point) → same-point a a ≡ true
 unfolding same-point
 same-point-self a = rw (same-column-self (a .column), eq-eqb (a .track) (a .track) refl)
 
-pub path-at : List (List Point) → (j : ℕ) → List Point
+unfoldable pub path-at : List (List Point) → (j : ℕ) → List Point
 path-at ws j = getD ws j []
 
 -- the path of pair j leads from its lower to its upper terminal
