@@ -10,3 +10,4 @@ pub mod Tracks
 pub mod Listed
 pub mod Sufficiency
 pub mod Drawable
+pub mod Runs

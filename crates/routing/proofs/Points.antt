@@ -36,6 +36,9 @@ pub same-point-self : (a : Point) → same-point a a ≡ true
 unfolding same-point
 same-point-self a = rw (same-column-self (a .column), eq-eqb (a .track) (a .track) refl)
 
+pub pos-injective : (x : ℤ) (m n : ℕ) → x ≡ pos m → x ≡ pos n → m ≡ n
+pos-injective x m n d e = cc
+
 unfoldable pub path-at : List (List Point) → (j : ℕ) → List Point
 path-at ws j = getD ws j []
 

@@ -8,13 +8,14 @@ use mathlib.Core.Logic.{inl, inr}
 use Prim.Native.Nat.{ℕ, suc, _+_, _-_, _≤_, _<_}
 use lib.Dec.{leb}
 use lib.ListN.{length}
-use lib.IntN.{ℤ, pos}
+use lib.IntN.{pos}
 use native.Mathlib.Omega.{arith}
 use borrow.Author.Tests.{leb-true, leb-false}
 use Rattle.stack.specs.Stack.{Pair, p-at, q-at, feasible}
 use Rattle.stack.specs.Limits.{rising}
 use Rattle.routing.specs.Paths.{Point, point, is-path, on-path, none-meet, all-paths, Channel-drawn}
 use Rattle.routing.specs.Wiring.{right-track, left-track, path-between, path, wiring}
+use Rattle.routing.proofs.Points.{pos-injective}
 use Rattle.routing.proofs.Rising.{rising-before}
 use Rattle.routing.proofs.Feasible.{Fits, feasible-fits}
 use Rattle.routing.proofs.Staircase.{Beside, Course, On, staircase-path, on-staircase}
@@ -34,22 +35,19 @@ pub data On-path (c : List Pair) (t a j p q : ℕ) (z : Point) : Type 0 where
 
 -- the path of pair j goes right or left
 pub data Goes (c : List Pair) (t a b j : ℕ) : Type 0 where
-  right : a + p-at c j ≤ b + q-at c j → path c t a b j ≡ path-between true c t a j (a + p-at c j) (b + q-at c j) → Goes c t a b j
-  left : b + q-at c j < a + p-at c j → path c t a b j ≡ path-between false c t a j (a + p-at c j) (b + q-at c j) → Goes c t a b j
+  rightward : a + p-at c j ≤ b + q-at c j → path c t a b j ≡ path-between true c t a j (a + p-at c j) (b + q-at c j) → Goes c t a b j
+  leftward : b + q-at c j < a + p-at c j → path c t a b j ≡ path-between false c t a j (a + p-at c j) (b + q-at c j) → Goes c t a b j
 
 pub goes : (c : List Pair) (t a b j : ℕ) → Goes c t a b j
 unfolding path
 goes c t a b j = go (leb (a + p-at c j) (b + q-at c j)) refl
   where
     go : (v : Bool) → leb (a + p-at c j) (b + q-at c j) ≡ v → Goes c t a b j
-    go true e = right (leb-true (a + p-at c j) (b + q-at c j) e) (rw e)
-    go false e = left (leb-false (a + p-at c j) (b + q-at c j) e) (rw e)
-
-pos-injective : (x : ℤ) (m n : ℕ) → x ≡ pos m → x ≡ pos n → m ≡ n
-pos-injective x m n d e = cc
+    go true e = rightward (leb-true (a + p-at c j) (b + q-at c j) e) (rw e)
+    go false e = leftward (leb-false (a + p-at c j) (b + q-at c j) e) (rw e)
 
 module _ (c : List Pair) (t a b : ℕ) (r : rising c ≡ true) (f : Fits c t a b) where
-  right-course : (j p q : ℕ) → j < length c → a + p-at c j ≡ p → b + q-at c j ≡ q → Course (λ k. p + k) (λ k. right-track c a j (p + k)) t (q - p)
+  pub right-course : (j p q : ℕ) → j < length c → a + p-at c j ≡ p → b + q-at c j ≡ q → Course (λ k. p + k) (λ k. right-track c a j (p + k)) t (q - p)
   unfolding Beside
   right-course j p q l d e =
       record {
@@ -58,7 +56,7 @@ module _ (c : List Pair) (t a b : ℕ) (r : rising c ≡ true) (f : Fits c t a b
         below = λ k h. right-below c a r t b f j (p + k) l (omega arith) (omega arith);
       }
 
-  left-course : (j p q : ℕ) → j < length c → a + p-at c j ≡ p → b + q-at c j ≡ q → Course (λ k. p - k) (λ k. left-track c a j (p - k)) t (p - q)
+  pub left-course : (j p q : ℕ) → j < length c → a + p-at c j ≡ p → b + q-at c j ≡ q → Course (λ k. p - k) (λ k. left-track c a j (p - k)) t (p - q)
   unfolding Beside
   left-course j p q l d e =
       record {
@@ -70,11 +68,11 @@ module _ (c : List Pair) (t a b : ℕ) (r : rising c ≡ true) (f : Fits c t a b
   path-led : (j : ℕ) → j < length c → Goes c t a b j
       → is-path t (point (pos (a + p-at c j)) 0) (point (pos (b + q-at c j)) t) (path c t a b j) ≡ true
   unfolding path-between
-  path-led j l (right u e) =
+  path-led j l (rightward u e) =
       let p = a + p-at c j in
       let q = b + q-at c j in
       rw e (staircase-path (λ k. p + k) (λ k. right-track c a j (p + k)) t (q - p) (right-course j p q l refl refl) p q (omega arith) (omega arith))
-  path-led j l (left u e) =
+  path-led j l (leftward u e) =
       let p = a + p-at c j in
       let q = b + q-at c j in
       rw e (staircase-path (λ k. p - k) (λ k. left-track c a j (p - k)) t (p - q) (left-course j p q l refl refl) p q (omega arith) (omega arith))
@@ -82,11 +80,11 @@ module _ (c : List Pair) (t a b : ℕ) (r : rising c ≡ true) (f : Fits c t a b
   pub path-points : (j : ℕ) (z : Point) → j < length c → Goes c t a b j → on-path z (path c t a b j) ≡ true
       → On-path c t a j (a + p-at c j) (b + q-at c j) z
   unfolding path-between On-right On-left
-  path-points j z l (right u e) o =
+  path-points j z l (rightward u e) o =
       let p = a + p-at c j in
       let q = b + q-at c j in
       right u (on-staircase (λ k. p + k) (λ k. right-track c a j (p + k)) t (q - p) (right-course j p q l refl refl) z (rw e at o))
-  path-points j z l (left u e) o =
+  path-points j z l (leftward u e) o =
       let p = a + p-at c j in
       let q = b + q-at c j in
       left u (on-staircase (λ k. p - k) (λ k. left-track c a j (p - k)) t (p - q) (left-course j p q l refl refl) z (rw e at o))

@@ -1,14 +1,14 @@
 -- The paths of a channel: document 02's P1 path rule. A path going right runs between columns x and x + 1 on the track numbered by how many n ≥ 1 have
 -- (column of the terminal n pairs further on the lower edge) - n ≤ x; left is the mirror image. Upright pieces join the runs, and the last reaches track t.
 -- Assumes nothing: these are definitions.
-use mathlib.Core.Bool.{Bool, true, false, cond}
+use mathlib.Core.Bool.{Bool, true, false, _&&_, _||_, cond}
 use mathlib.Core.List.{List, [], _∷_}
 use Prim.Native.Nat.{ℕ, zero, suc, _+_, _-_}
 use lib.Dec.{leb}
 use lib.ListN.{length}
 use lib.IntN.{pos}
 use Rattle.stack.specs.Stack.{Pair, p-at, q-at}
-use Rattle.routing.specs.Paths.{Point, point}
+use Rattle.routing.specs.Paths.{Point, point, same-point}
 
 -- how many of the numbers from 1 to m pass a test
 unfoldable pub count : (ℕ → Bool) → (m : ℕ) → ℕ
@@ -63,3 +63,12 @@ listed f (suc n) = f 0 ∷ listed (λ i. f (suc i)) n
 -- the WIRING: one path for each pair
 unfoldable pub wiring : List Pair → (t lower upper : ℕ) → List (List Point)
 wiring c t a b = listed (λ j. path c t a b j) (length c)
+
+-- a path LEADS from one point directly to another
+unfoldable pub begins : Point → List Point → Bool
+begins v [] = false
+begins v (b ∷ ws) = same-point v b
+
+unfoldable pub leads : (from to : Point) → List Point → Bool
+leads u v [] = false
+leads u v (a ∷ ws) = (same-point u a && begins v ws) || leads u v ws
