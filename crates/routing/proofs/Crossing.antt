@@ -1,10 +1,10 @@
 -- A path that starts on one side of a cut and ends on the other has a point on the cut: a discrete intermediate value. A CUT stands at one column on each
--- track and moves by at most one column from a track to the next, and not at all below track t. A unit step changes the distance to the cut by at most
--- one, so the path cannot jump over it; and it meets the cut below track t, since track t is entered upright. Assumes nothing.
+-- track and moves by at most one column from a track to the next, and not at all from track t - 1 to track t. A unit step changes the distance to the cut
+-- by at most one, so the path cannot jump over it; and it meets the cut below track t, since track t is entered upright. Assumes nothing.
 use mathlib.Core.Path.{_≡_, sym, ap}
 use mathlib.Core.Bool.{Bool, true, _&&_, _||_}
 use mathlib.Core.List.{List, [], _∷_}
-use mathlib.Core.Logic.{_⊎_, inl, inr}
+use mathlib.Core.Logic.{⊎-elim}
 use Prim.Native.Nat.{ℕ, zero, suc, _+_, _≤_, _<_}
 use lib.Dec.{ltb, leb, eqb}
 use lib.IntN.{ℤ, pos, negsuc}
@@ -15,7 +15,7 @@ use Rattle.numbers.proofs.Bools.{ands, and-left, and-right, or-either, or-right
 use Rattle.routing.specs.Paths.{Point, point, next, same-column, same-point, is-step, chain, is-path, on-path}
 use Rattle.routing.proofs.Points.{same-column-equal, same-point-equal, same-point-self}
 
--- a column clamped to the natural numbers: those left of column 0 count as one
+-- a column as a natural number: column 0 is 1, and all columns left of it are 0. A unit step changes it by at most one
 far : ℤ → ℕ
 far (pos n) = suc n
 far (negsuc n) = 0
@@ -32,26 +32,16 @@ next-far (negsuc zero) y e = rw (← same-column-equal (pos 0) y e) (omega arith
 next-far (negsuc (suc n)) y e = rw (← same-column-equal (negsuc n) y e) (omega arith)
 
 -- the test of a step passes in one of four ways
-data Way (w c u d f r l : Bool) : Type 0 where
-  rises : w ≡ true → c ≡ true → u ≡ true → Way w c u d f r l
-  falls : w ≡ true → c ≡ true → d ≡ true → Way w c u d f r l
-  right : f ≡ true → r ≡ true → Way w c u d f r l
-  left : f ≡ true → l ≡ true → Way w c u d f r l
-
-way : (w c u d f r l : Bool) → (w && ((c && (u || d)) || (f && (r || l)))) ≡ true → Way w c u d f r l
-way w c u d f r l e = either (or-either (c && (u || d)) (f && (r || l)) (and-right w ((c && (u || d)) || (f && (r || l))) e))
+by-way : {A : Type 0} (w c u d f r l : Bool) → (w && ((c && (u || d)) || (f && (r || l)))) ≡ true → (w ≡ true → c ≡ true → u ≡ true → A)
+    → (w ≡ true → c ≡ true → d ≡ true → A) → (f ≡ true → r ≡ true → A) → (f ≡ true → l ≡ true → A) → A
+by-way {A} w c u d f r l e rises falls right left =
+    ⊎-elim upright along (or-either (c && (u || d)) (f && (r || l)) (and-right w ((c && (u || d)) || (f && (r || l))) e))
   where
-    upright : c ≡ true → (u ≡ true) ⊎ (d ≡ true) → Way w c u d f r l
-    upright k (inl h) = rises (search ands) k h
-    upright k (inr h) = falls (search ands) k h
+    upright : (c && (u || d)) ≡ true → A
+    upright h = ⊎-elim (rises (search ands) (search ands)) (falls (search ands) (search ands)) (or-either u d (and-right c (u || d) h))
 
-    along : f ≡ true → (r ≡ true) ⊎ (l ≡ true) → Way w c u d f r l
-    along k (inl h) = right k h
-    along k (inr h) = left k h
-
-    either : ((c && (u || d)) ≡ true) ⊎ ((f && (r || l)) ≡ true) → Way w c u d f r l
-    either (inl h) = upright (and-left c (u || d) h) (or-either u d (and-right c (u || d) h))
-    either (inr h) = along (and-left f (r || l) h) (or-either r l (and-right f (r || l) h))
+    along : (f && (r || l)) ≡ true → A
+    along h = ⊎-elim (right (search ands)) (left (search ands)) (or-either r l (and-right f (r || l) h))
 
 -- a CUT: its column on each track
 pub record Cut (t : ℕ) (c : ℕ → ℕ) : Type 0 where
@@ -97,21 +87,11 @@ module _ (t : ℕ) (c : ℕ → ℕ) (k : Cut t c) (a b : Point) where
   step-slow : is-step t a b ≡ true → Slow t column-of (cut-at c) a b
   unfolding is-step
   step-slow s =
-      kind (way (leb (a .track) t && leb (b .track) t) (same-column (a .column) (b .column)) (eqb (suc (a .track)) (b .track))
-      (eqb (suc (b .track)) (a .track)) (eqb (a .track) (b .track) && ltb (a .track) t)
-      (same-column (next (a .column)) (b .column)) (same-column (next (b .column)) (a .column)) s)
-    where
-      kind : Way (leb (a .track) t && leb (b .track) t) (same-column (a .column) (b .column)) (eqb (suc (a .track)) (b .track))
-          (eqb (suc (b .track)) (a .track)) (eqb (a .track) (b .track) && ltb (a .track) t)
-          (same-column (next (a .column)) (b .column)) (same-column (next (b .column)) (a .column)) → Slow t column-of (cut-at c) a b
-      kind (rises w e u) = up-slow (search same-column-equal) (search eqb-true) (search (ands, leb-true))
-      kind (falls w e d) = down-slow (search same-column-equal) (search eqb-true) (search (ands, leb-true))
-      kind (right f r) =
-          let e = next-far (a .column) (b .column) r in
-          along-slow (search (ands, eqb-true)) (search (ands, ltb-true)) (e .0) (e .1)
-      kind (left f l) =
-          let e = next-far (b .column) (a .column) l in
-          along-slow (search (ands, eqb-true)) (search (ands, ltb-true)) (e .1) (e .0)
+      by-way (leb (a .track) t && leb (b .track) t) (same-column (a .column) (b .column)) (eqb (suc (a .track)) (b .track)) _ (eqb (a .track) (b .track) && _) _ _ s
+      (λ w e u. up-slow (search same-column-equal) (search eqb-true) (search (ands, leb-true)))
+      (λ w e d. down-slow (search same-column-equal) (search eqb-true) (search (ands, leb-true)))
+      (λ f r. let e = next-far (a .column) (b .column) r in along-slow (search (ands, eqb-true)) (search (ands, ltb-true)) (e .0) (e .1))
+      (λ f l. let e = next-far (b .column) (a .column) l in along-slow (search (ands, eqb-true)) (search (ands, ltb-true)) (e .1) (e .0))
 
 -- a point of the path at which f and g agree, below track t
 record Met (t : ℕ) (f g : Point → ℕ) (ws : List Point) : Type 0 where
@@ -138,7 +118,7 @@ slow-below t f g a b s l e = go (decLt (b .track) t)
 slow-swap : (t : ℕ) (f g : Point → ℕ) (a b : Point) → Slow t f g a b → Slow t g f a b
 slow-swap t f g a b s = record { within = s .within; nearer = omega arith; further = omega arith; top = λ e. (s .top e .1, s .top e .0) }
 
--- a chain that begins where g is at most f and ends where f is at most g
+-- a chain that begins where g is at most f and ends where f is at most g: at each point f is still greater, or the two agree below track t
 meets : (t : ℕ) (f g : Point → ℕ) → ((a b : Point) → is-step t a b ≡ true → Slow t f g a b)
     → (goal : Point) → f goal ≤ g goal → (a : Point) (bs : List Point) → chain t goal a bs ≡ true → g a ≤ f a → (f a ≡ g a → a .track < t)
     → Met t f g (a ∷ bs)
@@ -154,7 +134,7 @@ meets t f g steps goal e a (b ∷ bs) h l z = go (ℕ-discrete (f a) (g a)) (λ 
     go (yes d) m = met-first t f g a (b ∷ bs) d (z d)
     go (no d) m = let s = steps a b (search ands) in m (omega arith) (slow-below t f g a b s (omega arith))
 
--- a path from column x to column w of which the cut is passed on the way has a point on the cut
+-- a path has a point on the cut below track t
 pub record Crosses (t : ℕ) (c : ℕ → ℕ) (ws : List Point) : Type 0 where
   pub track : ℕ
   pub below : track < t
@@ -177,12 +157,14 @@ crosses t c f g steps levels start goal (b ∷ bs) h l z e =
     let m = meets t f g steps goal e b bs (search ands) (rw q at l) (rw q at z) in
     on-cut t c (b ∷ bs) (m .at) (m .on) (levels (m .at) (m .level)) (m .below)
 
+-- a path from column x to column w, where the cut is not right of x on track 0 and not left of w on track t
 pub crosses-left : (t : ℕ) (c : ℕ → ℕ) → Cut t c → (x w : ℕ) (ws : List Point) → is-path t (point (pos x) 0) (point (pos w) t) ws ≡ true
     → c 0 ≤ x → (x ≡ c 0 → 0 < t) → w ≤ c t → Crosses t c ws
 unfolding column-of cut-at far point
 crosses-left t c k x w ws h l z e =
     crosses t c column-of (cut-at c) (step-slow t c k) (λ z d. d) (point (pos x) 0) (point (pos w) t) ws h (omega arith) (λ d. z (omega arith)) (omega arith)
 
+-- and where it is not left of x and not right of w
 pub crosses-right : (t : ℕ) (c : ℕ → ℕ) → Cut t c → (x w : ℕ) (ws : List Point) → is-path t (point (pos x) 0) (point (pos w) t) ws ≡ true
     → x ≤ c 0 → (x ≡ c 0 → 0 < t) → c t ≤ w → Crosses t c ws
 unfolding column-of cut-at far point
