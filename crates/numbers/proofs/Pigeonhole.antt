@@ -27,6 +27,13 @@ without-place R n o i y g h e r = go (decLt y o)
         let s : y ≡ suc (y - 1) = omega arith in
         (y - 1, omega arith, above (omega arith) (subst (λ (z : ℕ). R i z) s r))
 
+-- with the last thing's place struck out the others still have places
+without-placed : (n o : ℕ) (R : ℕ → ℕ → Type 0) → Placed (suc n) R → Alone (suc n) R → o ≤ n → R (suc n) o → Placed n (Without R o)
+unfolding Placed Alone
+without-placed n o R p f l r i h =
+    let (y, k, s) = p i (omega arith) in
+    without-place R n o i y l (omega arith) (λ e. f i (suc n) o (omega arith) (omega arith) (rw e at s) r) s
+
 without-alone : (n o : ℕ) (R : ℕ → ℕ → Type 0) → Alone (suc n) R → Alone n (Without R o)
 unfolding Alone
 without-alone n o R f i j y l h (below x r) (below z s) = f i j y l (omega arith) r s
@@ -35,9 +42,8 @@ without-alone n o R f i j y l h (above x r) (below z s) = omega arith
 without-alone n o R f i j y l h (above x r) (above z s) = f i j (suc y) l (omega arith) r s
 
 pub pigeonhole : (n : ℕ) (R : ℕ → ℕ → Type 0) → Placed n R → Alone n R → ⊥
-unfolding Placed Alone
+unfolding Placed
 pigeonhole zero R p f = let h = p 0 (omega arith) in omega arith
 pigeonhole (suc n) R p f =
     let (o, l, r) = p (suc n) (omega arith) in
-    pigeonhole n (Without R o) (λ i h. let (y, k, s) = p i (omega arith) in without-place R n o i y (omega arith) (omega arith) (λ e. f i (suc n) o (omega arith) (omega arith) (rw e at s) r) s)
-    (without-alone n o R f)
+    pigeonhole n (Without R o) (without-placed n o R p f (omega arith) r) (without-alone n o R f)

@@ -1,4 +1,5 @@
--- Of a test that fails at every number past one that fails, the count of the numbers from 1 to m that pass is the greatest that passes. Assumes nothing.
+-- The greatest number up to m that passes a test. If a number passes wherever the next one does, it is the count of those from 1 to m that pass.
+-- Assumes nothing.
 use mathlib.Core.Path.{_≡_, refl}
 use mathlib.Core.Bool.{Bool, true, false, cond}
 use Prim.Native.Nat.{ℕ, zero, suc, _+_, _≤_, _<_}
@@ -12,7 +13,7 @@ pub record Greatest (f : ℕ → Bool) (m n : ℕ) : Type 0 where
   pub passes : f n ≡ true
   pub most : (i : ℕ) → i ≤ m → f i ≡ true → i ≤ n
 
--- a number up to m passes if a later one does
+-- a number passes wherever the next one, up to m, does
 unfoldable pub Falls : (ℕ → Bool) → (m : ℕ) → Type 0
 Falls f m = (i : ℕ) → suc i ≤ m → f (suc i) ≡ true → f i ≡ true
 
@@ -39,18 +40,22 @@ count-greatest f (suc m) d z = go (f (suc m)) refl (count-greatest f m (λ i l. 
     go false e g =
         record { within = omega arith; passes = g .passes; most = λ i l h. g .most i (earlier f m i l e h) h }
 
--- a count is greater than another if a number that passes the other's test passes its own d numbers later
-pub count-beyond : (f g : ℕ → Bool) (m n d x y : ℕ) → Greatest f m x → Greatest g n y → 0 < d → m + d ≤ n
+-- there is but one
+pub greatest-alone : (f : ℕ → Bool) (m x y : ℕ) → Greatest f m x → Greatest f m y → x ≡ y
+greatest-alone f m x y s t = omega (arith, s .most y (t .within) (t .passes), t .most x (s .within) (s .passes))
+
+-- a greatest is greater than another if a number that passes the other's test passes its own d numbers later
+pub greatest-beyond : (f g : ℕ → Bool) (m n d x y : ℕ) → Greatest f m x → Greatest g n y → 0 < d → m + d ≤ n
     → ((i : ℕ) → i ≤ m → f i ≡ true → g (i + d) ≡ true) → x < y
-count-beyond f g m n d x y s t l h k = let z = t .most (x + d) (omega arith) (k x (s .within) (s .passes)) in omega arith
+greatest-beyond f g m n d x y s t l h k = let z = t .most (x + d) (omega arith) (k x (s .within) (s .passes)) in omega arith
 
--- and not smaller if every number that passes the other's test passes its own
-pub count-rises : (f g : ℕ → Bool) (m x y : ℕ) → Greatest f m x → Greatest g m y → ((i : ℕ) → i ≤ m → f i ≡ true → g i ≡ true) → x ≤ y
-count-rises f g m x y s t k = t .most x (s .within) (k x (s .within) (s .passes))
+-- not smaller if every number that passes the other's test passes its own
+pub greatest-rises : (f g : ℕ → Bool) (m x y : ℕ) → Greatest f m x → Greatest g m y → ((i : ℕ) → i ≤ m → f i ≡ true → g i ≡ true) → x ≤ y
+greatest-rises f g m x y s t k = t .most x (s .within) (k x (s .within) (s .passes))
 
--- and below t if no number from t on passes
-pub count-below : (f : ℕ → Bool) (m x t : ℕ) → Greatest f m x → ((i : ℕ) → t ≤ i → i ≤ m → f i ≡ true → ⊥) → x < t
-count-below f m x t s k = go (decLt x t)
+-- below t if no number from t on passes
+pub greatest-below : (f : ℕ → Bool) (m x t : ℕ) → Greatest f m x → ((i : ℕ) → t ≤ i → i ≤ m → f i ≡ true → ⊥) → x < t
+greatest-below f m x t s k = go (decLt x t)
   where
     go : Dec (x < t) → x < t
     go (yes d) = d

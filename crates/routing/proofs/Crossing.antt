@@ -6,12 +6,12 @@ use mathlib.Core.Bool.{Bool, true, _&&_, _||_}
 use mathlib.Core.List.{List, [], _∷_}
 use mathlib.Core.Logic.{⊎-elim}
 use Prim.Native.Nat.{ℕ, zero, suc, _+_, _≤_, _<_}
-use lib.Dec.{ltb, leb, eqb}
+use lib.Dec.{leb, eqb}
 use lib.IntN.{ℤ, pos, negsuc}
 use native.Mathlib.Decide.{ℕ-discrete, decLt}
 use native.Mathlib.Omega.{arith}
 use borrow.Author.Tests.{ltb-true, leb-true, eqb-true}
-use Rattle.numbers.proofs.Bools.{ands, and-left, and-right, or-either, or-right}
+use Rattle.numbers.proofs.Bools.{ands, and-right, or-either, or-right}
 use Rattle.routing.specs.Paths.{Point, point, next, same-column, same-point, is-step, chain, is-path, on-path}
 use Rattle.routing.proofs.Points.{same-column-equal, same-point-equal, same-point-self}
 
@@ -87,7 +87,8 @@ module _ (t : ℕ) (c : ℕ → ℕ) (k : Cut t c) (a b : Point) where
   step-slow : is-step t a b ≡ true → Slow t column-of (cut-at c) a b
   unfolding is-step
   step-slow s =
-      by-way (leb (a .track) t && leb (b .track) t) (same-column (a .column) (b .column)) (eqb (suc (a .track)) (b .track)) _ (eqb (a .track) (b .track) && _) _ _ s
+      by-way (leb (a .track) t && leb (b .track) t) (same-column (a .column) (b .column)) (eqb (suc (a .track)) (b .track)) _
+      (eqb (a .track) (b .track) && _) _ _ s
       (λ w e u. up-slow (search same-column-equal) (search eqb-true) (search (ands, leb-true)))
       (λ w e d. down-slow (search same-column-equal) (search eqb-true) (search (ands, leb-true)))
       (λ f r. let e = next-far (a .column) (b .column) r in along-slow (search (ands, eqb-true)) (search (ands, ltb-true)) (e .0) (e .1))
@@ -128,7 +129,8 @@ meets t f g steps goal e a [] h l z = go (ℕ-discrete (f a) (g a))
     go : Dec (f a ≡ g a) → Met t f g (a ∷ [])
     go (yes d) = met-first t f g a [] d (z d)
     go (no d) = let q : a ≡ goal = search (ands, same-point-equal) in absurd (omega (arith, ap f q, ap g q))
-meets t f g steps goal e a (b ∷ bs) h l z = go (ℕ-discrete (f a) (g a)) (λ x y. met-later t f g a (b ∷ bs) (meets t f g steps goal e b bs (search ands) x y))
+meets t f g steps goal e a (b ∷ bs) h l z =
+    go (ℕ-discrete (f a) (g a)) (λ x y. met-later t f g a (b ∷ bs) (meets t f g steps goal e b bs (search ands) x y))
   where
     go : Dec (f a ≡ g a) → (g b ≤ f b → (f b ≡ g b → b .track < t) → Met t f g (a ∷ b ∷ bs)) → Met t f g (a ∷ b ∷ bs)
     go (yes d) m = met-first t f g a (b ∷ bs) d (z d)

@@ -19,7 +19,8 @@ pub record Fits (c : List Pair) (t a b : ℕ) : Type 0 where
 every-intro : (n j : ℕ) (f : ℕ → Bool) → ((i : ℕ) → j ≤ i → i < j + n → f i ≡ true) → every n j f ≡ true
 unfolding every
 every-intro zero j f h = refl
-every-intro (suc n) j f h = and-both (f j) (every n (suc j) f) (h j (omega arith) (omega arith)) (every-intro n (suc j) f (λ i l u. h i (omega arith) (omega arith)))
+every-intro (suc n) j f h =
+    and-both (f j) (every n (suc j) f) (h j (omega arith) (omega arith)) (every-intro n (suc j) f (λ i l u. h i (omega arith) (omega arith)))
 
 every-elim : (n j : ℕ) (f : ℕ → Bool) → every n j f ≡ true → (i : ℕ) → j ≤ i → i < j + n → f i ≡ true
 unfolding every

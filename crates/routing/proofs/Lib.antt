@@ -9,5 +9,5 @@ pub mod Staircase
 pub mod Tracks
 pub mod Listed
 pub mod Sufficiency
-pub mod Drawable
 pub mod Runs
+pub mod Drawable

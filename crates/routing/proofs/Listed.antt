@@ -35,7 +35,9 @@ Disjoint xs ys = (z : Point) → on-path z xs ≡ true → on-path z ys ≡ true
 apart-intro : (xs ys : List Point) → Disjoint xs ys → apart xs ys ≡ true
 unfolding apart on-path Disjoint
 apart-intro [] ys h = refl
-apart-intro (x ∷ xs) ys h = and-both (not (on-path x ys)) (apart xs ys) (go (on-path x ys) refl) (apart-intro xs ys (λ z o. h z (or-right (same-point z x) (on-path z xs) o)))
+apart-intro (x ∷ xs) ys h =
+    and-both (not (on-path x ys)) (apart xs ys) (go (on-path x ys) refl)
+    (apart-intro xs ys (λ z o. h z (or-right (same-point z x) (on-path z xs) o)))
   where
     go : (v : Bool) → on-path x ys ≡ v → not v ≡ true
     go true e = absurd (h x (or-left (same-point x x) (on-path x xs) (same-point-self x)) e)

@@ -18,7 +18,7 @@ use Rattle.routing.proofs.Feasible.{Fits, fits-feasible}
 use Rattle.routing.proofs.Crossing.{Cut, Crosses, crosses-left, crosses-right}
 
 -- pair i's terminals are not before pair j's and not after pair k's
-record Between (c : List Pair) (j i k : ℕ) : Type 0 where
+record Pair-between (c : List Pair) (j i k : ℕ) : Type 0 where
   from-lower : p-at c j ≤ p-at c i
   upto-lower : p-at c i ≤ p-at c k
   from-upper : q-at c j ≤ q-at c i
@@ -34,7 +34,7 @@ module _ (c : List Pair) (t a b : ℕ) (r : rising c ≡ true) (d : Channel-draw
       (λ m n y l h o u. none-meet-elim (point (pos (k y)) y) (d .paths) (d .clear) (j + m) (j + n) (omega arith) o u)
 
   -- the paths from j to j + t: their terminals are between those of pair j and pair j + t
-  between : (j n i : ℕ) → j + t ≡ i → i < length c → n ≤ t → Between c j (j + n) i
+  between : (j n i : ℕ) → j + t ≡ i → i < length c → n ≤ t → Pair-between c j (j + n) i
   between j n i e h g =
       let u = rising-before c r j n (j + n) refl (omega arith) in
       let v = rising-before c r (j + n) (t - n) i (omega arith) h in
@@ -49,7 +49,8 @@ module _ (c : List Pair) (t a b : ℕ) (r : rising c ≡ true) (d : Channel-draw
   drawn-left j i e h l =
       crowded k j λ n g.
       let u = between j n i e h g in
-      crosses-left t k cut (a + p-at c (j + n)) (b + q-at c (j + n)) (path-at (d .paths) (j + n)) (led-at j n i e h g) (omega arith) (omega arith) (omega arith)
+      crosses-left t k cut (a + p-at c (j + n)) (b + q-at c (j + n)) (path-at (d .paths) (j + n)) (led-at j n i e h g)
+      (omega arith) (omega arith) (omega arith)
     where
       k : ℕ → ℕ
       k y = min (a + p-at c j + y) (b + q-at c i)
@@ -62,7 +63,8 @@ module _ (c : List Pair) (t a b : ℕ) (r : rising c ≡ true) (d : Channel-draw
   drawn-right j i e h l =
       crowded k j λ n g.
       let u = between j n i e h g in
-      crosses-right t k cut (a + p-at c (j + n)) (b + q-at c (j + n)) (path-at (d .paths) (j + n)) (led-at j n i e h g) (omega arith) (omega arith) (omega arith)
+      crosses-right t k cut (a + p-at c (j + n)) (b + q-at c (j + n)) (path-at (d .paths) (j + n)) (led-at j n i e h g)
+      (omega arith) (omega arith) (omega arith)
     where
       k : ℕ → ℕ
       k y = max (a + p-at c i - y) (b + q-at c j)

@@ -1,7 +1,7 @@
 -- Where the paths of the wiring run: each stays between its own terminals' columns; going right it leads from column x to x + 1 on the track that document
 -- 02 counts and on no other, and going left likewise from x + 1 to x. Assumes nothing.
 use mathlib.Core.Path.{_≡_, refl, ap}
-use mathlib.Core.Bool.{Bool, true, _&&_}
+use mathlib.Core.Bool.{true, _&&_}
 use mathlib.Core.List.{List, [], _∷_}
 use mathlib.Core.Logic.{⊎-elim, _↔_}
 use Prim.Native.Nat.{ℕ, zero, suc, _+_, _-_, _≤_, _<_, min, max}
@@ -13,13 +13,14 @@ use Rattle.numbers.proofs.Bools.{and-left, and-right, or-either, or-left, or-ri
 use Rattle.stack.specs.Stack.{Pair, p-at, q-at, feasible}
 use Rattle.stack.specs.Limits.{rising}
 use Rattle.routing.specs.Paths.{Point, point, same-point, on-path}
-use Rattle.routing.specs.Wiring.{riser, rest, staircase, right-track, left-track, path-between, path, wiring, begins, leads}
+use Rattle.routing.specs.Wiring.{riser, rest, staircase, right-track, left-track, path-between, path, wiring, begins, leads, runs}
 use Rattle.routing.proofs.Points.{path-at, pos-injective, same-point-self}
 use Rattle.routing.proofs.Feasible.{feasible-fits}
 use Rattle.routing.proofs.Staircase.{Course, On, on-staircase}
 use Rattle.routing.proofs.Listed.{listed-at}
 use Rattle.routing.proofs.Sufficiency.{On-path, On-right, On-left, right, left, Goes, rightward, leftward, goes, right-course, left-course, path-points}
 
+-- what a path does from the top of an upright piece on, it does from the foot on
 leads-riser : (u v : Point) (x y n z : ℕ) (ws : List Point) → y + n ≡ z → leads u v (point (pos x) z ∷ ws) ≡ true
     → leads u v (point (pos x) y ∷ riser x y n ws) ≡ true
 unfolding leads riser
@@ -48,11 +49,8 @@ leads-on u v (a ∷ ws) h = ⊎-elim first (λ e. later (leads-on u v ws e)) (or
     later : (on-path u ws ≡ true) × (on-path v ws ≡ true) → (on-path u (a ∷ ws) ≡ true) × (on-path v (a ∷ ws) ≡ true)
     later e = (or-right (same-point u a) (on-path u ws) (e .0), or-right (same-point v a) (on-path v ws) (e .1))
 
--- a path leads from column u to column v on track y
-abbrev pub runs : (u v y : ℕ) → List Point → Bool
-runs u v y ws = leads (point (pos u) y) (point (pos v) y) ws
-
 module _ (x h : ℕ → ℕ) (t w : ℕ) (s : Course x h t w) where
+  -- it runs from each column but the last to the next
   rest-runs : (i : ℕ) → i < w → (n k y : ℕ) → k + n ≡ w → y ≤ h k → k ≤ i → runs (x i) (x (suc i)) (h i) (point (pos (x k)) y ∷ rest x h t n k y) ≡ true
   unfolding rest leads begins
   rest-runs i l zero k y e m g = absurd (omega arith)
@@ -81,6 +79,7 @@ module _ (x h : ℕ → ℕ) (t w : ℕ) (s : Course x h t w) where
           let m = once (o .at) k (o .within) l (pos-injective (pos (x k)) (x (o .at)) (x k) (o .column) refl) in
           (λ i d. o .from i (omega arith), λ d. let u = o .upto (omega arith) in omega (arith, ap h m))
 
+  -- from the k-th column the path runs on the k-th track, and on no other
   pub runs-on : ((i k : ℕ) → i ≤ w → k ≤ w → x i ≡ x k → i ≡ k) → (k u v g y : ℕ) → k < w → x k ≡ u → x (suc k) ≡ v → h k ≡ g
       → runs u v y (staircase x h t w) ≡ true ↔ (y ≡ g)
   unfolding staircase
@@ -94,18 +93,29 @@ module _ (x h : ℕ → ℕ) (t w : ℕ) (s : Course x h t w) where
       same : y ≡ h k → runs (x k) (x (suc k)) y (staircase x h t w) ≡ true
       same r = rw r (rest-runs k l w 0 0 (omega arith) (omega arith) (omega arith))
 
+-- the path of pair j
 pub wiring-at : (c : List Pair) (t a b j : ℕ) → j < length c → path-at (wiring c t a b) j ≡ path c t a b j
 unfolding wiring
 wiring-at c t a b j l = listed-at (λ i. path c t a b i) (length c) j l
 
 -- a point between columns p and q
-pub record Between (p q : ℕ) (z : Point) : Type 0 where
+pub record Column-between (p q : ℕ) (z : Point) : Type 0 where
   pub column : ℕ
   pub is : z .column ≡ pos column
   pub from : min p q ≤ column
   pub upto : column ≤ max p q
 
 module _ (c : List Pair) (t a b : ℕ) (r : rising c ≡ true) (f : feasible c t a b ≡ true) (j : ℕ) (l : j < length c) where
+  -- each path stays between its own terminals' columns
+  pub path-within : (z : Point) → on-path z (path-at (wiring c t a b) j) ≡ true → Column-between (a + p-at c j) (b + q-at c j) z
+  unfolding On-right On-left
+  path-within z o = go (path-points c t a b r (feasible-fits c t a b f) j z l (goes c t a b j) (rw (wiring-at c t a b j l) at o))
+    where
+      go : On-path c t a j (a + p-at c j) (b + q-at c j) z → Column-between (a + p-at c j) (b + q-at c j) z
+      go (right u x) = record { column = a + p-at c j + x .at; is = x .column; from = omega arith; upto = omega arith }
+      go (left u x) = record { column = a + p-at c j - x .at; is = x .column; from = omega arith; upto = omega arith }
+
+  -- a path going right runs from column x to x + 1 on the track that document 02 counts, and on no other
   pub runs-right : (x y : ℕ) → a + p-at c j ≤ x → x < b + q-at c j
       → runs x (suc x) y (path-at (wiring c t a b) j) ≡ true ↔ (y ≡ right-track c a j x)
   unfolding path-between
@@ -115,11 +125,12 @@ module _ (c : List Pair) (t a b : ℕ) (r : rising c ≡ true) (f : feasible c t
       go (rightward u e) =
           let p = a + p-at c j in
           let q = b + q-at c j in
-          let k = x - p in
-          let d : p + k ≡ x = omega arith in
-          rw e (runs-on (λ k. p + k) (λ k. right-track c a j (p + k)) t (q - p) (right-course c t a b r (feasible-fits c t a b f) j p q l refl refl) (λ i k m n d. omega arith) k x (suc x) (right-track c a j x) y (omega arith) d (omega arith) (ap (λ (v : ℕ). right-track c a j v) d))
+          let d : p + (x - p) ≡ x = omega arith in
+          rw e (runs-on (λ k. p + k) (λ k. right-track c a j (p + k)) t (q - p) (right-course c t a b r (feasible-fits c t a b f) j p q l refl refl)
+          (λ i k m n d. omega arith) (x - p) x (suc x) (right-track c a j x) y (omega arith) d (omega arith) (ap (λ (v : ℕ). right-track c a j v) d))
       go (leftward u e) = absurd (omega arith)
 
+  -- and going left from column x + 1 to x
   pub runs-left : (x y : ℕ) → b + q-at c j ≤ x → x < a + p-at c j
       → runs (suc x) x y (path-at (wiring c t a b) j) ≡ true ↔ (y ≡ left-track c a j (suc x))
   unfolding path-between
@@ -130,14 +141,6 @@ module _ (c : List Pair) (t a b : ℕ) (r : rising c ≡ true) (f : feasible c t
       go (leftward u e) =
           let p = a + p-at c j in
           let q = b + q-at c j in
-          let k = p - suc x in
-          let d : p - k ≡ suc x = omega arith in
-          rw e (runs-on (λ k. p - k) (λ k. left-track c a j (p - k)) t (p - q) (left-course c t a b r (feasible-fits c t a b f) j p q l refl refl) (λ i k m n d. omega arith) k (suc x) x (left-track c a j (suc x)) y (omega arith) d (omega arith) (ap (λ (v : ℕ). left-track c a j v) d))
-
-  pub path-within : (z : Point) → on-path z (path-at (wiring c t a b) j) ≡ true → Between (a + p-at c j) (b + q-at c j) z
-  unfolding On-right On-left
-  path-within z o = go (path-points c t a b r (feasible-fits c t a b f) j z l (goes c t a b j) (rw (wiring-at c t a b j l) at o))
-    where
-      go : On-path c t a j (a + p-at c j) (b + q-at c j) z → Between (a + p-at c j) (b + q-at c j) z
-      go (right u x) = record { column = a + p-at c j + x .at; is = x .column; from = omega arith; upto = omega arith }
-      go (left u x) = record { column = a + p-at c j - x .at; is = x .column; from = omega arith; upto = omega arith }
+          let d : p - (p - suc x) ≡ suc x = omega arith in
+          rw e (runs-on (λ k. p - k) (λ k. left-track c a j (p - k)) t (p - q) (left-course c t a b r (feasible-fits c t a b f) j p q l refl refl)
+          (λ i k m n d. omega arith) (p - suc x) (suc x) x (left-track c a j (suc x)) y (omega arith) d (omega arith) (ap (λ (v : ℕ). left-track c a j v) d))

@@ -1,4 +1,5 @@
--- A staircase is a path, and where its points are: at each column from the track of the run before to the track of the run after. Assumes nothing.
+-- A staircase whose tracks never fall and stay below t is a path, and its points are at each column from the track of the run before to the track of the
+-- run after. By induction on the columns to go. Assumes nothing.
 use mathlib.Core.Path.{_≡_, refl, ap}
 use mathlib.Core.Bool.{true}
 use mathlib.Core.List.{List, [], _∷_}
@@ -29,7 +30,8 @@ up-step t x y l = rw (le-leb y t (omega arith), le-leb (suc y) t (omega arith), 
 along-step : (t x z y : ℕ) → y < t → Beside x z → is-step t (point (pos x) y) (point (pos z) y) ≡ true
 unfolding is-step point same-column next Beside
 along-step t x z y l (inl e) = rw (le-leb y t (omega arith), eq-eqb y y refl, lt-ltb y t l, ne-eqb x z (omega arith), eq-eqb (suc x) z e)
-along-step t x z y l (inr e) = rw (le-leb y t (omega arith), eq-eqb y y refl, lt-ltb y t l, ne-eqb x z (omega arith), ne-eqb (suc x) z (omega arith), eq-eqb (suc z) x e)
+along-step t x z y l (inr e) =
+    rw (le-leb y t (omega arith), eq-eqb y y refl, lt-ltb y t l, ne-eqb x z (omega arith), ne-eqb (suc x) z (omega arith), eq-eqb (suc z) x e)
 
 riser-chain : (t : ℕ) (g : Point) (x y n z : ℕ) (ws : List Point) → y + n ≡ z → z ≤ t → chain t g (point (pos x) z) ws ≡ true
     → chain t g (point (pos x) y) (riser x y n ws) ≡ true
@@ -93,6 +95,7 @@ pub record On (x h : ℕ → ℕ) (t w : ℕ) (z : Point) : Type 0 where
   pub top : z .track ≤ t
 
 module _ (x h : ℕ → ℕ) (t w : ℕ) (s : Course x h t w) where
+  -- y is the track on which the path came to the k-th column
   run-before : (k i : ℕ) → suc i ≡ suc k → h i ≤ h k
   run-before k i d = let q : i ≡ k = omega arith in rw q (omega arith)
 

@@ -1,4 +1,4 @@
--- A feasible channel can be drawn, by the paths of document 02's page. Each is a staircase whose runs are below track t. Two that go the same way share no
+-- A feasible channel can be drawn, by the paths of document 02's path rule. Each is a staircase whose runs are below track t. Two that go the same way share no
 -- point, since at a column where both are the one from behind comes on a higher track than the other leaves on; two that go different ways have no
 -- column in common. Assumes nothing.
 use mathlib.Core.Path.{_≡_, refl}
@@ -47,6 +47,7 @@ goes c t a b j = go (leb (a + p-at c j) (b + q-at c j)) refl
     go false e = leftward (leb-false (a + p-at c j) (b + q-at c j) e) (rw e)
 
 module _ (c : List Pair) (t a b : ℕ) (r : rising c ≡ true) (f : Fits c t a b) where
+  -- its columns and the tracks of its runs are a staircase's
   pub right-course : (j p q : ℕ) → j < length c → a + p-at c j ≡ p → b + q-at c j ≡ q → Course (λ k. p + k) (λ k. right-track c a j (p + k)) t (q - p)
   unfolding Beside
   right-course j p q l d e =
@@ -89,7 +90,9 @@ module _ (c : List Pair) (t a b : ℕ) (r : rising c ≡ true) (f : Fits c t a b
       let q = b + q-at c j in
       left u (on-staircase (λ k. p - k) (λ k. left-track c a j (p - k)) t (p - q) (left-course j p q l refl refl) z (rw e at o))
 
-  clear : (i j : ℕ) (z : Point) → i < j → j < length c → On-path c t a i (a + p-at c i) (b + q-at c i) z → On-path c t a j (a + p-at c j) (b + q-at c j) z → ⊥
+  -- no point is on the paths of two pairs
+  clear : (i j : ℕ) (z : Point) → i < j → j < length c → On-path c t a i (a + p-at c i) (b + q-at c i) z
+      → On-path c t a j (a + p-at c j) (b + q-at c j) z → ⊥
   unfolding On-right On-left
   clear i j z l h (right u x) (right v y) =
       let s = rising-before c r i (j - i) j (omega arith) h in
@@ -132,3 +135,8 @@ wiring-clear c t a b r f = none-meet-listed (λ j. path c t a b j) (length c) (p
 
 unfoldable pub feasible-drawn : (c : List Pair) (t a b : ℕ) → rising c ≡ true → feasible c t a b ≡ true → Channel-drawn c t a b
 feasible-drawn c t a b r f = record { paths = wiring c t a b; led = wiring-led c t a b r f; clear = wiring-clear c t a b r f }
+
+pub feasible-drawn-paths : (c : List Pair) (t a b : ℕ) (r : rising c ≡ true) (f : feasible c t a b ≡ true)
+    → feasible-drawn c t a b r f .paths ≡ wiring c t a b
+unfolding feasible-drawn
+feasible-drawn-paths c t a b r f = refl

@@ -72,3 +72,7 @@ begins v (b ∷ ws) = same-point v b
 unfoldable pub leads : (from to : Point) → List Point → Bool
 leads u v [] = false
 leads u v (a ∷ ws) = (same-point u a && begins v ws) || leads u v ws
+
+-- it RUNS from column u to column v on track y
+abbrev pub runs : (u v y : ℕ) → List Point → Bool
+runs u v y ws = leads (point (pos u) y) (point (pos v) y) ws
