@@ -1,2 +1,3 @@
--- Drawable placements: the trusted definitions.
+-- Drawable placements: the trusted definitions, and the paths that draw them.
 pub mod Paths
+pub mod Wiring
