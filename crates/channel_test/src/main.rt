@@ -13,6 +13,8 @@ use stack::Terminals;
 use stack::TerminalsFound;
 use stack::TerminalsMade;
 use stack::Tracks;
+use test_io::next_number;
+use test_io::print_number;
 
 // A biased number, with its sign.
 fn print_biased(v: u64) {
@@ -24,37 +26,51 @@ fn print_biased(v: u64) {
     }
 }
 
+fn print_range(low: u64, high: u64) {
+    io::write_all(1, b"\t");
+    print_biased(low);
+    io::write_all(1, b" to ");
+    print_biased(high);
+}
+
+fn end_line() {
+    io::write_all(1, b"\n");
+}
+
+fn print_bit(on: bool) {
+    if on {
+        io::write_all(1, b"1");
+    } else {
+        io::write_all(1, b"0");
+    }
+}
+
 fn print_limits(limits: Limits, pairs: usize) {
     for t in 0..pairs {
         if t < 33 {
-            io::write_all(1, b"\t");
-            print_biased(limits.low[t]);
-            io::write_all(1, b" to ");
-            print_biased(limits.high[t]);
+            print_range(limits.low[t], limits.high[t]);
         }
     }
-    io::write_all(1, b"\n");
+    end_line();
 }
 
 // For each separation up to one more than the count of pairs, 1 if the channel is feasible with the strips at these positions.
 fn print_feasible(terminals: Terminals, lower: u32, upper: u32)
     requires { ⌜ terminals .count ≤ 32 ⌝ }
 {
+    for t in 0..34 {
+        if t <= terminals.count as u32 + 1 {
+            print_bit(is_feasible(terminals, Tracks(t), Columns(lower), Columns(upper)));
+        }
+    }
+    end_line();
+}
+
+fn print_positions(lower: u32, upper: u32) {
     print_number(lower as u64);
     io::write_all(1, b" ");
     print_number(upper as u64);
     io::write_all(1, b": ");
-    let mut t: u32 = 0;
-    let last = terminals.count as u32 + 1;
-    while t <= last {
-        if is_feasible(terminals, Tracks(t), Columns(lower), Columns(upper)) {
-            io::write_all(1, b"1");
-        } else {
-            io::write_all(1, b"0");
-        }
-        t += 1;
-    }
-    io::write_all(1, b"\n");
 }
 
 fn print_all_feasible(terminals: Terminals, text: &[u8], from: usize) -> usize
@@ -65,6 +81,7 @@ fn print_all_feasible(terminals: Terminals, text: &[u8], from: usize) -> usize
     for _ in 0..queries.value {
         let lower = next_number(text, at);
         let upper = next_number(text, lower.at);
+        print_positions(lower.value, upper.value);
         print_feasible(terminals, lower.value, upper.value);
         at = upper.at;
     }

@@ -10,7 +10,7 @@ use native.Mathlib.Omega.{arith}
 use lib.Dec.{ltb, leb}
 use lib.ListN.{length, getD, drop, drop-of-length-le}
 use lib.Seq.{drop-cons}
-use borrow.Author.Tests.{leb-false, lt-ltb, le-ltb, lt-leb, le-leb}
+use borrow.Author.Tests.{leb-false, ltb-false, lt-ltb, le-ltb}
 use Rattle.numbers.specs.Lists.{tabulate}
 use Rattle.numbers.proofs.Lists.{length-tabulate, getD-tabulate, tabulate-snoc}
 use Rattle.stack.specs.Stack.{Pair, pair, p-at, q-at}
@@ -148,3 +148,29 @@ making-ends xs n lo hi t j few past m =
 pub making-crowded : (xs : List ℕ) (n lo hi : ℕ) (none : Terminals) → 32 < n → channel-of none ≡ [] → Terminals-made xs n lo hi (record { found = Crowd; terminals = none })
 unfolding terminals-found kept
 making-crowded xs n lo hi none h e = record { found = rw (pairs-in-length xs n, lt-ltb 32 n h); pairs = e }
+
+crowd-found : (lo hi : ℕ) (xs : List Pair) (f : TerminalsFound) → f ≡ terminals-found lo hi xs → is-good f ≡ true → length xs ≤ 32
+unfolding terminals-found
+crowd-found lo hi xs f e g = go (ltb 32 (length xs)) refl
+  where
+    go : (b : Bool) → ltb 32 (length xs) ≡ b → length xs ≤ 32
+    go true h =
+        let crowd : f ≡ Crowd = e ∙ rw h in
+        let good : f ≡ Good = good-is f g in
+        let z : _≡_ {A = ℕ} 0 1 = cc in absurd (omega arith)
+    go false h = ltb-false 32 (length xs) h
+
+-- terminals that are made are no more than 32 pairs, whatever was found
+pub made-few : (xs : List ℕ) (n lo hi : ℕ) (r : TerminalsMade) → Terminals-made xs n lo hi r → r .terminals .count ≤ 32
+unfolding kept
+made-few xs n lo hi r m = go (is-good (r .found)) refl
+  where
+    counted : r .terminals .count ≡ length (kept (r .found) (pairs-in xs n) [])
+    counted = sym (channel-length (r .terminals)) ∙ rw (m .pairs)
+
+    go : (b : Bool) → is-good (r .found) ≡ b → r .terminals .count ≤ 32
+    go true g =
+        let few = crowd-found lo hi (pairs-in xs n) (r .found) (m .found) g in
+        let all : r .terminals .count ≡ length (pairs-in xs n) = counted ∙ rw (good-is (r .found) g) in
+        omega arith
+    go false g = let none : r .terminals .count ≡ 0 = counted ∙ rw (fault-keeps (r .found) (pairs-in xs n) [] g) in omega arith

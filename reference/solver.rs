@@ -1,0 +1,130 @@
+//! The answer for a spread by trying separations: in order of their total, then in dictionary order; for each the positions, strip 0 first.
+
+use crate::channel::{feasible, left_limit, right_limit, Pair};
+use crate::reader::Stack;
+
+#[derive(Clone, Debug, PartialEq)]
+pub struct Answer {
+    pub total: usize,
+    pub separations: Vec<usize>,
+    pub positions: Vec<i64>,
+}
+
+pub fn legal(stack: &Stack, spread: i64, separations: &[usize], positions: &[i64]) -> bool {
+    let within = positions.iter().zip(&stack.lengths).all(|(x, l)| *x >= 0 && x + l <= spread);
+    within && stack.channels.iter().enumerate().all(|(i, c)| feasible(c, separations[i], positions[i + 1] - positions[i]))
+}
+
+/// The first positions in dictionary order for these separations, each position tried from the left.
+fn place_by_trying(stack: &Stack, spread: i64, separations: &[usize], placed: &mut Vec<i64>) -> bool {
+    let i = placed.len();
+    if i == stack.lengths.len() {
+        return true;
+    }
+    for x in 0..=spread - stack.lengths[i] {
+        if i > 0 && !feasible(&stack.channels[i - 1], separations[i - 1], x - placed[i - 1]) {
+            continue;
+        }
+        placed.push(x);
+        if place_by_trying(stack, spread, separations, placed) {
+            return true;
+        }
+        placed.pop();
+    }
+    false
+}
+
+/// The same for wide spreads: offsets between two limits, so the positions that reach the top form a range for each strip, found from the top down.
+fn place_by_ranges(stack: &Stack, spread: i64, separations: &[usize]) -> Option<Vec<i64>> {
+    let n = stack.lengths.len();
+    let far = spread + 5000;
+    let limits = |c: &[Pair], t: usize| (left_limit(c, t).unwrap_or(-far), right_limit(c, t).unwrap_or(far));
+    let mut ranges = vec![(0, 0); n];
+    ranges[n - 1] = (0, spread - stack.lengths[n - 1]);
+    for i in (0..n - 1).rev() {
+        let (l, r) = limits(&stack.channels[i], separations[i]);
+        let (lo, up) = ranges[i + 1];
+        if l > r || lo > up {
+            return None;
+        }
+        ranges[i] = ((lo - r).max(0), (up - l).min(spread - stack.lengths[i]));
+    }
+    if ranges[0].0 > ranges[0].1 {
+        return None;
+    }
+    let mut placed = vec![ranges[0].0];
+    for i in 1..n {
+        let (l, _) = limits(&stack.channels[i - 1], separations[i - 1]);
+        placed.push((placed[i - 1] + l).max(ranges[i].0));
+    }
+    legal(stack, spread, separations, &placed).then_some(placed)
+}
+
+/// The separations of a total in dictionary order, each at most the channel's count of pairs.
+fn try_total(stack: &Stack, spread: i64, left: usize, chosen: &mut Vec<usize>, brute: bool) -> Option<Vec<i64>> {
+    let i = chosen.len();
+    if i == stack.channels.len() {
+        if left > 0 {
+            return None;
+        }
+        if brute {
+            let mut placed = Vec::new();
+            return place_by_trying(stack, spread, chosen, &mut placed).then_some(placed);
+        }
+        return place_by_ranges(stack, spread, chosen);
+    }
+    let rest: usize = stack.channels[i + 1..].iter().map(|c| c.len()).sum();
+    for t in left.saturating_sub(rest)..=left.min(stack.channels[i].len()) {
+        chosen.push(t);
+        if let Some(placed) = try_total(stack, spread, left - t, chosen, brute) {
+            return Some(placed);
+        }
+        chosen.pop();
+    }
+    None
+}
+
+/// For a spread from the longest strip upward; `brute` tries every position.
+pub fn answer(stack: &Stack, spread: i64, brute: bool) -> Answer {
+    let most: usize = stack.channels.iter().map(|c| c.len()).sum();
+    for total in 0..=most {
+        let mut separations = Vec::new();
+        if let Some(positions) = try_total(stack, spread, total, &mut separations, brute) {
+            return Answer { total, separations, positions };
+        }
+    }
+    unreachable!("a separation of every channel's count of pairs is feasible at every offset")
+}
+
+/// The rows of the table: every spread up to past the sum of the lengths is tried, beyond which nothing falls.
+pub fn rows(stack: &Stack, brute: bool) -> Vec<(i64, Answer)> {
+    let longest = *stack.lengths.iter().max().unwrap();
+    let widest = stack.lengths.iter().sum::<i64>() + 3;
+    let mut rows: Vec<(i64, Answer)> = Vec::new();
+    for spread in longest..=widest {
+        let found = answer(stack, spread, brute);
+        if rows.last().map_or(true, |(_, last)| found.total < last.total) {
+            rows.push((spread, found));
+        }
+    }
+    rows
+}
+
+pub fn row_text(spread: i64, a: &Answer) -> String {
+    let mut line = format!("ROW\t{}\t{}", spread, a.total);
+    for t in &a.separations {
+        line += &format!("\t{}", t);
+    }
+    for x in &a.positions {
+        line += &format!("\t{}", x);
+    }
+    line + "\n"
+}
+
+pub fn table_text(stack: &Stack, brute: bool) -> String {
+    let mut text = format!("TABLE\t{}\n", stack.channels.len());
+    for (spread, a) in rows(stack, brute) {
+        text += &row_text(spread, &a);
+    }
+    text
+}
