@@ -1,2 +1,3 @@
 -- The lemmas that every layer cites.
 pub mod Bools
+pub mod Orders

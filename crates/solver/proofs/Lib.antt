@@ -1,0 +1,5 @@
+-- The theorems of the solver.
+pub mod Spans
+pub mod First
+pub mod Limits
+pub mod Back

@@ -1,0 +1,36 @@
+-- A channel's limits: past the last separation of the list nothing changes, and every separation at which something fits is at or above the least open one.
+-- Assumes nothing.
+use mathlib.Core.Path.{_≡_, refl, ap}
+use mathlib.Core.Bool.{Bool, true}
+use mathlib.Core.List.{List}
+use Prim.Native.Nat.{ℕ, suc, _+_, _≤_, _<_, min}
+use native.Mathlib.Omega.{arith}
+use lib.Dec.{leb}
+use lib.ListN.{getD}
+use borrow.Author.Tests.{leb-true, le-leb}
+use Rattle.solver.specs.Spans.{Limit, limit, last, low-at, high-at}
+use Rattle.solver.specs.Solver.{least-open}
+use Rattle.solver.proofs.First.{first-holds, first-least, first-from}
+
+module _ (c : List Limit) where
+  pub low-capped : (q : ℕ) → low-at c (min q (last c)) ≡ low-at c q
+  unfolding low-at
+  low-capped q = ap (λ (i : ℕ). getD c i (limit 0 0) .low) (omega arith)
+
+  pub high-capped : (q : ℕ) → high-at c (min q (last c)) ≡ high-at c q
+  unfolding high-at
+  high-capped q = ap (λ (i : ℕ). getD c i (limit 0 0) .high) (omega arith)
+
+  abbrev opens : ℕ → Bool
+  opens q = leb (low-at c q) (high-at c q)
+
+  -- an open separation is not below the least one
+  pub least-open-least : (q : ℕ) → low-at c q ≤ high-at c q → least-open c ≤ min q (last c)
+  unfolding least-open
+  least-open-least q h =
+      first-least opens 0 (suc (last c)) (min q (last c)) (omega arith) (omega arith)
+      (le-leb (low-at c (min q (last c))) (high-at c (min q (last c))) (omega (arith, low-capped q, high-capped q)))
+
+  pub least-open-opens : least-open c ≤ last c → low-at c (least-open c) ≤ high-at c (least-open c)
+  unfolding least-open
+  least-open-opens h = leb-true _ _ (first-holds opens 0 (suc (last c)) (omega arith))
