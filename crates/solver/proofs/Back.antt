@@ -11,7 +11,7 @@ use Rattle.numbers.proofs.Orders.{le-or-lt}
 use Rattle.solver.specs.Spans.{Span, span, In, Fits, Limit, last, low-at, high-at, cut, gather}
 use Rattle.solver.specs.Solver.{Level, least-open, most, start, stop, back}
 use Rattle.solver.specs.Placed.{Placed, alone, under, Can, Widens, Widening, none, more}
-use Rattle.solver.proofs.Limits.{low-capped, high-capped, least-open-least, least-open-opens}
+use Rattle.solver.proofs.Limits.{fits-wider, fits-capped, least-open-least, open-on}
 use Rattle.solver.proofs.Spans.{Partner, Among, Inside, Touch, Touching, shift-back-sound, shift-back-complete, fits-open, cut-both, cut-left, cut-right, in-nonempty, gather-complete, gather-sound}
 
 -- a placement whose first separation, cut down to the last of its list, is t, and whose others sum to u, counts at a separation q in the range of use
@@ -29,13 +29,6 @@ in-use : (o p m v q : ℕ) → max o p ≤ q → q < max o p + (suc (min v m) - 
 in-use o p m v q h k = omega arith
 
 module _ (b : ℕ) where
-  -- at a wider limit what fits fits still
-  pub fits-wider : (c : List Limit) → Widens c → (q n x y : ℕ) → q ≤ n → Fits b (low-at c q) (high-at c q) x y → Fits b (low-at c n) (high-at c n) x y
-  fits-wider c wide q n x y h f = omega (arith, wide .lower q n h, wide .higher q n h)
-
-  pub fits-capped : (c : List Limit) (q x y : ℕ) → Fits b (low-at c q) (high-at c q) x y → Fits b (low-at c (min q (last c))) (high-at c (min q (last c))) x y
-  fits-capped c q x y f = omega (arith, low-capped c q, high-capped c q)
-
   -- a placement stands with each separation cut down to the last of its list
   pub record Capped (w : Span) (cs : List Level) (ts : List ℕ) (x : ℕ) (ys : List ℕ) : Type 0 where
     pub us : List ℕ
@@ -50,7 +43,7 @@ module _ (b : ℕ) where
       let k = capped r in
       record {
         us = min t (last (c .limits)) ∷ k .us;
-        placed = under i (fits-capped (c .limits) t x y f) (k .placed);
+        placed = under i (fits-capped b (c .limits) t x y f) (k .placed);
         less = omega arith;
         enough = omega arith;
       }
@@ -67,10 +60,6 @@ module _ (b : ℕ) where
   Sound cs = (w : Span) (v x : ℕ) → In (back b w cs v) x → Can b w cs v x
 
   module _ (c : Level) (cs : List Level) (wide : Widens (c .limits)) where
-    open-on : (q : ℕ) → least-open (c .limits) ≤ q → q ≤ last (c .limits) → low-at (c .limits) q ≤ high-at (c .limits) q
-    open-on q h k =
-        omega (arith, least-open-opens (c .limits) (omega arith), wide .lower (least-open (c .limits)) q h, wide .higher (least-open (c .limits)) q h)
-
     step-complete : Complete cs → Complete (c ∷ cs)
     unfolding back sum start stop
     step-complete rec w v ts x ys (under {t = t} {y = y} i f r) h =
@@ -83,7 +72,7 @@ module _ (b : ℕ) where
         let m : In (back b (c .window) cs (v - q)) y = rec _ _ _ _ _ (k .placed) (g .rest) in
         cut-both w _ x i
         (gather-complete b (c .limits) _ x _ _ _ q (g .early) (g .late) (in-nonempty _ y m)
-        (shift-back-complete b _ _ _ x y m (fits-wider (c .limits) wide (min t l) q x y (g .wider) (fits-capped (c .limits) t x y f))))
+        (shift-back-complete b _ _ _ x y m (fits-wider b (c .limits) wide (min t l) q x y (g .wider) (fits-capped b (c .limits) t x y f))))
 
     module _ (complete : Complete cs) (sound : Sound cs) where
       -- with a greater total the span is no narrower
@@ -100,8 +89,8 @@ module _ (b : ℕ) where
       touch v i j h k m n s t = go (le-or-lt i j)
         where
           go : (i ≤ j) ⊎ (j < i) → Touch b (c .limits) (spans v) i j
-          go (inl z) = omega (arith, back-wider (c .window) (v - j) (v - i) (omega arith) t, open-on i h k, wide .higher i j z)
-          go (inr z) = omega (arith, back-wider (c .window) (v - i) (v - j) (omega arith) s, open-on i h k, open-on j m n, wide .lower j i (omega arith), wide .higher j i (omega arith))
+          go (inl z) = omega (arith, back-wider (c .window) (v - j) (v - i) (omega arith) t, open-on (c .limits) wide i h k, wide .higher i j z)
+          go (inr z) = omega (arith, back-wider (c .window) (v - i) (v - j) (omega arith) s, open-on (c .limits) wide i h k, open-on (c .limits) wide j m n, wide .lower j i (omega arith), wide .higher j i (omega arith))
 
       -- a separation in the range of use is open, in the list, and at most v
       usable : (v q : ℕ) → start c cs v ≤ q → q < start c cs v + (stop c v - start c cs v) → (least-open (c .limits) ≤ q) × (q ≤ last (c .limits)) × (q ≤ v)
@@ -124,7 +113,7 @@ module _ (b : ℕ) where
           found : Among (Inside b (c .limits) (spans v) x) (start c cs v) (stop c v - start c cs v) → Can b w (c ∷ cs) v x
           found a =
               let u : _ = usable v (a .at) (a .early) (a .late) in
-              partner (a .at) (u .2) (shift-back-sound b _ _ (spans v (a .at)) x (open-on (a .at) (u .0) (u .1)) (a .holds .full) (a .holds .inside))
+              partner (a .at) (u .2) (shift-back-sound b _ _ (spans v (a .at)) x (open-on (c .limits) wide (a .at) (u .0) (u .1)) (a .holds .full) (a .holds .inside))
 
   pub back-complete : (cs : List Level) → Widening cs → Complete cs
   unfolding back

@@ -3,3 +3,8 @@ pub mod Spans
 pub mod First
 pub mod Limits
 pub mod Back
+pub mod Total
+pub mod Order
+pub mod Separations
+pub mod Positions
+pub mod Best

@@ -21,8 +21,12 @@ pub record Partner-below (b l r : ℕ) (s : Span) (y : ℕ) : Type 0 where
   pub inside : In s other
   pub fits : Fits b l r other y
 
+-- the partner that is furthest left
+pub leftmost : (b l r : ℕ) (s : Span) (x : ℕ) → l ≤ r → s .from < s .upto → In (shift-back b l r s) x → In s (max (s .from) (x + l - b)) × Fits b l r x (max (s .from) (x + l - b))
+leftmost b l r s x h k i = omega arith
+
 pub shift-back-sound : (b l r : ℕ) (s : Span) (x : ℕ) → l ≤ r → s .from < s .upto → In (shift-back b l r s) x → Partner b l r s x
-shift-back-sound b l r s x h k i = record { other = max (s .from) (x + l - b); inside = omega arith; fits = omega arith }
+shift-back-sound b l r s x h k i = let m : _ = leftmost b l r s x h k i in record { other = _; inside = m .0; fits = m .1 }
 
 pub shift-back-complete : (b l r : ℕ) (s : Span) (x y : ℕ) → In s y → Fits b l r x y → In (shift-back b l r s) x
 shift-back-complete b l r s x y i f = omega arith
