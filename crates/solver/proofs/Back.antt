@@ -9,7 +9,7 @@ use native.Mathlib.Omega.{arith}
 use Rattle.stack.specs.Stack.{sum}
 use Rattle.numbers.proofs.Orders.{le-or-lt}
 use Rattle.solver.specs.Spans.{Span, span, In, Fits, Limit, last, low-at, high-at, cut, gather}
-use Rattle.solver.specs.Solver.{Level, least-open, most, start, stop, back}
+use Rattle.solver.specs.Solver.{Level, least-open, most, start, stop, cell, back}
 use Rattle.solver.specs.Placed.{Placed, alone, under, Can, Widens, Widening, none, more}
 use Rattle.solver.proofs.Limits.{fits-wider, fits-capped, least-open-least, open-on}
 use Rattle.solver.proofs.Spans.{Partner, Among, Inside, Touch, Touching, shift-back-sound, shift-back-complete, fits-open, cut-both, cut-left, cut-right, in-nonempty, gather-complete, gather-sound}
@@ -61,7 +61,7 @@ module _ (b : ℕ) where
 
   module _ (c : Level) (cs : List Level) (wide : Widens (c .limits)) where
     step-complete : Complete cs → Complete (c ∷ cs)
-    unfolding back sum start stop
+    unfolding back cell sum start stop
     step-complete rec w v ts x ys (under {t = t} {y = y} i f r) h =
         let k : Capped (c .window) cs _ y _ = capped r in
         let l : ℕ = last (c .limits) in
@@ -71,7 +71,7 @@ module _ (b : ℕ) where
         let g : In-range (min t l) p (suc (min v l)) q (least-open (c .limits)) (sum (k .us)) v = in-range (min t l) p l (least-open (c .limits)) (sum (k .us)) v (most cs) o (omega arith) (omega arith) (k .enough) (omega arith) (omega arith) in
         let m : In (back b (c .window) cs (v - q)) y = rec _ _ _ _ _ (k .placed) (g .rest) in
         cut-both w _ x i
-        (gather-complete b (c .limits) _ x _ _ _ q (g .early) (g .late) (in-nonempty _ y m)
+        (gather-complete b (low-at (c .limits)) (high-at (c .limits)) _ x _ _ _ q (g .early) (g .late) (in-nonempty _ y m)
         (shift-back-complete b _ _ _ x y m (fits-wider b (c .limits) wide (min t l) q x y (g .wider) (fits-capped b (c .limits) t x y f))))
 
     module _ (complete : Complete cs) (sound : Sound cs) where
@@ -85,32 +85,32 @@ module _ (b : ℕ) where
       abbrev spans : (v q : ℕ) → Span
       spans v q = back b (c .window) cs (v - q)
 
-      touch : (v i j : ℕ) → least-open (c .limits) ≤ i → i ≤ last (c .limits) → least-open (c .limits) ≤ j → j ≤ last (c .limits) → spans v i .from < spans v i .upto → spans v j .from < spans v j .upto → Touch b (c .limits) (spans v) i j
+      touch : (v i j : ℕ) → least-open (c .limits) ≤ i → i ≤ last (c .limits) → least-open (c .limits) ≤ j → j ≤ last (c .limits) → spans v i .from < spans v i .upto → spans v j .from < spans v j .upto → Touch b (low-at (c .limits)) (high-at (c .limits)) (spans v) i j
       touch v i j h k m n s t = go (le-or-lt i j)
         where
-          go : (i ≤ j) ⊎ (j < i) → Touch b (c .limits) (spans v) i j
+          go : (i ≤ j) ⊎ (j < i) → Touch b (low-at (c .limits)) (high-at (c .limits)) (spans v) i j
           go (inl z) = omega (arith, back-wider (c .window) (v - j) (v - i) (omega arith) t, open-on (c .limits) wide i h k, wide .higher i j z)
           go (inr z) = omega (arith, back-wider (c .window) (v - i) (v - j) (omega arith) s, open-on (c .limits) wide i h k, open-on (c .limits) wide j m n, wide .lower j i (omega arith), wide .higher j i (omega arith))
 
       -- a separation in the range of use is open, in the list, and at most v
-      usable : (v q : ℕ) → start c cs v ≤ q → q < start c cs v + (stop c v - start c cs v) → (least-open (c .limits) ≤ q) × (q ≤ last (c .limits)) × (q ≤ v)
+      usable : (v q : ℕ) → start (least-open (c .limits)) (last (c .limits)) (most cs) v ≤ q → q < start (least-open (c .limits)) (last (c .limits)) (most cs) v + (stop (last (c .limits)) v - start (least-open (c .limits)) (last (c .limits)) (most cs) v) → (least-open (c .limits) ≤ q) × (q ≤ last (c .limits)) × (q ≤ v)
       unfolding start stop
       usable v q h k = in-use (least-open (c .limits)) (min (last (c .limits)) (v - most cs)) (last (c .limits)) v q h k
 
-      touching : (v : ℕ) → Touching b (c .limits) (spans v) (start c cs v) (stop c v - start c cs v)
+      touching : (v : ℕ) → Touching b (low-at (c .limits)) (high-at (c .limits)) (spans v) (start (least-open (c .limits)) (last (c .limits)) (most cs) v) (stop (last (c .limits)) v - start (least-open (c .limits)) (last (c .limits)) (most cs) v)
       touching v i j h k m n =
           let s : _ = usable v i h k in
           let t : _ = usable v j m n in
           touch v i j (s .0) (s .1) (t .0) (t .1)
 
       step-sound : Sound (c ∷ cs)
-      unfolding back
-      step-sound w v x i = found (gather-sound b (c .limits) (spans v) x _ _ (span (w .upto) 0) (cut-left w _ x i .below) refl (touching v) (cut-right w _ x i))
+      unfolding back cell
+      step-sound w v x i = found (gather-sound b (low-at (c .limits)) (high-at (c .limits)) (spans v) x _ _ (span (w .upto) 0) (cut-left w _ x i .below) refl (touching v) (cut-right w _ x i))
         where
           partner : (q : ℕ) → q ≤ v → Partner b (low-at (c .limits) q) (high-at (c .limits) q) (spans v q) x → Can b w (c ∷ cs) v x
           partner q h p = on-top w c cs v q x (p .other) (cut-left w _ x i) h (p .fits) (sound (c .window) (v - q) (p .other) (p .inside))
 
-          found : Among (Inside b (c .limits) (spans v) x) (start c cs v) (stop c v - start c cs v) → Can b w (c ∷ cs) v x
+          found : Among (Inside b (low-at (c .limits)) (high-at (c .limits)) (spans v) x) (start (least-open (c .limits)) (last (c .limits)) (most cs) v) (stop (last (c .limits)) v - start (least-open (c .limits)) (last (c .limits)) (most cs) v) → Can b w (c ∷ cs) v x
           found a =
               let u : _ = usable v (a .at) (a .early) (a .late) in
               partner (a .at) (u .2) (shift-back-sound b _ _ (spans v (a .at)) x (open-on (c .limits) wide (a .at) (u .0) (u .1)) (a .holds .full) (a .holds .inside))

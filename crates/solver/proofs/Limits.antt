@@ -10,7 +10,7 @@ use lib.Dec.{leb}
 use lib.ListN.{getD}
 use borrow.Author.Tests.{leb-true, le-leb}
 use Rattle.solver.specs.Spans.{Limit, limit, Fits, last, low-at, high-at}
-use Rattle.solver.specs.Solver.{least-open}
+use Rattle.solver.specs.Solver.{first-open, least-open}
 use Rattle.solver.specs.Placed.{Widens}
 use Rattle.solver.proofs.First.{first-holds, first-least}
 
@@ -28,13 +28,13 @@ module _ (c : List Limit) where
 
   -- an open separation is not below the least one
   pub least-open-least : (q : ℕ) → low-at c q ≤ high-at c q → least-open c ≤ min q (last c)
-  unfolding least-open
+  unfolding first-open
   least-open-least q h =
       first-least opens 0 (suc (last c)) (min q (last c)) (omega arith) (omega arith)
       (le-leb (low-at c (min q (last c))) (high-at c (min q (last c))) (omega (arith, low-capped q, high-capped q)))
 
   least-open-opens : least-open c ≤ last c → low-at c (least-open c) ≤ high-at c (least-open c)
-  unfolding least-open
+  unfolding first-open
   least-open-opens h = leb-true _ _ (first-holds opens 0 (suc (last c)) (omega arith))
 
   -- an open separation, and all from it on

@@ -11,7 +11,7 @@ use borrow.Author.Tests.{lt-ltb, le-ltb, eq-eqb}
 use Rattle.stack.specs.Stack.{sum, not-later}
 use Rattle.numbers.proofs.Orders.{lt-or-eq}
 use Rattle.solver.specs.Spans.{Span, In, Fits, last, low-at, high-at, cut, shift-on, nonempty}
-use Rattle.solver.specs.Solver.{Level, least-open, most, stop, back, serves, least-serving, forward, separations}
+use Rattle.solver.specs.Solver.{Level, least-open, most, stop, back, serves, first-serving, least-serving, forward, separations}
 use Rattle.solver.specs.Placed.{Placed, alone, under, Can, Widens, Widening, none, more}
 use Rattle.solver.proofs.Order.{not-later-step}
 use Rattle.solver.proofs.First.{first-from, first-holds, first-least}
@@ -29,11 +29,14 @@ bottom-in (alone j) = j
 bottom-in (under j g r) = j
 
 module _ (b : ℕ) (c : Level) (cs : List Level) (wide : Widens (c .limits)) (wides : Widening cs) (s : Span) (v : ℕ) where
+  abbrev serving-at : ℕ → Bool
+  serving-at q = serves b (low-at (c .limits)) (high-at (c .limits)) (most cs) (λ u. back b (c .window) cs u) s v q
+
   abbrev q₀ : ℕ
   q₀ = least-serving b s c cs v
 
   -- the separation of any placement serves, cut down to the last of its list
-  serving : (t x y : ℕ) (us ys : List ℕ) → In s x → Fits b (low-at (c .limits) t) (high-at (c .limits) t) x y → Placed b (c .window) cs us y ys → t + sum us ≤ v → serves b s c cs v (min t (last (c .limits))) ≡ true
+  serving : (t x y : ℕ) (us ys : List ℕ) → In s x → Fits b (low-at (c .limits) t) (high-at (c .limits) t) x y → Placed b (c .window) cs us y ys → t + sum us ≤ v → serving-at (min t (last (c .limits))) ≡ true
   unfolding serves
   serving t x y us ys i f r h =
       let k : Capped b (c .window) cs us y ys = capped b r in
@@ -42,13 +45,13 @@ module _ (b : ℕ) (c : Level) (cs : List Level) (wide : Widens (c .limits)) (wi
       (back-complete b cs wides (c .window) _ (k .us) y ys (k .placed) (omega arith)))
 
   not-above : (t x y : ℕ) (us ys : List ℕ) → In s x → Fits b (low-at (c .limits) t) (high-at (c .limits) t) x y → Placed b (c .window) cs us y ys → t + sum us ≤ v → (q₀ ≤ min t (last (c .limits))) × (least-open (c .limits) ≤ min t (last (c .limits)))
-  unfolding least-serving stop
+  unfolding first-serving stop
   not-above t x y us ys i f r h =
       let o : least-open (c .limits) ≤ min t (last (c .limits)) = least-open-least (c .limits) t (fits-open b _ _ x y f) in
-      (first-least (serves b s c cs v) (least-open (c .limits)) _ (min t (last (c .limits))) o (omega arith) (serving t x y us ys i f r h), o)
+      (first-least (serving-at) (least-open (c .limits)) _ (min t (last (c .limits))) o (omega arith) (serving t x y us ys i f r h), o)
 
   -- what a separation that serves leaves: a position in the forward span from which the rest is enough
-  rest-of : serves b s c cs v q₀ ≡ true → (y : ℕ) × Can b (forward b s c q₀) cs (v - q₀) y
+  rest-of : serving-at q₀ ≡ true → (y : ℕ) × Can b (forward b s c q₀) cs (v - q₀) y
   unfolding serves forward
   rest-of e = go _ (nonempty-in _ e)
     where
@@ -64,14 +67,14 @@ module _ (b : ℕ) (c : Level) (cs : List Level) (wide : Widens (c .limits)) (wi
     rest : (y : ℕ) × Can b (forward b s c q₀) cs (v - q₀) y
 
   served : (x : ℕ) → Can b s (c ∷ cs) v x → Served
-  unfolding sum least-serving stop
+  unfolding sum first-serving stop
   served x k = go (k .ts) (k .ys) (k .placed) (k .within)
     where
       go : (ts ys : List ℕ) → Placed b s (c ∷ cs) ts x ys → sum ts ≤ v → Served
       go ts ys (under {t = t} {y = y} {ts = us} {ys = zs} i f r) h =
           let n : (q₀ ≤ min t (last (c .limits))) × (least-open (c .limits) ≤ min t (last (c .limits))) = not-above t x y us zs i f r h in
-          let o : least-open (c .limits) ≤ q₀ = first-from (serves b s c cs v) _ _ in
-          record { opens = o; listed = omega arith; within = omega arith; rest = rest-of (first-holds (serves b s c cs v) _ _ (omega arith)) }
+          let o : least-open (c .limits) ≤ q₀ = first-from (serving-at) _ _ in
+          record { opens = o; listed = omega arith; within = omega arith; rest = rest-of (first-holds (serving-at) _ _ (omega arith)) }
 
 -- separations of some placement with the total v, first in dictionary order among the separations of all such placements
 pub record First-with (b : ℕ) (s : Span) (cs : List Level) (v : ℕ) (ts : List ℕ) : Type 0 where

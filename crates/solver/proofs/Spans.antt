@@ -3,12 +3,11 @@
 use mathlib.Core.Path.{_≡_, refl}
 use mathlib.Core.Bool.{Bool, true, false}
 use mathlib.Core.Logic.{_⊎_, inl, inr, ⊎-elim}
-use mathlib.Core.List.{List}
 use Prim.Native.Nat.{ℕ, zero, suc, _+_, _-_, _≤_, _<_, min, max}
 use native.Mathlib.Omega.{arith}
 use borrow.Author.Tests.{ltb-true, ltb-false, lt-ltb}
 use Rattle.numbers.proofs.Orders.{le-or-lt, lt-or-eq}
-use Rattle.solver.specs.Spans.{Span, span, In, Fits, Limit, low-at, high-at, cut, shift-back, shift-on, nonempty, join, join-if, gather}
+use Rattle.solver.specs.Spans.{Span, span, In, Fits, cut, shift-back, shift-on, nonempty, join, join-if, gather}
 
 -- a position of the other strip, within the limit
 pub record Partner (b l r : ℕ) (s : Span) (x : ℕ) : Type 0 where
@@ -70,92 +69,92 @@ now-at : (P : ℕ → Type 0) (q n : ℕ) → P q → Among P q (suc n)
 now-at P q n h = record { at = q; early = omega arith; late = omega arith; holds = h }
 
 -- a span that is not empty starts, shifted back, at or below x; one that is not empty ends above x
-pub record Starts (b : ℕ) (c : List Limit) (f : ℕ → Span) (x j : ℕ) : Type 0 where
+pub record Starts (b : ℕ) (low high : ℕ → ℕ) (f : ℕ → Span) (x j : ℕ) : Type 0 where
   pub full : f j .from < f j .upto
-  pub reach : f j .from + b - high-at c j ≤ x
+  pub reach : f j .from + b - high j ≤ x
 
-pub record Ends (b : ℕ) (c : List Limit) (f : ℕ → Span) (x j : ℕ) : Type 0 where
+pub record Ends (b : ℕ) (low high : ℕ → ℕ) (f : ℕ → Span) (x j : ℕ) : Type 0 where
   pub full : f j .from < f j .upto
-  pub reach : x < f j .upto + b - low-at c j
+  pub reach : x < f j .upto + b - low j
 
 -- shifted back, the spans at i and at j have no gap between them
-pub record Touch (b : ℕ) (c : List Limit) (f : ℕ → Span) (i j : ℕ) : Type 0 where
-  pub touch : f j .from + b - high-at c j ≤ f i .upto + b - low-at c i
+pub record Touch (b : ℕ) (low high : ℕ → ℕ) (f : ℕ → Span) (i j : ℕ) : Type 0 where
+  pub touch : f j .from + b - high j ≤ f i .upto + b - low i
 
-abbrev pub Touching : (b : ℕ) → List Limit → (ℕ → Span) → (q n : ℕ) → Type 0
-Touching b c f q n = (i j : ℕ) → q ≤ i → i < q + n → q ≤ j → j < q + n → f i .from < f i .upto → f j .from < f j .upto → Touch b c f i j
+abbrev pub Touching : (b : ℕ) → (low high : ℕ → ℕ) → (ℕ → Span) → (q n : ℕ) → Type 0
+Touching b low high f q n = (i j : ℕ) → q ≤ i → i < q + n → q ≤ j → j < q + n → f i .from < f i .upto → f j .from < f j .upto → Touch b low high f i j
 
-pub record Inside (b : ℕ) (c : List Limit) (f : ℕ → Span) (x j : ℕ) : Type 0 where
+pub record Inside (b : ℕ) (low high : ℕ → ℕ) (f : ℕ → Span) (x j : ℕ) : Type 0 where
   pub full : f j .from < f j .upto
-  pub inside : In (shift-back b (low-at c j) (high-at c j) (f j)) x
+  pub inside : In (shift-back b (low j) (high j) (f j)) x
 
-module _ (b : ℕ) (c : List Limit) (f : ℕ → Span) (x : ℕ) where
-  gather-start : (q n : ℕ) (t : Span) → gather b c f q n t .from ≤ x → (t .from ≤ x) ⊎ Among (Starts b c f x) q n
+module _ (b : ℕ) (low high : ℕ → ℕ) (f : ℕ → Span) (x : ℕ) where
+  gather-start : (q n : ℕ) (t : Span) → gather b low high f q n t .from ≤ x → (t .from ≤ x) ⊎ Among (Starts b low high f x) q n
   unfolding gather
   gather-start q zero t h = inl h
   gather-start q (suc n) t h = go (nonempty (f q)) refl (gather-start (suc q) n _ h)
     where
-      started : f q .from < f q .upto → (t .from ≤ x) ⊎ (x < t .from) → min (t .from) (f q .from + b - high-at c q) ≤ x → (t .from ≤ x) ⊎ Among (Starts b c f x) q (suc n)
+      started : f q .from < f q .upto → (t .from ≤ x) ⊎ (x < t .from) → min (t .from) (f q .from + b - high q) ≤ x → (t .from ≤ x) ⊎ Among (Starts b low high f x) q (suc n)
       started o (inl k) m = inl k
-      started o (inr k) m = inr (now-at (Starts b c f x) q n (omega arith))
+      started o (inr k) m = inr (now-at (Starts b low high f x) q n (omega arith))
 
-      go : (v : Bool) → nonempty (f q) ≡ v → (join-if v b (low-at c q) (high-at c q) (f q) t .from ≤ x) ⊎ Among (Starts b c f x) (suc q) n → (t .from ≤ x) ⊎ Among (Starts b c f x) q (suc n)
+      go : (v : Bool) → nonempty (f q) ≡ v → (join-if v b (low q) (high q) (f q) t .from ≤ x) ⊎ Among (Starts b low high f x) (suc q) n → (t .from ≤ x) ⊎ Among (Starts b low high f x) q (suc n)
       go v e (inr a) = inr (later _ q n a)
       go false e (inl k) = inl k
       go true e (inl k) = started (ltb-true _ _ e) (le-or-lt _ _) k
 
-  gather-end : (q n : ℕ) (t : Span) → x < gather b c f q n t .upto → (x < t .upto) ⊎ Among (Ends b c f x) q n
+  gather-end : (q n : ℕ) (t : Span) → x < gather b low high f q n t .upto → (x < t .upto) ⊎ Among (Ends b low high f x) q n
   unfolding gather
   gather-end q zero t h = inl h
   gather-end q (suc n) t h = go (nonempty (f q)) refl (gather-end (suc q) n _ h)
     where
-      ended : f q .from < f q .upto → (t .upto ≤ x) ⊎ (x < t .upto) → x < max (t .upto) (f q .upto + b - low-at c q) → (x < t .upto) ⊎ Among (Ends b c f x) q (suc n)
-      ended o (inl k) m = inr (now-at (Ends b c f x) q n (omega arith))
+      ended : f q .from < f q .upto → (t .upto ≤ x) ⊎ (x < t .upto) → x < max (t .upto) (f q .upto + b - low q) → (x < t .upto) ⊎ Among (Ends b low high f x) q (suc n)
+      ended o (inl k) m = inr (now-at (Ends b low high f x) q n (omega arith))
       ended o (inr k) m = inl k
 
-      go : (v : Bool) → nonempty (f q) ≡ v → (x < join-if v b (low-at c q) (high-at c q) (f q) t .upto) ⊎ Among (Ends b c f x) (suc q) n → (x < t .upto) ⊎ Among (Ends b c f x) q (suc n)
+      go : (v : Bool) → nonempty (f q) ≡ v → (x < join-if v b (low q) (high q) (f q) t .upto) ⊎ Among (Ends b low high f x) (suc q) n → (x < t .upto) ⊎ Among (Ends b low high f x) q (suc n)
       go v e (inr a) = inr (later _ q n a)
       go false e (inl k) = inl k
       go true e (inl k) = ended (ltb-true _ _ e) (le-or-lt _ _) k
 
-  gather-keeps : (q n : ℕ) (t : Span) → In t x → In (gather b c f q n t) x
+  gather-keeps : (q n : ℕ) (t : Span) → In t x → In (gather b low high f q n t) x
   unfolding gather
   gather-keeps q zero t i = i
   gather-keeps q (suc n) t i = gather-keeps (suc q) n _ (go (nonempty (f q)))
     where
-      go : (v : Bool) → In (join-if v b (low-at c q) (high-at c q) (f q) t) x
+      go : (v : Bool) → In (join-if v b (low q) (high q) (f q) t) x
       go true = omega arith
       go false = i
 
-  gather-now : (q n : ℕ) (t : Span) → nonempty (f q) ≡ true → In (shift-back b (low-at c q) (high-at c q) (f q)) x → In (gather b c f q (suc n) t) x
+  gather-now : (q n : ℕ) (t : Span) → nonempty (f q) ≡ true → In (shift-back b (low q) (high q) (f q)) x → In (gather b low high f q (suc n) t) x
   unfolding gather
   gather-now q n t e i = gather-keeps (suc q) n _ (go (nonempty (f q)) e)
     where
-      go : (v : Bool) → v ≡ true → In (join-if v b (low-at c q) (high-at c q) (f q) t) x
+      go : (v : Bool) → v ≡ true → In (join-if v b (low q) (high q) (f q) t) x
       go true k = omega arith
       go false k = let z : _≡_ {A = ℕ} 0 1 = cc in absurd (omega arith)
 
   -- what is in one of the spans shifted back, is in the gathered span
-  pub gather-complete : (q n : ℕ) (t : Span) (j : ℕ) → q ≤ j → j < q + n → nonempty (f j) ≡ true → In (shift-back b (low-at c j) (high-at c j) (f j)) x → In (gather b c f q n t) x
+  pub gather-complete : (q n : ℕ) (t : Span) (j : ℕ) → q ≤ j → j < q + n → nonempty (f j) ≡ true → In (shift-back b (low j) (high j) (f j)) x → In (gather b low high f q n t) x
   unfolding gather
   gather-complete q zero t j h k e i = absurd (omega arith)
   gather-complete q (suc n) t j h k e i = go (λ m. gather-complete (suc q) n _ j m (omega arith) e i) (lt-or-eq q j h)
     where
-      go : (q < j → In (gather b c f q (suc n) t) x) → (q < j) ⊎ (q ≡ j) → In (gather b c f q (suc n) t) x
+      go : (q < j → In (gather b low high f q (suc n) t) x) → (q < j) ⊎ (q ≡ j) → In (gather b low high f q (suc n) t) x
       go rec (inl m) = rec m
       go rec (inr m) = gather-now q n t (rw m e) (rw m i)
 
   -- what is in the gathered span is in one of the spans shifted back, if any two of these touch
-  pub gather-sound : (q n : ℕ) (t : Span) → x < t .from → t .upto ≡ 0 → Touching b c f q n → In (gather b c f q n t) x → Among (Inside b c f x) q n
+  pub gather-sound : (q n : ℕ) (t : Span) → x < t .from → t .upto ≡ 0 → Touching b low high f q n → In (gather b low high f q n t) x → Among (Inside b low high f x) q n
   gather-sound q n t k z touching i = go (gather-start q n t (i .above)) (gather-end q n t (i .below))
     where
-      one : (s : Among (Starts b c f x) q n) (e : Among (Ends b c f x) q n) → (f (s .at) .upto + b - low-at c (s .at) ≤ x) ⊎ (x < f (s .at) .upto + b - low-at c (s .at)) → Among (Inside b c f x) q n
+      one : (s : Among (Starts b low high f x) q n) (e : Among (Ends b low high f x) q n) → (f (s .at) .upto + b - low (s .at) ≤ x) ⊎ (x < f (s .at) .upto + b - low (s .at)) → Among (Inside b low high f x) q n
       one s e (inr h) = record { at = s .at; early = s .early; late = s .late; holds = omega arith }
       one s e (inl h) =
-          let m : Touch b c f (s .at) (e .at) = touching (s .at) (e .at) (s .early) (s .late) (e .early) (e .late) (s .holds .full) (e .holds .full) in
+          let m : Touch b low high f (s .at) (e .at) = touching (s .at) (e .at) (s .early) (s .late) (e .early) (e .late) (s .holds .full) (e .holds .full) in
           record { at = e .at; early = e .early; late = e .late; holds = omega arith }
 
-      go : (t .from ≤ x) ⊎ Among (Starts b c f x) q n → (x < t .upto) ⊎ Among (Ends b c f x) q n → Among (Inside b c f x) q n
+      go : (t .from ≤ x) ⊎ Among (Starts b low high f x) q n → (x < t .upto) ⊎ Among (Ends b low high f x) q n → Among (Inside b low high f x) q n
       go (inl h) e = absurd (omega arith)
       go (inr s) (inl h) = absurd (omega arith)
       go (inr s) (inr e) = one s e (le-or-lt _ _)

@@ -23,42 +23,50 @@ first f q zero = q
 first f q (suc n) = elim (f q) [ true ↦ q | false ↦ first f (suc q) n ]
 
 -- the least separation whose limit is open (low ≤ high), up to the last of the list
-unfoldable pub least-open : List Limit → ℕ
-least-open c = first (λ q. leb (low-at c q) (high-at c q)) 0 (suc (last c))
+unfoldable pub first-open : (low high : ℕ → ℕ) → (last : ℕ) → ℕ
+first-open low high m = first (λ q. leb (low q) (high q)) 0 (suc m)
+
+abbrev pub least-open : List Limit → ℕ
+least-open c = first-open (low-at c) (high-at c) (last c)
 
 -- the sum of the last separations: no greater total is of use
 unfoldable pub most : List Level → ℕ
 most [] = 0
 most (c ∷ cs) = last (c .limits) + most cs
 
--- the first separation of use in the channel c with the levels cs above, at the total v: it is open, and what it leaves is at most what cs can use
-unfoldable pub start : Level → List Level → (v : ℕ) → ℕ
-start c cs v = max (least-open (c .limits)) (min (last (c .limits)) (v - most cs))
+-- the separations of use at the total v: from the least open one, or the one that leaves what the levels above can use; to the last one, or v
+unfoldable pub start : (least last above v : ℕ) → ℕ
+start o m a v = max o (min m (v - a))
 
--- one past the last separation of use
-unfoldable pub stop : Level → (v : ℕ) → ℕ
-stop c v = suc (min v (last (c .limits)))
+unfoldable pub stop : (last v : ℕ) → ℕ
+stop m v = suc (min v m)
+
+-- the positions in w from which the strip above is within the limits of some position in f u, where u is left of v by the separation
+unfoldable pub cell : (b : ℕ) → (low high : ℕ → ℕ) → (least last above : ℕ) → (f : ℕ → Span) → (w : Span) → (v : ℕ) → Span
+cell b low high o m a f w v =
+    cut w (gather b low high (λ q. f (v - q)) (start o m a v) (stop m v - start o m a v) (span (w .upto) 0))
 
 -- BACK: the bottom strip's positions from which the levels can be placed with a total of at most v
 unfoldable pub back : (b : ℕ) → Span → List Level → (v : ℕ) → Span
 back b w [] v = w
 back b w (c ∷ cs) v =
-    cut w
-    (gather b (c .limits) (λ q. back b (c .window) cs (v - q)) (start c cs v) (stop c v - start c cs v) (span (w .upto) 0))
+    cell b (low-at (c .limits)) (high-at (c .limits)) (least-open (c .limits)) (last (c .limits)) (most cs) (λ u. back b (c .window) cs u) w v
 
 -- THE LEAST TOTAL; one more than the greatest of use if nothing can be placed
 unfoldable pub least-total : (b : ℕ) → Span → List Level → ℕ
 least-total b w cs = first (λ v. nonempty (back b w cs v)) 0 (suc (most cs))
 
--- with the bottom strip in the span s: separation q leaves the levels above the channel c a position from which the rest of v is enough
-unfoldable pub serves : (b : ℕ) → Span → Level → List Level → (v q : ℕ) → Bool
-serves b s c cs v q =
-    nonempty
-    (cut (shift-on b (low-at (c .limits) q) (high-at (c .limits) q) s) (back b (c .window) cs (min (v - q) (most cs))))
+-- with the strip below in s: separation q leaves the strip above a position in the span f u, where u is what is left of v, or a if that is less
+unfoldable pub serves : (b : ℕ) → (low high : ℕ → ℕ) → (above : ℕ) → (f : ℕ → Span) → Span → (v q : ℕ) → Bool
+serves b low high a f s v q = nonempty (cut (shift-on b (low q) (high q) s) (f (min (v - q) a)))
 
 -- the least separation that serves
-unfoldable pub least-serving : (b : ℕ) → Span → Level → List Level → (v : ℕ) → ℕ
-least-serving b s c cs v = first (serves b s c cs v) (least-open (c .limits)) (stop c v - least-open (c .limits))
+unfoldable pub first-serving : (b : ℕ) → (low high : ℕ → ℕ) → (least last above : ℕ) → (f : ℕ → Span) → Span → (v : ℕ) → ℕ
+first-serving b low high o m a f s v = first (serves b low high a f s v) o (stop m v - o)
+
+abbrev pub least-serving : (b : ℕ) → Span → Level → List Level → (v : ℕ) → ℕ
+least-serving b s c cs v =
+    first-serving b (low-at (c .limits)) (high-at (c .limits)) (least-open (c .limits)) (last (c .limits)) (most cs) (λ u. back b (c .window) cs u) s v
 
 -- the positions of the strip on top of the channel c, for the strip below in s and separation q
 unfoldable pub forward : (b : ℕ) → Span → Level → (q : ℕ) → Span

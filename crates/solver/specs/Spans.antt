@@ -65,7 +65,7 @@ abbrev pub join-if : Bool → (b l r : ℕ) → Span → Span → Span
 join-if true b l r s t = join t (shift-back b l r s)
 join-if false b l r s t = t
 
--- a span joined with f q, f (q + 1), .., n of them, each shifted back by the channel's limits at that separation
-unfoldable pub gather : (b : ℕ) → List Limit → (ℕ → Span) → (q n : ℕ) → Span → Span
-gather b c f q zero t = t
-gather b c f q (suc n) t = gather b c f (suc q) n (join-if (nonempty (f q)) b (low-at c q) (high-at c q) (f q) t)
+-- a span joined with f q, f (q + 1), .., n of them, each shifted back by the limit at that separation
+unfoldable pub gather : (b : ℕ) → (low high : ℕ → ℕ) → (ℕ → Span) → (q n : ℕ) → Span → Span
+gather b low high f q zero t = t
+gather b low high f q (suc n) t = gather b low high f (suc q) n (join-if (nonempty (f q)) b (low q) (high q) (f q) t)
