@@ -8,3 +8,4 @@ pub mod Order
 pub mod Separations
 pub mod Positions
 pub mod Best
+pub mod Loops

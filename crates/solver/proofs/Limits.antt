@@ -2,15 +2,13 @@
 -- separation fits at every greater one.
 -- Assumes nothing.
 use mathlib.Core.Path.{_≡_, refl, ap}
-use mathlib.Core.Bool.{Bool, true}
 use mathlib.Core.List.{List}
 use Prim.Native.Nat.{ℕ, suc, _+_, _≤_, _<_, min}
 use native.Mathlib.Omega.{arith}
-use lib.Dec.{leb}
 use lib.ListN.{getD}
 use borrow.Author.Tests.{leb-true, le-leb}
 use Rattle.solver.specs.Spans.{Limit, limit, Fits, last, low-at, high-at}
-use Rattle.solver.specs.Solver.{first-open, least-open}
+use Rattle.solver.specs.Solver.{opens, first-open, least-open}
 use Rattle.solver.specs.Placed.{Widens}
 use Rattle.solver.proofs.First.{first-holds, first-least}
 
@@ -23,19 +21,16 @@ module _ (c : List Limit) where
   unfolding high-at
   high-capped q = ap (λ (i : ℕ). getD c i (limit 0 0) .high) (omega arith)
 
-  abbrev opens : ℕ → Bool
-  opens q = leb (low-at c q) (high-at c q)
-
   -- an open separation is not below the least one
   pub least-open-least : (q : ℕ) → low-at c q ≤ high-at c q → least-open c ≤ min q (last c)
   unfolding first-open
   least-open-least q h =
-      first-least opens 0 (suc (last c)) (min q (last c)) (omega arith) (omega arith)
+      first-least (opens (low-at c) (high-at c)) 0 (suc (last c)) (min q (last c)) (omega arith) (omega arith)
       (le-leb (low-at c (min q (last c))) (high-at c (min q (last c))) (omega (arith, low-capped q, high-capped q)))
 
   least-open-opens : least-open c ≤ last c → low-at c (least-open c) ≤ high-at c (least-open c)
   unfolding first-open
-  least-open-opens h = leb-true _ _ (first-holds opens 0 (suc (last c)) (omega arith))
+  least-open-opens h = leb-true _ _ (first-holds (opens (low-at c) (high-at c)) 0 (suc (last c)) (omega arith))
 
   -- an open separation, and all from it on
   pub open-on : Widens c → (q : ℕ) → least-open c ≤ q → q ≤ last c → low-at c q ≤ high-at c q

@@ -2,3 +2,5 @@
 pub mod Spans
 pub mod Solver
 pub mod Placed
+pub mod Arrays
+pub mod Loops

@@ -22,9 +22,12 @@ unfoldable pub first : (ℕ → Bool) → (q n : ℕ) → ℕ
 first f q zero = q
 first f q (suc n) = elim (f q) [ true ↦ q | false ↦ first f (suc q) n ]
 
+abbrev pub opens : (low high : ℕ → ℕ) → (q : ℕ) → Bool
+opens low high q = leb (low q) (high q)
+
 -- the least separation whose limit is open (low ≤ high), up to the last of the list
 unfoldable pub first-open : (low high : ℕ → ℕ) → (last : ℕ) → ℕ
-first-open low high m = first (λ q. leb (low q) (high q)) 0 (suc m)
+first-open low high m = first (opens low high) 0 (suc m)
 
 abbrev pub least-open : List Limit → ℕ
 least-open c = first-open (low-at c) (high-at c) (last c)
