@@ -61,7 +61,7 @@ module _ (b : ℕ) where
 
   module _ (c : Level) (cs : List Level) (wide : Widens (c .limits)) where
     step-complete : Complete cs → Complete (c ∷ cs)
-    unfolding back cell sum start stop
+    unfolding back cell sum
     step-complete rec w v ts x ys (under {t = t} {y = y} i f r) h =
         let k : Capped (c .window) cs _ y _ = capped r in
         let l : ℕ = last (c .limits) in
@@ -94,7 +94,6 @@ module _ (b : ℕ) where
 
       -- a separation in the range of use is open, in the list, and at most v
       usable : (v q : ℕ) → start (least-open (c .limits)) (last (c .limits)) (most cs) v ≤ q → q < start (least-open (c .limits)) (last (c .limits)) (most cs) v + (stop (last (c .limits)) v - start (least-open (c .limits)) (last (c .limits)) (most cs) v) → (least-open (c .limits) ≤ q) × (q ≤ last (c .limits)) × (q ≤ v)
-      unfolding start stop
       usable v q h k = in-use (least-open (c .limits)) (min (last (c .limits)) (v - most cs)) (last (c .limits)) v q h k
 
       touching : (v : ℕ) → Touching b (low-at (c .limits)) (high-at (c .limits)) (spans v) (start (least-open (c .limits)) (last (c .limits)) (most cs) v) (stop (last (c .limits)) v - start (least-open (c .limits)) (last (c .limits)) (most cs) v)

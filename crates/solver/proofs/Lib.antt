@@ -9,3 +9,4 @@ pub mod Separations
 pub mod Positions
 pub mod Best
 pub mod Loops
+pub mod Cells

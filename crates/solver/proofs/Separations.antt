@@ -45,7 +45,7 @@ module _ (b : ℕ) (c : Level) (cs : List Level) (wide : Widens (c .limits)) (wi
       (back-complete b cs wides (c .window) _ (k .us) y ys (k .placed) (omega arith)))
 
   not-above : (t x y : ℕ) (us ys : List ℕ) → In s x → Fits b (low-at (c .limits) t) (high-at (c .limits) t) x y → Placed b (c .window) cs us y ys → t + sum us ≤ v → (q₀ ≤ min t (last (c .limits))) × (least-open (c .limits) ≤ min t (last (c .limits)))
-  unfolding first-serving stop
+  unfolding first-serving
   not-above t x y us ys i f r h =
       let o : least-open (c .limits) ≤ min t (last (c .limits)) = least-open-least (c .limits) t (fits-open b _ _ x y f) in
       (first-least (serving-at) (least-open (c .limits)) _ (min t (last (c .limits))) o (omega arith) (serving t x y us ys i f r h), o)
@@ -67,7 +67,7 @@ module _ (b : ℕ) (c : Level) (cs : List Level) (wide : Widens (c .limits)) (wi
     rest : (y : ℕ) × Can b (forward b s c q₀) cs (v - q₀) y
 
   served : (x : ℕ) → Can b s (c ∷ cs) v x → Served
-  unfolding sum first-serving stop
+  unfolding sum first-serving
   served x k = go (k .ts) (k .ys) (k .placed) (k .within)
     where
       go : (ts ys : List ℕ) → Placed b s (c ∷ cs) ts x ys → sum ts ≤ v → Served

@@ -23,3 +23,11 @@ pub record Gathers (v start stop : ℕ) (froms uptos : List ℕ) : Type 0 where
   pub within : stop ≤ suc v
   pub starts : (u : ℕ) → u + start ≤ v → entry froms u ≤ bias
   pub ends : (u : ℕ) → u + start ≤ v → entry uptos u ≤ bias
+
+-- what one cell of the tables of spans asks
+pub record Cell (v last above : ℕ) (froms uptos : List ℕ) : Type 0 where
+  pub total : v < 257
+  pub listed : last < 33
+  pub of-use : v ≤ last + above
+  pub starts : (u : ℕ) → u ≤ v → u ≤ above → entry froms u ≤ bias
+  pub ends : (u : ℕ) → u ≤ v → u ≤ above → entry uptos u ≤ bias

@@ -38,10 +38,10 @@ most [] = 0
 most (c ∷ cs) = last (c .limits) + most cs
 
 -- the separations of use at the total v: from the least open one, or the one that leaves what the levels above can use; to the last one, or v
-unfoldable pub start : (least last above v : ℕ) → ℕ
+abbrev pub start : (least last above v : ℕ) → ℕ
 start o m a v = max o (min m (v - a))
 
-unfoldable pub stop : (last v : ℕ) → ℕ
+abbrev pub stop : (last v : ℕ) → ℕ
 stop m v = suc (min v m)
 
 -- the positions in w from which the strip above is within the limits of some position in f u, where u is left of v by the separation

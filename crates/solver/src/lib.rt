@@ -8,10 +8,14 @@ ghost use Prim.Native.Nat.{ℕ, _+_, _-_, _≤_, _<_};
 ghost use lib.ListN.{getD};
 ghost use lib.Dec.{ltb};
 ghost use Rattle.solver.specs.Spans.{span, join-if, gather};
-ghost use Rattle.solver.specs.Solver.{first-open};
-ghost use Rattle.solver.specs.Arrays.{bias, entry, spans-of, Gathers};
+ghost use Rattle.solver.specs.Solver.{first-open, start, stop, cell};
+ghost use Rattle.solver.specs.Arrays.{bias, entry, spans-of, Gathers, Cell};
 
 const SEPARATIONS: usize = Stack::MAX_SEPARATION + 1;
+
+const CHANNELS: usize = Stack::MAX_CHANNELS;
+
+const STRIPS: usize = Stack::MAX_CHANNELS + 1;
 
 const TOTALS: usize = Stack::MAX_TOTAL + 1;
 
@@ -74,4 +78,77 @@ fn gather(
         q += 1;
     }
     s
+}
+
+// The first separation of use in a channel at total v: an open one that leaves no more than the levels above can use.
+fn start(least: usize, last: usize, above: usize, v: usize) -> usize
+    ensures { λ r. ⌜ r ≡ start least last above v ⌝ }
+{
+    let needed = lesser(last as u64, difference(v as u64, above as u64));
+    greater(least as u64, needed) as usize
+}
+
+// One past the last separation of use.
+fn stop(last: usize, v: usize) -> usize
+    requires { ⌜ v < 257 ⌝ }
+    ensures { λ r. ⌜ r ≡ stop last v ⌝ }
+{
+    lesser(v as u64, last as u64) as usize + 1
+}
+
+// The positions of a strip, from its window (from, upto), from which the strips above can be placed with total v.
+fn cell(
+    low: &[u64; SEPARATIONS],
+    high: &[u64; SEPARATIONS],
+    froms: &[u64; TOTALS],
+    uptos: &[u64; TOTALS],
+    v: usize,
+    least: usize,
+    last: usize,
+    above: usize,
+    from: u64,
+    upto: u64,
+) -> Span
+    requires { ⌜ Cell v last above (now froms) (now uptos) ⌝ }
+    ensures { λ r. ⌜ span (r .from) (r .upto) ≡ cell bias (entry (now (low .entry))) (entry (now (high .entry))) least last above (spans-of (now (froms .entry)) (now (uptos .entry))) (span from upto) v ⌝ }
+{
+    let s = gather(
+        low,
+        high,
+        froms,
+        uptos,
+        v,
+        start(least, last, above, v),
+        stop(last, v),
+        upto,
+    );
+    Span {
+        from: greater(from, s.from),
+        upto: lesser(upto, s.upto),
+    }
+}
+
+// Row i of the tables of spans, for totals up to end, from row i + 1.
+fn fill_row(
+    low: &[u64; SEPARATIONS],
+    high: &[u64; SEPARATIONS],
+    i: usize,
+    last: usize,
+    above: usize,
+    from: u64,
+    upto: u64,
+    end: usize,
+    froms: &mut [[u64; TOTALS]; STRIPS],
+    uptos: &mut [[u64; TOTALS]; STRIPS],
+)
+    requires { ⌜ i < 8 ⌝ }
+{
+    let least = least_open(low, high, last);
+    let mut v = 0;
+    while v <= end {
+        let s = cell(low, high, &froms[i + 1], &uptos[i + 1], v, least, last, above, from, upto);
+        froms[i][v] = s.from;
+        uptos[i][v] = s.upto;
+        v += 1;
+    }
 }
