@@ -13,12 +13,13 @@ left-over v o m a u h k = omega arith
 
 pub cell-asks : (v o m a s e : ℕ) (froms uptos : List ℕ) → Cell v m a froms uptos → s ≡ start o m a v → e ≡ stop m v → Gathers v s e froms uptos
 cell-asks v o m a s e froms uptos c p q =
-    record
-    { total = c .total;
+    record {
+      total = c .total;
       listed = omega arith;
       within = omega arith;
       starts = λ u h. let k : (u ≤ v) × (u ≤ a) = left-over v o m a u (c .of-use) (rw p at h) in c .starts u (k .0) (k .1);
-      ends = λ u h. let k : (u ≤ v) × (u ≤ a) = left-over v o m a u (c .of-use) (rw p at h) in c .ends u (k .0) (k .1) }
+      ends = λ u h. let k : (u ≤ v) × (u ≤ a) = left-over v o m a u (c .of-use) (rw p at h) in c .ends u (k .0) (k .1);
+    }
 
 module _ (b : ℕ) (low high : ℕ → ℕ) (o m a : ℕ) (f : ℕ → Span) (from upto v : ℕ) where
   pub cell-is : (s e i j x y : ℕ) → span i j ≡ gather b low high (λ q. f (v - q)) s (e - s) (span upto 0) → s ≡ start o m a v → e ≡ stop m v → x ≡ max from i → y ≡ min upto j → span x y ≡ cell b low high o m a f (span from upto) v

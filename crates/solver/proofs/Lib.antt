@@ -10,3 +10,4 @@ pub mod Positions
 pub mod Best
 pub mod Loops
 pub mod Cells
+pub mod Tables

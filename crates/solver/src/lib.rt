@@ -9,7 +9,7 @@ ghost use lib.ListN.{getD};
 ghost use lib.Dec.{ltb};
 ghost use Rattle.solver.specs.Spans.{span, join-if, gather};
 ghost use Rattle.solver.specs.Solver.{first-open, start, stop, cell};
-ghost use Rattle.solver.specs.Arrays.{bias, entry, spans-of, Gathers, Cell};
+ghost use Rattle.solver.specs.Arrays.{bias, separations-held, totals-held, entry, spans-of, Gathers, Cell, row, Row-asks, Row-filled};
 
 const SEPARATIONS: usize = Stack::MAX_SEPARATION + 1;
 
@@ -27,7 +27,7 @@ struct Span {
 
 // The least separation whose limit is open, or one past the last.
 fn least_open(low: &[u64; SEPARATIONS], high: &[u64; SEPARATIONS], last: usize) -> usize
-    requires { ⌜ last < 33 ⌝ }
+    requires { ⌜ last < separations-held ⌝ }
     ensures { λ r. ⌜ r ≡ first-open (entry (now (low .entry))) (entry (now (high .entry))) last ⌝ }
 {
     let mut q = 0;
@@ -90,7 +90,7 @@ fn start(least: usize, last: usize, above: usize, v: usize) -> usize
 
 // One past the last separation of use.
 fn stop(last: usize, v: usize) -> usize
-    requires { ⌜ v < 257 ⌝ }
+    requires { ⌜ v < totals-held ⌝ }
     ensures { λ r. ⌜ r ≡ stop last v ⌝ }
 {
     lesser(v as u64, last as u64) as usize + 1
@@ -141,12 +141,24 @@ fn fill_row(
     froms: &mut [[u64; TOTALS]; STRIPS],
     uptos: &mut [[u64; TOTALS]; STRIPS],
 )
-    requires { ⌜ i < 8 ⌝ }
+    requires { ⌜ Row-asks i last above end (now froms) (now uptos) ⌝ }
+    ensures { λ _. ⌜ Row-filled i (end + 1) (cell bias (entry (now (low .entry))) (entry (now (high .entry))) (first-open (entry (now (low .entry))) (entry (now (high .entry))) last) last above (spans-of (row (now (froms .entry)) (i + 1)) (row (now (uptos .entry)) (i + 1))) (span from upto)) (now (froms .entry)) (now (uptos .entry)) (now (froms .exit)) (now (uptos .exit)) ⌝ }
 {
     let least = least_open(low, high, last);
     let mut v = 0;
     while v <= end {
-        let s = cell(low, high, &froms[i + 1], &uptos[i + 1], v, least, last, above, from, upto);
+        let s = cell(
+            low,
+            high,
+            &froms[i + 1],
+            &uptos[i + 1],
+            v,
+            least,
+            last,
+            above,
+            from,
+            upto,
+        );
         froms[i][v] = s.from;
         uptos[i][v] = s.upto;
         v += 1;

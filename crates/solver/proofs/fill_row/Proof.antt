@@ -1,99 +1,92 @@
+use Prim.Native.Nat.{ℕ, suc, _-_, _+_}
+use mathlib.Core.List.{List}
+use native.Mathlib.Omega.{arith}
+use Rattle.solver.specs.Spans.{Span, span}
+use Rattle.solver.specs.Solver.{first-open, cell}
+use Rattle.solver.specs.Arrays.{bias, entry, spans-of, row, Row-filled}
+use Rattle.solver.proofs.Tables.{row-start, row-step, row-end, row-cell-asks, row-cell}
+use borrow.Author.Needs.{needs}
 use Rattle.solver.proofs.fill_row.Statement.{statement}
 use Rattle.solver.proofs.fill_row.Tie as tie
-use Rattle.solver.proofs.fill_row.Reads as reads
-use Rattle.solver.proofs.fill_row.Lts as lts
-use Rattle.solver.proofs.cell.Reads as cell-reads
-use Rattle.solver.proofs.least_open.Reads as least-open-reads
+
+-- the cells of the row, by their totals
+abbrev row-of : (low high : List ℕ) → (i last above from upto : ℕ) → (froms uptos : List (List ℕ)) → ℕ → Span
+row-of low high i last above from upto froms uptos =
+    cell bias (entry low) (entry high) (first-open (entry low) (entry high) last) last above (spans-of (row froms (i + 1)) (row uptos (i + 1))) (span from upto)
 
 abbrev Inv-loop : tie.InvT-loop
-Inv-loop low high i last above from upto end froms₀ uptos₀ least v₀ froms uptos v = ?
+Inv-loop low high i last above from upto end froms₀ uptos₀ least v₀ froms uptos v = Row-filled i v (row-of low high i last above from upto froms₀ uptos₀) froms₀ uptos₀ froms uptos
 
 abbrev μ-loop : tie.MeasureT-loop
-μ-loop low high i last above from upto end froms₀ uptos₀ least v₀ froms uptos v = ?
+μ-loop low high i last above from upto end froms₀ uptos₀ least v₀ froms uptos v = suc end - v
 
--- src/lib.rt:146:9
 least-open-requires : tie.Need-least-open-requires Inv-loop μ-loop
-least-open-requires c κs = ?
+least-open-requires c κs = c .pre .listed
 
--- src/lib.rt:148:5
 loop-holds : tie.Need-loop-holds Inv-loop μ-loop
-loop-holds c = ?
+loop-holds c = row-start _ _ _ _ (c .before .pre .sized-froms) (c .before .pre .sized-uptos)
 
--- src/lib.rt:149:40
 add-cell : tie.Need-add-cell Inv-loop μ-loop
-add-cell c = ?
+add-cell c = search needs
 
--- src/lib.rt:149:33
 mul-cell : tie.Need-mul-cell Inv-loop μ-loop
-mul-cell c = ?
+mul-cell c = search needs
 
--- src/lib.rt:149:33
 index-1-cell : tie.Need-index-1-cell Inv-loop μ-loop
-index-1-cell c = ?
+index-1-cell c = search needs
 
--- src/lib.rt:149:55
 add-cell-2 : tie.Need-add-cell-2 Inv-loop μ-loop
-add-cell-2 c = ?
+add-cell-2 c = search needs
 
--- src/lib.rt:149:48
 mul-cell-2 : tie.Need-mul-cell-2 Inv-loop μ-loop
-mul-cell-2 c = ?
+mul-cell-2 c = search needs
 
--- src/lib.rt:149:48
 index-1-cell-2 : tie.Need-index-1-cell-2 Inv-loop μ-loop
-index-1-cell-2 c = ?
+index-1-cell-2 c = search needs
 
--- src/lib.rt:149:13
 cell-requires : tie.Need-cell-requires Inv-loop μ-loop
-cell-requires c κs = ?
+cell-requires c κs =
+    let a = c .before .before .before in
+    row-cell-asks _ _ _ _ _ _ _ _ _ _ (a .before .before .pre) (a .loop .inv) (omega arith)
 
--- src/lib.rt:150:9
 mul-froms : tie.Need-mul-froms Inv-loop μ-loop
-mul-froms c = ?
+mul-froms c = search needs
 
--- src/lib.rt:150:9
 mul-froms-2 : tie.Need-mul-froms-2 Inv-loop μ-loop
-mul-froms-2 c = ?
+mul-froms-2 c = search needs
 
--- src/lib.rt:150:9
 index-1-froms : tie.Need-index-1-froms Inv-loop μ-loop
-index-1-froms c = ?
+index-1-froms c = search needs
 
--- src/lib.rt:150:9
 index-2-froms : tie.Need-index-2-froms Inv-loop μ-loop
-index-2-froms c = ?
+index-2-froms c = search needs
 
--- src/lib.rt:151:9
 mul-uptos : tie.Need-mul-uptos Inv-loop μ-loop
-mul-uptos c = ?
+mul-uptos c = search needs
 
--- src/lib.rt:151:9
 mul-uptos-2 : tie.Need-mul-uptos-2 Inv-loop μ-loop
-mul-uptos-2 c = ?
+mul-uptos-2 c = search needs
 
--- src/lib.rt:151:9
 index-1-uptos : tie.Need-index-1-uptos Inv-loop μ-loop
-index-1-uptos c = ?
+index-1-uptos c = search needs
 
--- src/lib.rt:151:9
 index-2-uptos : tie.Need-index-2-uptos Inv-loop μ-loop
-index-2-uptos c = ?
+index-2-uptos c = search needs
 
--- src/lib.rt:152:9
 add-v : tie.Need-add-v Inv-loop μ-loop
-add-v c = ?
+add-v c = search needs
 
--- src/lib.rt:148:5
 loop-less : tie.Need-loop-less Inv-loop μ-loop
-loop-less c = ?
+loop-less c = search needs
 
--- src/lib.rt:148:5
 loop-again : tie.Need-loop-again Inv-loop μ-loop
-loop-again c = ?
+loop-again c =
+    let a = c .before .before .before .before in
+    row-step _ _ _ _ _ _ _ _ _ (a .loop .inv) (omega arith) (omega arith)
+    (row-cell _ _ _ _ _ _ _ _ _ _ (a .before .before .pre) (a .loop .inv) _ _ _ _ _ _ (a .before .least-open .ensures) (c .cell .ensures))
 
--- src/lib.rt:132:1
 returns : tie.Need-returns Inv-loop μ-loop
-returns c = ?
+returns c = row-end _ _ _ _ _ _ _ _ (c .before .loop .inv) (omega arith)
 
 pub fill-row-spec : {M : Type 1} → statement M
 fill-row-spec =
