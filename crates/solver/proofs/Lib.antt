@@ -11,3 +11,5 @@ pub mod Best
 pub mod Loops
 pub mod Cells
 pub mod Tables
+pub mod Levels
+pub mod Filling

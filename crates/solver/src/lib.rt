@@ -9,7 +9,7 @@ ghost use lib.ListN.{getD};
 ghost use lib.Dec.{ltb};
 ghost use Rattle.solver.specs.Spans.{span, join-if, gather};
 ghost use Rattle.solver.specs.Solver.{first-open, start, stop, cell};
-ghost use Rattle.solver.specs.Arrays.{bias, separations-held, totals-held, entry, spans-of, Gathers, Cell, row, Row-asks, Row-filled};
+ghost use Rattle.solver.specs.Arrays.{bias, separations-held, totals-held, entry, spans-of, Gathers, Cell, row, Row-asks, Row-filled, given, Fill-asks, Fill-leaves};
 
 const SEPARATIONS: usize = Stack::MAX_SEPARATION + 1;
 
@@ -163,4 +163,44 @@ fn fill_row(
         uptos[i][v] = s.upto;
         v += 1;
     }
+}
+
+// The tables of spans for strips k to 1, for totals up to cap; the sum of the last separations of the channels above channel 0.
+fn fill(
+    low: &[[u64; SEPARATIONS]; CHANNELS],
+    high: &[[u64; SEPARATIONS]; CHANNELS],
+    counts: &[usize; CHANNELS],
+    from: &[u64; STRIPS],
+    upto: &[u64; STRIPS],
+    k: usize,
+    cap: usize,
+    froms: &mut [[u64; TOTALS]; STRIPS],
+    uptos: &mut [[u64; TOTALS]; STRIPS],
+) -> usize
+    requires { ⌜ Fill-asks (given (now low) (now high) (now counts) (now from) (now upto)) k cap (now froms) (now uptos) ⌝ }
+    ensures { λ r. ⌜ Fill-leaves (given (now (low .entry)) (now (high .entry)) (now (counts .entry)) (now (from .entry)) (now (upto .entry))) k cap (now (froms .exit)) (now (uptos .exit)) r ⌝ }
+{
+    froms[k][0] = from[k];
+    uptos[k][0] = upto[k];
+    let mut above = 0;
+    let mut i = k;
+    while 1 < i {
+        i -= 1;
+        let last = counts[i];
+        let end = lesser(cap as u64, (last + above) as u64) as usize;
+        fill_row(
+            &low[i],
+            &high[i],
+            i,
+            last,
+            above,
+            from[i],
+            upto[i],
+            end,
+            froms,
+            uptos,
+        );
+        above += last;
+    }
+    above
 }
