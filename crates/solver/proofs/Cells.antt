@@ -25,3 +25,18 @@ module _ (b : ℕ) (low high : ℕ → ℕ) (o m a : ℕ) (f : ℕ → Span) (fr
   pub cell-is : (s e i j x y : ℕ) → span i j ≡ gather b low high (λ q. f (v - q)) s (e - s) (span upto 0) → s ≡ start o m a v → e ≡ stop m v → x ≡ max from i → y ≡ min upto j → span x y ≡ cell b low high o m a f (span from upto) v
   unfolding cell
   cell-is s e i j x y g p q h k = rw (h, k) (ap (cut (span from upto)) (rw (p, q) at g))
+
+-- a cell with another name for the least open separation
+pub cell-open : (b : ℕ) (low high : ℕ → ℕ) (o o₀ m a : ℕ) (f : ℕ → Span) (w : Span) (v : ℕ) (s : Span) → o ≡ o₀ → s ≡ cell b low high o m a f w v → s ≡ cell b low high o₀ m a f w v
+cell-open b low high o o₀ m a f w v s e c = rw e at c
+
+-- what is asked for a total is asked for each smaller one
+pub cell-asks-less : (u v m a : ℕ) (froms uptos : List ℕ) → u ≤ v → Cell v m a froms uptos → Cell u m a froms uptos
+cell-asks-less u v m a froms uptos h c =
+    record {
+      total = omega (arith, c .total);
+      listed = c .listed;
+      of-use = omega (arith, c .of-use);
+      starts = λ t k n. c .starts t (omega arith) n;
+      ends = λ t k n. c .ends t (omega arith) n;
+    }

@@ -7,8 +7,8 @@ use native.Mathlib.Numerals.{add-one}
 use native.Mathlib.Omega.{arith}
 use lib.Dec.{ltb}
 use borrow.Author.Tests.{lt-ltb, le-ltb}
-use Rattle.solver.specs.Spans.{Span, span, nonempty, join-if, gather}
-use Rattle.solver.specs.Solver.{opens, first, first-open}
+use Rattle.solver.specs.Spans.{Span, span, cut, shift-on, nonempty, join-if, gather}
+use Rattle.solver.specs.Solver.{opens, first, first-open, first-total, stop, serves, first-serving}
 use Rattle.solver.specs.Loops.{Searching, Gathering}
 use Rattle.solver.proofs.First.{first-hit, first-miss}
 
@@ -38,6 +38,34 @@ module _ (f : ℕ → Bool) (stop q : ℕ) where
 pub opening-start : (low high : ℕ → ℕ) (m : ℕ) → Searching (opens low high) (suc m) 0 (first-open low high m)
 unfolding first-open
 opening-start low high m = record { left = ap (first (opens low high) 0) (sub-zero (suc m)) }
+
+-- the search for the first total
+pub totalling-start : (f : ℕ → Span) (m : ℕ) → Searching (λ v. nonempty (f v)) (suc m) 0 (first-total f m)
+unfolding first-total
+totalling-start f m = record { left = ap (first (λ v. nonempty (f v)) 0) (sub-zero (suc m)) }
+
+-- the ends of a span tell whether it is empty
+module _ (x y : ℕ) (s : Span) (e : span x y ≡ s) where
+  pub ends-full : x < y → nonempty s ≡ true
+  ends-full h = rw (← e) (lt-ltb x y h)
+
+  pub ends-empty : y ≤ x → nonempty s ≡ false
+  ends-empty h = rw (← e) (le-ltb x y h)
+
+-- the search for a separation that serves
+module _ (b : ℕ) (low high : ℕ → ℕ) (a : ℕ) (f : ℕ → Span) (s : Span) (v q : ℕ) where
+  pub serving-start : (m o : ℕ) → q ≡ o → Searching (serves b low high a f s v) (stop m v) q (first-serving b low high o m a f s v)
+  unfolding first-serving
+  serving-start m o e = rw e (record { left = refl })
+
+  module _ (u x y : ℕ) (e : u ≡ min (v - q) a) (k : span x y ≡ cut (f u) (shift-on b (low q) (high q) s)) where
+    pub serves-full : x < y → serves b low high a f s v q ≡ true
+    unfolding serves
+    serves-full h = ends-full x y _ (rw e at k) h
+
+    pub serves-empty : y ≤ x → serves b low high a f s v q ≡ false
+    unfolding serves
+    serves-empty h = ends-empty x y _ (rw e at k) h
 
 -- one span joined, or left out
 module _ (b l h f u a e : ℕ) where

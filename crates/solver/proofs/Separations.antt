@@ -41,24 +41,24 @@ module _ (b : ℕ) (c : Level) (cs : List Level) (wide : Widens (c .limits)) (wi
   serving t x y us ys i f r h =
       let k : Capped b (c .window) cs us y ys = capped b r in
       in-nonempty _ y
-      (cut-both _ _ y (shift-on-complete b _ _ s x y i (fits-capped b (c .limits) t x y f))
-      (back-complete b cs wides (c .window) _ (k .us) y ys (k .placed) (omega arith)))
+      (cut-both _ _ y (back-complete b cs wides (c .window) _ (k .us) y ys (k .placed) (omega arith))
+      (shift-on-complete b _ _ s x y i (fits-capped b (c .limits) t x y f)))
 
   not-above : (t x y : ℕ) (us ys : List ℕ) → In s x → Fits b (low-at (c .limits) t) (high-at (c .limits) t) x y → Placed b (c .window) cs us y ys → t + sum us ≤ v → (q₀ ≤ min t (last (c .limits))) × (least-open (c .limits) ≤ min t (last (c .limits)))
   unfolding first-serving
   not-above t x y us ys i f r h =
       let o : least-open (c .limits) ≤ min t (last (c .limits)) = least-open-least (c .limits) t (fits-open b _ _ x y f) in
-      (first-least (serving-at) (least-open (c .limits)) _ (min t (last (c .limits))) o (omega arith) (serving t x y us ys i f r h), o)
+      (first-least serving-at (least-open (c .limits)) _ (min t (last (c .limits))) o (omega arith) (serving t x y us ys i f r h), o)
 
   -- what a separation that serves leaves: a position in the forward span from which the rest is enough
   rest-of : serving-at q₀ ≡ true → (y : ℕ) × Can b (forward b s c q₀) cs (v - q₀) y
   unfolding serves forward
   rest-of e = go _ (nonempty-in _ e)
     where
-      go : (y : ℕ) → In (cut (shift-on b (low-at (c .limits) q₀) (high-at (c .limits) q₀) s) (back b (c .window) cs (min (v - q₀) (most cs)))) y → (z : ℕ) × Can b (forward b s c q₀) cs (v - q₀) z
+      go : (y : ℕ) → In (cut (back b (c .window) cs (min (v - q₀) (most cs))) (shift-on b (low-at (c .limits) q₀) (high-at (c .limits) q₀) s)) y → (z : ℕ) × Can b (forward b s c q₀) cs (v - q₀) z
       go y i =
-          let k : Can b (c .window) cs (min (v - q₀) (most cs)) y = back-sound b cs wides (c .window) _ y (cut-right _ _ y i) in
-          (y, record { ts = k .ts; ys = k .ys; placed = in-window (forward b s c q₀) (cut-both (c .window) _ y (bottom-in (k .placed)) (cut-left _ _ y i)) (k .placed); within = omega (arith, k .within) })
+          let k : Can b (c .window) cs (min (v - q₀) (most cs)) y = back-sound b cs wides (c .window) _ y (cut-left _ _ y i) in
+          (y, record { ts = k .ts; ys = k .ys; placed = in-window (forward b s c q₀) (cut-both (c .window) _ y (bottom-in (k .placed)) (cut-right _ _ y i)) (k .placed); within = omega (arith, k .within) })
 
   record Served : Type 0 where
     opens : least-open (c .limits) ≤ q₀
@@ -73,8 +73,8 @@ module _ (b : ℕ) (c : Level) (cs : List Level) (wide : Widens (c .limits)) (wi
       go : (ts ys : List ℕ) → Placed b s (c ∷ cs) ts x ys → sum ts ≤ v → Served
       go ts ys (under {t = t} {y = y} {ts = us} {ys = zs} i f r) h =
           let n : (q₀ ≤ min t (last (c .limits))) × (least-open (c .limits) ≤ min t (last (c .limits))) = not-above t x y us zs i f r h in
-          let o : least-open (c .limits) ≤ q₀ = first-from (serving-at) _ _ in
-          record { opens = o; listed = omega arith; within = omega arith; rest = rest-of (first-holds (serving-at) _ _ (omega arith)) }
+          let o : least-open (c .limits) ≤ q₀ = first-from serving-at _ _ in
+          record { opens = o; listed = omega arith; within = omega arith; rest = rest-of (first-holds serving-at _ _ (omega arith)) }
 
 -- separations of some placement with the total v, first in dictionary order among the separations of all such placements
 pub record First-with (b : ℕ) (s : Span) (cs : List Level) (v : ℕ) (ts : List ℕ) : Type 0 where

@@ -7,7 +7,7 @@ use Prim.Native.Nat.{ℕ, suc, _+_, _-_, _≤_}
 use native.Mathlib.Omega.{arith}
 use Rattle.stack.specs.Stack.{sum}
 use Rattle.solver.specs.Spans.{Span, In, nonempty}
-use Rattle.solver.specs.Solver.{Level, most, back, least-total}
+use Rattle.solver.specs.Solver.{Level, most, back, first-total, least-total}
 use Rattle.solver.specs.Placed.{Placed, under, Can, Widening, more}
 use Rattle.solver.proofs.First.{first-holds, first-least}
 use Rattle.solver.proofs.Limits.{fits-wider}
@@ -43,7 +43,7 @@ module _ (b : ℕ) (w : Span) (cs : List Level) (wide : Widening cs) where
 
   module _ (us : List ℕ) (x : ℕ) (ys : List ℕ) (p : Placed b w cs us x ys) where
     capped-total : (k : Capped b w cs us x ys) → least-total b w cs ≤ sum (k .us)
-    unfolding least-total
+    unfolding least-total first-total
     capped-total k =
         first-least placeable 0 (suc (most cs)) (sum (k .us)) (omega arith) (omega (arith, k .enough))
         (in-nonempty _ x (back-complete b cs wide w (sum (k .us)) (k .us) x ys (k .placed) (omega arith)))
@@ -56,7 +56,7 @@ module _ (b : ℕ) (w : Span) (cs : List Level) (wide : Widening cs) where
 
   -- the span at the least total is not empty
   least-total-found : least-total b w cs ≤ most cs → In (back b w cs (least-total b w cs)) (back b w cs (least-total b w cs) .from)
-  unfolding least-total
+  unfolding least-total first-total
   least-total-found h = nonempty-in _ (first-holds placeable 0 (suc (most cs)) (omega arith))
 
   -- THE LEAST TOTAL IS REACHED, unless nothing can be placed, and then it is above the greatest total of use

@@ -1,7 +1,7 @@
 -- What the solver's arrays stand for. Assumes nothing: these are definitions.
 use mathlib.Core.Path.{_≡_}
 use mathlib.Core.List.{List, [], _∷_}
-use Prim.Native.Nat.{ℕ, zero, suc, _+_, _-_, _≤_, _<_}
+use Prim.Native.Nat.{ℕ, zero, suc, _+_, _-_, _*_, _≤_, _<_}
 use lib.ListN.{length, getD}
 use Rattle.solver.specs.Spans.{Span, span, Limit, limit}
 use Rattle.solver.specs.Solver.{Level, level, most, back}
@@ -119,6 +119,8 @@ pub record Stack-asks (g : Given) (k : ℕ) : Type 0 where
   pub listed : (i : ℕ) → i < k → count-of g i < separations-held
   pub starts : (i : ℕ) → i ≤ k → entry (g .froms) i ≤ bias
   pub ends : (i : ℕ) → i ≤ k → entry (g .uptos) i ≤ bias
+  pub lows : (i q : ℕ) → i < k → q ≤ count-of g i → low-of g i q ≤ 2 * bias
+  pub highs : (i q : ℕ) → i < k → q ≤ count-of g i → high-of g i q ≤ 2 * bias
 
 -- rows i to k of the tables hold the spans of their strips, for totals up to cap
 pub record Filled (g : Given) (k cap i : ℕ) (froms uptos : List (List ℕ)) : Type 0 where
@@ -135,3 +137,12 @@ pub record Fill-asks (g : Given) (k cap : ℕ) (froms uptos : List (List ℕ)) :
 pub record Fill-leaves (g : Given) (k cap : ℕ) (froms uptos : List (List ℕ)) (above : ℕ) : Type 0 where
   pub table : Filled g k cap 1 froms uptos
   pub above-first : above ≡ most (levels g 1 (k - 1))
+
+-- what the search for a separation asks of a channel, for the strip below in the span (from, upto)
+pub record Serve-asks (lows highs : List ℕ) (last above from upto : ℕ) : Type 0 where
+  pub listed : last < separations-held
+  pub total : above < totals-held
+  pub starts : from ≤ strips-held * bias
+  pub ends : upto ≤ bias
+  pub lows-small : (q : ℕ) → q ≤ last → entry lows q ≤ 2 * bias
+  pub highs-small : (q : ℕ) → q ≤ last → entry highs q ≤ 2 * bias

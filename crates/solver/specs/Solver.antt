@@ -55,13 +55,17 @@ back b w [] v = w
 back b w (c ∷ cs) v =
     cell b (low-at (c .limits)) (high-at (c .limits)) (least-open (c .limits)) (last (c .limits)) (most cs) (λ u. back b (c .window) cs u) w v
 
+-- the first total up to m whose span is not empty; m + 1 if there is none
+unfoldable pub first-total : (ℕ → Span) → (m : ℕ) → ℕ
+first-total f m = first (λ v. nonempty (f v)) 0 (suc m)
+
 -- THE LEAST TOTAL; one more than the greatest of use if nothing can be placed
 unfoldable pub least-total : (b : ℕ) → Span → List Level → ℕ
-least-total b w cs = first (λ v. nonempty (back b w cs v)) 0 (suc (most cs))
+least-total b w cs = first-total (back b w cs) (most cs)
 
 -- with the strip below in s: separation q leaves the strip above a position in the span f u, where u is what is left of v, or a if that is less
 unfoldable pub serves : (b : ℕ) → (low high : ℕ → ℕ) → (above : ℕ) → (f : ℕ → Span) → Span → (v q : ℕ) → Bool
-serves b low high a f s v q = nonempty (cut (shift-on b (low q) (high q) s) (f (min (v - q) a)))
+serves b low high a f s v q = nonempty (cut (f (min (v - q) a)) (shift-on b (low q) (high q) s))
 
 -- the least separation that serves
 unfoldable pub first-serving : (b : ℕ) → (low high : ℕ → ℕ) → (least last above : ℕ) → (f : ℕ → Span) → Span → (v : ℕ) → ℕ

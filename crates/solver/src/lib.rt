@@ -4,12 +4,12 @@ use numbers::greater;
 use numbers::lesser;
 use stack::Stack;
 ghost use mathlib.Core.Path.{_≡_};
-ghost use Prim.Native.Nat.{ℕ, _+_, _-_, _≤_, _<_};
+ghost use Prim.Native.Nat.{_+_, _-_, _*_, _≤_, _<_};
 ghost use lib.ListN.{getD};
 ghost use lib.Dec.{ltb};
-ghost use Rattle.solver.specs.Spans.{span, join-if, gather};
-ghost use Rattle.solver.specs.Solver.{first-open, start, stop, cell};
-ghost use Rattle.solver.specs.Arrays.{bias, separations-held, totals-held, entry, spans-of, Gathers, Cell, row, Row-asks, Row-filled, given, Fill-asks, Fill-leaves};
+ghost use Rattle.solver.specs.Spans.{span, cut, shift-on, join-if, gather};
+ghost use Rattle.solver.specs.Solver.{first-open, start, stop, cell, first-total, first-serving};
+ghost use Rattle.solver.specs.Arrays.{bias, strips-held, separations-held, totals-held, entry, spans-of, Gathers, Cell, row, Row-asks, Row-filled, given, Fill-asks, Fill-leaves, Serve-asks};
 
 const SEPARATIONS: usize = Stack::MAX_SEPARATION + 1;
 
@@ -90,7 +90,7 @@ fn start(least: usize, last: usize, above: usize, v: usize) -> usize
 
 // One past the last separation of use.
 fn stop(last: usize, v: usize) -> usize
-    requires { ⌜ v < totals-held ⌝ }
+    requires { ⌜ last < separations-held ⌝ }
     ensures { λ r. ⌜ r ≡ stop last v ⌝ }
 {
     lesser(v as u64, last as u64) as usize + 1
@@ -203,4 +203,68 @@ fn fill(
         above += last;
     }
     above
+}
+
+// The positions in the window (from, upto) that are within the limit (low, high) of some position in s.
+fn forward(s: Span, low: u64, high: u64, from: u64, upto: u64) -> Span
+    requires { ⌜ (s .from ≤ strips-held * bias) × (s .upto ≤ bias) × (low ≤ 2 * bias) × (high ≤ 2 * bias) ⌝ }
+    ensures { λ r. ⌜ span (r .from) (r .upto) ≡ cut (span from upto) (shift-on bias low high (span (s .from) (s .upto))) ⌝ }
+{
+    Span {
+        from: greater(from, difference(s.from + low, Stack::BIAS)),
+        upto: lesser(upto, difference(s.upto + high, Stack::BIAS)),
+    }
+}
+
+// The least separation of a channel that serves with total v, for the strip below in s; one past the last of use if none does.
+fn serving(
+    low: &[u64; SEPARATIONS],
+    high: &[u64; SEPARATIONS],
+    froms: &[u64; TOTALS],
+    uptos: &[u64; TOTALS],
+    last: usize,
+    above: usize,
+    s: Span,
+    v: usize,
+) -> usize
+    requires { ⌜ Serve-asks (now low) (now high) last above (s .from) (s .upto) ⌝ }
+    ensures { λ r. ⌜ r ≡ first-serving bias (entry (now (low .entry))) (entry (now (high .entry))) (first-open (entry (now (low .entry))) (entry (now (high .entry))) last) last above (spans-of (now (froms .entry)) (now (uptos .entry))) (span (s .from) (s .upto)) v ⌝ }
+{
+    let end = stop(last, v);
+    let mut q = least_open(low, high, last);
+    while q < end {
+        let u = lesser((v - q) as u64, above as u64) as usize;
+        let t = forward(s, low[q], high[q], froms[u], uptos[u]);
+        if t.from < t.upto {
+            return q;
+        }
+        q += 1;
+    }
+    q
+}
+
+// The least total with which the strip in the window (from, upto) can stand; one past the greatest of use if there is none.
+fn first_total(
+    low: &[u64; SEPARATIONS],
+    high: &[u64; SEPARATIONS],
+    froms: &[u64; TOTALS],
+    uptos: &[u64; TOTALS],
+    last: usize,
+    above: usize,
+    from: u64,
+    upto: u64,
+) -> usize
+    requires { ⌜ Cell (last + above) last above (now froms) (now uptos) ⌝ }
+    ensures { λ r. ⌜ r ≡ first-total (cell bias (entry (now (low .entry))) (entry (now (high .entry))) (first-open (entry (now (low .entry))) (entry (now (high .entry))) last) last above (spans-of (now (froms .entry)) (now (uptos .entry))) (span from upto)) (last + above) ⌝ }
+{
+    let least = least_open(low, high, last);
+    let mut v = 0;
+    while v <= last + above {
+        let s = cell(low, high, froms, uptos, v, least, last, above, from, upto);
+        if s.from < s.upto {
+            return v;
+        }
+        v += 1;
+    }
+    v
 }
