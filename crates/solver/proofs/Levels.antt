@@ -1,0 +1,114 @@
+-- The levels that the arrays stand for: their limits are the arrays' entries, and a span is worked out from the arrays as from the levels. Assumes nothing.
+use mathlib.Core.Path.{_≡_, refl, sym, ap, ap₂, _∙_}
+use mathlib.Core.Bool.{Bool, true, false}
+use mathlib.Core.List.{List, [], _∷_}
+use Prim.Native.Nat.{ℕ, zero, suc, _+_, _-_, _≤_, _<_, min, max}
+use native.Mathlib.Omega.{arith}
+use native.Mathlib.Nat.{add-zero, add-suc, suc-add}
+use lib.Dec.{leb}
+use lib.ListN.{length, getD}
+use Rattle.solver.specs.Spans.{Span, span, Limit, limit, last, low-at, high-at, cut, nonempty, join-if, gather}
+use Rattle.solver.specs.Solver.{Level, first, opens, first-open, least-open, most, start, stop, cell, back}
+use Rattle.solver.proofs.First.{first-hit, first-miss}
+use Rattle.solver.specs.Arrays.{bias, entry, Given, low-of, high-of, count-of, window-of, limits-from, levels}
+
+module _ (low high : ℕ → ℕ) where
+  limits-length : (q n : ℕ) → length (limits-from low high q n) ≡ n
+  unfolding limits-from
+  limits-length q zero = refl
+  limits-length q (suc n) = ap suc (limits-length (suc q) n)
+
+  limits-at : (q n j : ℕ) (d : Limit) → j < n → getD (limits-from low high q n) j d ≡ limit (low (q + j)) (high (q + j))
+  unfolding limits-from
+  limits-at q zero j d h = absurd (omega arith)
+  limits-at q (suc n) zero d h = rw add-zero
+  limits-at q (suc n) (suc j) d h = let e : suc q + j ≡ q + suc j = omega arith in rw (← e) (limits-at (suc q) n j d (omega arith))
+
+  pub last-of : (m : ℕ) → last (limits-from low high 0 (suc m)) ≡ m
+  unfolding last
+  last-of m = omega (arith, limits-length 0 (suc m))
+
+  entry-of : (m q : ℕ) → q ≤ m → getD (limits-from low high 0 (suc m)) (min q (last (limits-from low high 0 (suc m)))) (limit 0 0) ≡ limit (low q) (high q)
+  entry-of m q h =
+      let e : min q (last (limits-from low high 0 (suc m))) ≡ q = omega (arith, last-of m) in
+      let z : 0 + q ≡ q = omega arith in
+      rw e (rw z at (limits-at 0 (suc m) q (limit 0 0) (omega arith)))
+
+  pub low-at-of : (m q : ℕ) → q ≤ m → low-at (limits-from low high 0 (suc m)) q ≡ low q
+  unfolding low-at
+  low-at-of m q h = ap (λ (l : Limit). l .low) (entry-of m q h)
+
+  pub high-at-of : (m q : ℕ) → q ≤ m → high-at (limits-from low high 0 (suc m)) q ≡ high q
+  unfolding high-at
+  high-at-of m q h = ap (λ (l : Limit). l .high) (entry-of m q h)
+
+-- a separation of use is in the list and leaves a total of use
+in-use : (o m a v j : ℕ) → v ≤ m + a → start o m a v ≤ j → j < start o m a v + (stop m v - start o m a v) → (j ≤ m) × (v - j ≤ v) × (v - j ≤ a)
+in-use o m a v j h k n = omega arith
+
+-- what depends on a function only within a range is the same for two that agree there
+pub first-same : (f g : ℕ → Bool) (q n : ℕ) → ((j : ℕ) → q ≤ j → j < q + n → f j ≡ g j) → first f q n ≡ first g q n
+unfolding first
+first-same f g q zero h = refl
+first-same f g q (suc n) h =
+    go (f q) refl (first-same f g (suc q) n (λ j k m. h j (omega arith) (omega arith)))
+  where
+    here : f q ≡ g q
+    here = h q (omega arith) (omega arith)
+
+    go : (v : Bool) → f q ≡ v → first f (suc q) n ≡ first g (suc q) n → first f q (suc n) ≡ first g q (suc n)
+    go true e r = first-hit f q n e ∙ sym (first-hit g q n (sym here ∙ e))
+    go false e r = first-miss f q n e ∙ (r ∙ sym (first-miss g q n (sym here ∙ e)))
+
+module _ (b : ℕ) (low₁ low₂ high₁ high₂ : ℕ → ℕ) where
+  gather-same : (f₁ f₂ : ℕ → Span) (q n : ℕ) (t : Span) → ((j : ℕ) → q ≤ j → j < q + n → (low₁ j ≡ low₂ j) × (high₁ j ≡ high₂ j) × (f₁ j ≡ f₂ j)) → gather b low₁ high₁ f₁ q n t ≡ gather b low₂ high₂ f₂ q n t
+  unfolding gather
+  gather-same f₁ f₂ q zero t h = refl
+  gather-same f₁ f₂ q (suc n) t h =
+      let e : _ = h q (omega arith) (omega arith) in
+      rw (e .0, e .1, e .2) (gather-same f₁ f₂ (suc q) n _ (λ j k m. h j (omega arith) (omega arith)))
+
+  -- a cell depends on the limits up to the last separation, and on the spans above for totals of use
+  pub cell-same : (f₁ f₂ : ℕ → Span) (o m a : ℕ) (w : Span) (v : ℕ) → v ≤ m + a → ((q : ℕ) → q ≤ m → (low₁ q ≡ low₂ q) × (high₁ q ≡ high₂ q)) → ((u : ℕ) → u ≤ v → u ≤ a → f₁ u ≡ f₂ u) → cell b low₁ high₁ o m a f₁ w v ≡ cell b low₂ high₂ o m a f₂ w v
+  unfolding cell
+  cell-same f₁ f₂ o m a w v h l s =
+      ap (cut w)
+      (gather-same (λ q. f₁ (v - q)) (λ q. f₂ (v - q)) _ _ _
+      (λ j k n. let r : (j ≤ m) × (v - j ≤ v) × (v - j ≤ a) = in-use o m a v j h k n in (l j (r .0) .0, l j (r .0) .1, s (v - j) (r .1) (r .2))))
+
+pub open-of : (low high : ℕ → ℕ) (m : ℕ) → first-open (low-at (limits-from low high 0 (suc m))) (high-at (limits-from low high 0 (suc m))) m ≡ first-open low high m
+unfolding first-open
+open-of low high m =
+    first-same _ _ 0 (suc m)
+    (λ j h k. ap₂ (λ (x y : ℕ). leb x y) (low-at-of low high m j (omega arith)) (high-at-of low high m j (omega arith)))
+
+-- THE CODE'S CELL IS THE SPAN: with the spans of the row above in f
+module _ (g : Given) (i n v : ℕ) (f : ℕ → Span) where
+  abbrev m : ℕ
+  m = count-of g i
+
+  abbrev above : ℕ
+  above = most (levels g (suc i) n)
+
+  pub cell-back : v ≤ m + above → ((u : ℕ) → u ≤ v → u ≤ above → f u ≡ back bias (window-of g (suc i)) (levels g (suc i) n) u) → cell bias (low-of g i) (high-of g i) (first-open (low-of g i) (high-of g i) m) m above f (window-of g i) v ≡ back bias (window-of g i) (levels g i (suc n)) v
+  unfolding back levels
+  cell-back h s =
+      rw (last-of (low-of g i) (high-of g i) m, open-of (low-of g i) (high-of g i) m)
+      (cell-same bias _ _ _ _ f _ _ m above (window-of g i) v h (λ q k. (sym (low-at-of (low-of g i) (high-of g i) m q k), sym (high-at-of (low-of g i) (high-of g i) m q k))) s)
+
+gather-below : (b : ℕ) (low high : ℕ → ℕ) (f : ℕ → Span) (q n : ℕ) (t : Span) → gather b low high f q n t .from ≤ t .from
+unfolding gather
+gather-below b low high f q zero t = omega arith
+gather-below b low high f q (suc n) t =
+    omega (arith, gather-below b low high f (suc q) n (join-if (nonempty (f q)) b (low q) (high q) (f q) t), joined (nonempty (f q)))
+  where
+    joined : (v : Bool) → join-if v b (low q) (high q) (f q) t .from ≤ t .from
+    joined true = omega arith
+    joined false = omega arith
+
+-- spans stay within their windows, so their ends do not outgrow them
+pub back-ends : (b : ℕ) (w : Span) (cs : List Level) (v : ℕ) → (back b w cs v .from ≤ max (w .from) (w .upto)) × (back b w cs v .upto ≤ w .upto)
+unfolding back cell
+back-ends b w [] v = omega arith
+back-ends b w (c ∷ cs) v =
+    omega (arith, gather-below b (low-at (c .limits)) (high-at (c .limits)) (λ q. back b (c .window) cs (v - q)) (start (least-open (c .limits)) (last (c .limits)) (most cs) v) (stop (last (c .limits)) v - start (least-open (c .limits)) (last (c .limits)) (most cs) v) (span (w .upto) 0))

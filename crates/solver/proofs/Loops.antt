@@ -1,0 +1,90 @@
+-- The laws of the invariants of Loops: how each starts, goes on by one and ends. Assumes nothing.
+use mathlib.Core.Path.{_≡_, refl, sym, ap, _∙_}
+use mathlib.Core.Bool.{Bool, true, false}
+use Prim.Native.Nat.{ℕ, suc, _+_, _-_, _≤_, _<_, min, max}
+use native.Mathlib.Nat.{sub-zero}
+use native.Mathlib.Numerals.{add-one}
+use native.Mathlib.Omega.{arith}
+use lib.Dec.{ltb}
+use borrow.Author.Tests.{lt-ltb, le-ltb}
+use Rattle.solver.specs.Spans.{Span, span, cut, shift-on, nonempty, join-if, gather}
+use Rattle.solver.specs.Solver.{opens, first, first-open, first-total, stop, serves, first-serving}
+use Rattle.solver.specs.Loops.{Searching, Gathering}
+use Rattle.solver.proofs.First.{first-hit, first-miss}
+
+one-left : (stop q : ℕ) → q < stop → suc (stop - suc q) ≡ stop - q
+one-left stop q h = omega arith
+
+none-left : (stop q : ℕ) → stop ≤ q → 0 ≡ stop - q
+none-left stop q h = omega arith
+
+module _ (f : ℕ → Bool) (stop q : ℕ) where
+  pub searching-start : Searching f stop q (first f q (stop - q))
+  searching-start = record { left = refl }
+
+  module _ (found : ℕ) (s : Searching f stop q found) where
+    pub searching-hit : q < stop → f q ≡ true → q ≡ found
+    searching-hit h e = sym (first-hit f q (stop - suc q) e) ∙ (ap (first f q) (one-left stop q h) ∙ s .left)
+
+    pub searching-miss : q < stop → f q ≡ false → Searching f stop (q + 1) found
+    searching-miss h e =
+        rw add-one (record { left = sym (first-miss f q (stop - suc q) e) ∙ (ap (first f q) (one-left stop q h) ∙ s .left) })
+
+    pub searching-end : stop ≤ q → q ≡ found
+    unfolding first
+    searching-end h = ap (first f q) (none-left stop q h) ∙ s .left
+
+-- the search for the least open separation
+pub opening-start : (low high : ℕ → ℕ) (m : ℕ) → Searching (opens low high) (suc m) 0 (first-open low high m)
+unfolding first-open
+opening-start low high m = record { left = ap (first (opens low high) 0) (sub-zero (suc m)) }
+
+-- the search for the first total
+pub totalling-start : (f : ℕ → Span) (m : ℕ) → Searching (λ v. nonempty (f v)) (suc m) 0 (first-total f m)
+unfolding first-total
+totalling-start f m = record { left = ap (first (λ v. nonempty (f v)) 0) (sub-zero (suc m)) }
+
+-- the ends of a span tell whether it is empty
+module _ (x y : ℕ) (s : Span) (e : span x y ≡ s) where
+  pub ends-full : x < y → nonempty s ≡ true
+  ends-full h = rw (← e) (lt-ltb x y h)
+
+  pub ends-empty : y ≤ x → nonempty s ≡ false
+  ends-empty h = rw (← e) (le-ltb x y h)
+
+-- the search for a separation that serves
+module _ (b : ℕ) (low high : ℕ → ℕ) (a : ℕ) (f : ℕ → Span) (s : Span) (v q : ℕ) where
+  pub serving-start : (m o : ℕ) → q ≡ o → Searching (serves b low high a f s v) (stop m v) q (first-serving b low high o m a f s v)
+  unfolding first-serving
+  serving-start m o e = rw e (record { left = refl })
+
+  module _ (u x y : ℕ) (e : u ≡ min (v - q) a) (k : span x y ≡ cut (f u) (shift-on b (low q) (high q) s)) where
+    pub serves-full : x < y → serves b low high a f s v q ≡ true
+    unfolding serves
+    serves-full h = ends-full x y _ (rw e at k) h
+
+    pub serves-empty : y ≤ x → serves b low high a f s v q ≡ false
+    unfolding serves
+    serves-empty h = ends-empty x y _ (rw e at k) h
+
+-- one span joined, or left out
+module _ (b l h f u a e : ℕ) where
+  pub widened : (x y : ℕ) → f < u → x ≡ min a (f + b - h) → y ≡ max e (u + b - l) → span x y ≡ join-if (ltb f u) b l h (span f u) (span a e)
+  widened x y k p q = rw (lt-ltb f u k, p, q)
+
+  pub not-widened : u ≤ f → span a e ≡ join-if (ltb f u) b l h (span f u) (span a e)
+  not-widened k = rw (le-ltb f u k)
+
+module _ (b : ℕ) (low high : ℕ → ℕ) (f : ℕ → Span) (stop q : ℕ) (t : Span) where
+  pub gathering-start : Gathering b low high f stop q t (gather b low high f q (stop - q) t)
+  gathering-start = record { left = refl }
+
+  module _ (gathered : Span) (g : Gathering b low high f stop q t gathered) where
+    pub gathering-step : (u : Span) → q < stop → u ≡ join-if (nonempty (f q)) b (low q) (high q) (f q) t → Gathering b low high f stop (q + 1) u gathered
+    unfolding gather
+    gathering-step u h e =
+        rw (add-one, e) (record { left = ap (λ (n : ℕ). gather b low high f q n t) (one-left stop q h) ∙ g .left })
+
+    pub gathering-end : stop ≤ q → t ≡ gathered
+    unfolding gather
+    gathering-end h = ap (λ (n : ℕ). gather b low high f q n t) (none-left stop q h) ∙ g .left

@@ -1,0 +1,74 @@
+-- The least total is the least: no placement has a smaller one, and if there is a placement, one has just this total. Assumes nothing.
+-- Every total from the least one on is the total of some placement, if there is a channel: its separation can be raised.
+use mathlib.Core.Path.{_≡_}
+use mathlib.Core.Bool.{Bool, true}
+use mathlib.Core.List.{List, [], _∷_}
+use Prim.Native.Nat.{ℕ, suc, _+_, _-_, _≤_}
+use native.Mathlib.Omega.{arith}
+use Rattle.stack.specs.Stack.{sum}
+use Rattle.solver.specs.Spans.{Span, In, nonempty}
+use Rattle.solver.specs.Solver.{Level, most, back, first-total, least-total}
+use Rattle.solver.specs.Placed.{Placed, under, Can, Widening, more}
+use Rattle.solver.proofs.First.{first-holds, first-least}
+use Rattle.solver.proofs.Limits.{fits-wider}
+use Rattle.solver.proofs.Spans.{in-nonempty, nonempty-in}
+use Rattle.solver.proofs.Back.{Capped, capped, back-complete, back-sound}
+
+-- a placement with the total v
+pub record Exactly (b : ℕ) (w : Span) (cs : List Level) (v : ℕ) : Type 0 where
+  pub ts : List ℕ
+  pub x : ℕ
+  pub ys : List ℕ
+  pub placed : Placed b w cs ts x ys
+  pub total : sum ts ≡ v
+
+-- what can be placed with at most v can be placed with v: the first separation is raised by what is left
+pub raise : (b : ℕ) (w : Span) (c : Level) (cs : List Level) (v x : ℕ) → Widening (c ∷ cs) → Can b w (c ∷ cs) v x → Exactly b w (c ∷ cs) v
+unfolding sum
+raise b w c cs v x (more wide wides) k = go (k .ts) (k .ys) (k .placed) (k .within)
+  where
+    go : (ts ys : List ℕ) → Placed b w (c ∷ cs) ts x ys → sum ts ≤ v → Exactly b w (c ∷ cs) v
+    go ts ys (under {t = t} {y = y} {ts = us} {ys = zs} i f r) h =
+        record {
+          ts = (v - sum us) ∷ us;
+          x = x;
+          ys = y ∷ zs;
+          placed = under i (fits-wider b (c .limits) wide t (v - sum us) x y (omega arith) f) r;
+          total = omega arith;
+        }
+
+module _ (b : ℕ) (w : Span) (cs : List Level) (wide : Widening cs) where
+  abbrev placeable : ℕ → Bool
+  placeable v = nonempty (back b w cs v)
+
+  module _ (us : List ℕ) (x : ℕ) (ys : List ℕ) (p : Placed b w cs us x ys) where
+    capped-total : (k : Capped b w cs us x ys) → least-total b w cs ≤ sum (k .us)
+    unfolding least-total first-total
+    capped-total k =
+        first-least placeable 0 (suc (most cs)) (sum (k .us)) (omega arith) (omega (arith, k .enough))
+        (in-nonempty _ x (back-complete b cs wide w (sum (k .us)) (k .us) x ys (k .placed) (omega arith)))
+
+    pub no-smaller-total : least-total b w cs ≤ sum us
+    no-smaller-total = let k : Capped b w cs us x ys = capped b p in omega (arith, capped-total k)
+
+    pub least-total-at-most : least-total b w cs ≤ most cs
+    least-total-at-most = let k : Capped b w cs us x ys = capped b p in omega (arith, capped-total k)
+
+  -- the span at the least total is not empty
+  least-total-found : least-total b w cs ≤ most cs → In (back b w cs (least-total b w cs)) (back b w cs (least-total b w cs) .from)
+  unfolding least-total first-total
+  least-total-found h = nonempty-in _ (first-holds placeable 0 (suc (most cs)) (omega arith))
+
+  -- THE LEAST TOTAL IS REACHED, unless nothing can be placed, and then it is above the greatest total of use
+  pub least-total-reached : least-total b w cs ≤ most cs → Exactly b w cs (least-total b w cs)
+  least-total-reached h = go (back-sound b cs wide w _ _ (least-total-found h))
+    where
+      go : {y : ℕ} → Can b w cs (least-total b w cs) y → Exactly b w cs (least-total b w cs)
+      go {y} k =
+          record {
+            ts = k .ts;
+            x = y;
+            ys = k .ys;
+            placed = k .placed;
+            total = omega (arith, k .within, no-smaller-total (k .ts) y (k .ys) (k .placed));
+          }

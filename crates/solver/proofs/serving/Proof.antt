@@ -1,0 +1,110 @@
+use Prim.Native.Nat.{_-_, _≤_}
+use native.Mathlib.Omega.{arith}
+use Rattle.solver.specs.Spans.{span}
+use Rattle.solver.specs.Solver.{first-open, stop, serves, first-serving}
+use Rattle.solver.specs.Arrays.{bias, entry, spans-of}
+use Rattle.solver.specs.Loops.{Searching}
+use Rattle.solver.proofs.Loops.{serving-start, serves-full, serves-empty, searching-hit, searching-miss, searching-end}
+use borrow.Author.Needs.{needs}
+use Rattle.solver.proofs.serving.Statement.{statement}
+use Rattle.solver.proofs.serving.Tie as tie
+
+abbrev Inv-loop : tie.InvT-loop
+Inv-loop low high froms uptos last above s v end q₀ q = Searching (serves bias (entry low) (entry high) above (spans-of froms uptos) (span (s .from) (s .upto)) v) (stop last v) q (first-serving bias (entry low) (entry high) (first-open (entry low) (entry high) last) last above (spans-of froms uptos) (span (s .from) (s .upto)) v)
+
+abbrev μ-loop : tie.MeasureT-loop
+μ-loop low high froms uptos last above s v end q₀ q = end - q
+
+stop-requires : tie.Need-stop-requires Inv-loop μ-loop
+stop-requires c κs = c .pre .listed
+
+least-open-requires : tie.Need-least-open-requires Inv-loop μ-loop
+least-open-requires c κs = c .before .pre .listed
+
+loop-holds : tie.Need-loop-holds Inv-loop μ-loop
+loop-holds c = serving-start _ _ _ _ _ _ _ _ _ _ (c .least-open .ensures)
+
+sub-lesser : tie.Need-sub-lesser Inv-loop μ-loop
+sub-lesser c = omega (arith, c .before .before .before .stop .ensures)
+
+lesser-requires : tie.Need-lesser-requires Inv-loop μ-loop
+lesser-requires c κs = search needs
+
+mul-forward : tie.Need-mul-forward Inv-loop μ-loop
+mul-forward c = search needs
+
+element-copy-out-forward : tie.Need-element-copy-out-forward Inv-loop μ-loop
+element-copy-out-forward c = search needs
+
+mul-forward-2 : tie.Need-mul-forward-2 Inv-loop μ-loop
+mul-forward-2 c = search needs
+
+element-copy-out-forward-2 : tie.Need-element-copy-out-forward-2 Inv-loop μ-loop
+element-copy-out-forward-2 c = search needs
+
+mul-forward-3 : tie.Need-mul-forward-3 Inv-loop μ-loop
+mul-forward-3 c = search needs
+
+element-copy-out-forward-3 : tie.Need-element-copy-out-forward-3 Inv-loop μ-loop
+element-copy-out-forward-3 c = search needs
+
+mul-forward-4 : tie.Need-mul-forward-4 Inv-loop μ-loop
+mul-forward-4 c = search needs
+
+element-copy-out-forward-4 : tie.Need-element-copy-out-forward-4 Inv-loop μ-loop
+element-copy-out-forward-4 c = search needs
+
+forward-requires : tie.Need-forward-requires Inv-loop μ-loop
+forward-requires c κs =
+    let a = c .before .before .before .before .before .before in
+    let p = a .before .before .before .pre in
+    let q = a .loop .q in
+    let m : q ≤ a .before .before .before .args .last = omega (arith, a .before .before .stop .ensures) in
+    (p .starts, p .ends, p .lows-small q m, p .highs-small q m)
+
+returns : tie.Need-returns Inv-loop μ-loop
+returns c =
+    let a = c .before .before .before .before .before .before .before .before .before in
+    searching-hit _ _ _ _ (a .loop .inv) (omega (arith, a .before .before .stop .ensures))
+    (serves-full _ _ _ _ _ _ _ _ _ _ _ (c .before .before .before .before .before .before .before .lesser .ensures) (c .before .before .forward .ensures) (c .if1 .taken))
+
+add-q : tie.Need-add-q Inv-loop μ-loop
+add-q c = search needs
+
+loop-less : tie.Need-loop-less Inv-loop μ-loop
+loop-less c = search needs
+
+loop-again : tie.Need-loop-again Inv-loop μ-loop
+loop-again c =
+    let a = c .before .before .before .before .before .before .before .before .before in
+    searching-miss _ _ _ _ (a .loop .inv) (omega (arith, a .before .before .stop .ensures))
+    (serves-empty _ _ _ _ _ _ _ _ _ _ _ (c .before .before .before .before .before .before .before .lesser .ensures) (c .before .before .forward .ensures) (c .if1 .left))
+
+returns-2 : tie.Need-returns-2 Inv-loop μ-loop
+returns-2 c = searching-end _ _ _ _ (c .before .loop .inv) (omega arith)
+
+pub serving-spec : {M : Type 1} → statement M
+serving-spec =
+    tie.close
+    (tie.spec
+    Inv-loop
+    μ-loop
+    stop-requires
+    least-open-requires
+    loop-holds
+    sub-lesser
+    lesser-requires
+    mul-forward
+    element-copy-out-forward
+    mul-forward-2
+    element-copy-out-forward-2
+    mul-forward-3
+    element-copy-out-forward-3
+    mul-forward-4
+    element-copy-out-forward-4
+    forward-requires
+    returns
+    add-q
+    loop-less
+    loop-again
+    returns-2)

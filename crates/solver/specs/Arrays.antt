@@ -1,0 +1,148 @@
+-- What the solver's arrays stand for. Assumes nothing: these are definitions.
+use mathlib.Core.Path.{_≡_}
+use mathlib.Core.List.{List, [], _∷_}
+use Prim.Native.Nat.{ℕ, zero, suc, _+_, _-_, _*_, _≤_, _<_}
+use lib.ListN.{length, getD}
+use Rattle.solver.specs.Spans.{Span, span, Limit, limit}
+use Rattle.solver.specs.Solver.{Level, level, most, back}
+
+-- the code's bias, Stack::BIAS
+abbrev pub bias : ℕ
+bias = 8589934592
+
+-- the sizes of the code's arrays: channels, strips, separations from 0, totals from 0
+abbrev pub channels-held : ℕ
+channels-held = 8
+
+abbrev pub strips-held : ℕ
+strips-held = 9
+
+abbrev pub separations-held : ℕ
+separations-held = 33
+
+abbrev pub totals-held : ℕ
+totals-held = 257
+
+abbrev pub entry : List ℕ → (q : ℕ) → ℕ
+entry xs q = getD xs q 0
+
+-- the span in two arrays of ends
+abbrev pub spans-of : (from upto : List ℕ) → (i : ℕ) → Span
+spans-of froms uptos i = span (entry froms i) (entry uptos i)
+
+-- THE STACK that the arrays stand for: in channel i the limits at separations 0 to counts[i], the window of strip i. Channel i lies under strip i + 1
+pub record Given : Type 0 where
+  pub lows : List (List ℕ)
+  pub highs : List (List ℕ)
+  pub counts : List ℕ
+  pub froms : List ℕ
+  pub uptos : List ℕ
+
+abbrev pub given : (lows highs : List (List ℕ)) → (counts froms uptos : List ℕ) → Given
+given l h c f u = record { lows = l; highs = h; counts = c; froms = f; uptos = u }
+
+abbrev pub row : List (List ℕ) → (i : ℕ) → List ℕ
+row t i = getD t i []
+
+abbrev pub low-of : Given → (i q : ℕ) → ℕ
+low-of g i q = entry (row (g .lows) i) q
+
+abbrev pub high-of : Given → (i q : ℕ) → ℕ
+high-of g i q = entry (row (g .highs) i) q
+
+abbrev pub count-of : Given → (i : ℕ) → ℕ
+count-of g i = entry (g .counts) i
+
+abbrev pub window-of : Given → (i : ℕ) → Span
+window-of g i = spans-of (g .froms) (g .uptos) i
+
+-- n limits from separation q on
+unfoldable pub limits-from : (low high : ℕ → ℕ) → (q n : ℕ) → List Limit
+limits-from low high q zero = []
+limits-from low high q (suc n) = limit (low q) (high q) ∷ limits-from low high (suc q) n
+
+abbrev pub level-of : Given → (i : ℕ) → Level
+level-of g i = level (limits-from (low-of g i) (high-of g i) 0 (suc (count-of g i))) (window-of g (suc i))
+
+-- n levels from channel i on
+unfoldable pub levels : Given → (i n : ℕ) → List Level
+levels g i zero = []
+levels g i (suc n) = level-of g i ∷ levels g (suc i) n
+
+-- what the loop over a channel's separations asks: indices within the arrays, and ends that leave room for the bias
+pub record Gathers (v start stop : ℕ) (froms uptos : List ℕ) : Type 0 where
+  pub total : v < totals-held
+  pub listed : stop ≤ separations-held
+  pub within : stop ≤ suc v
+  pub starts : (u : ℕ) → u + start ≤ v → entry froms u ≤ bias
+  pub ends : (u : ℕ) → u + start ≤ v → entry uptos u ≤ bias
+
+-- what one cell of the tables of spans asks
+pub record Cell (v last above : ℕ) (froms uptos : List ℕ) : Type 0 where
+  pub total : v < totals-held
+  pub listed : last < separations-held
+  pub of-use : v ≤ last + above
+  pub starts : (u : ℕ) → u ≤ v → u ≤ above → entry froms u ≤ bias
+  pub ends : (u : ℕ) → u ≤ v → u ≤ above → entry uptos u ≤ bias
+
+-- a table: a row for each strip, a cell for each total
+pub record Sized (t : List (List ℕ)) : Type 0 where
+  pub rows : length t ≡ strips-held
+  pub cells : (i : ℕ) → i < strips-held → length (row t i) ≡ totals-held
+
+abbrev pub span-in : (froms uptos : List (List ℕ)) → (i v : ℕ) → Span
+span-in froms uptos i v = span (entry (row froms i) v) (entry (row uptos i) v)
+
+-- what a row's loop asks: indices within the arrays, and ends in the row above that leave room for the bias
+pub record Row-asks (i last above end : ℕ) (froms uptos : List (List ℕ)) : Type 0 where
+  pub channel : i < channels-held
+  pub listed : last < separations-held
+  pub total : end < totals-held
+  pub of-use : end ≤ last + above
+  pub sized-froms : Sized froms
+  pub sized-uptos : Sized uptos
+  pub starts : (u : ℕ) → u ≤ end → u ≤ above → entry (row froms (i + 1)) u ≤ bias
+  pub ends : (u : ℕ) → u ≤ end → u ≤ above → entry (row uptos (i + 1)) u ≤ bias
+
+-- the first n cells of row i are f's, and every other row is as it was
+pub record Row-filled (i n : ℕ) (f : ℕ → Span) (froms₀ uptos₀ froms uptos : List (List ℕ)) : Type 0 where
+  pub sized-froms : Sized froms
+  pub sized-uptos : Sized uptos
+  pub filled : (v : ℕ) → v < n → span-in froms uptos i v ≡ f v
+  pub other-froms : (j : ℕ) → (j ≡ i → ⊥) → row froms j ≡ row froms₀ j
+  pub other-uptos : (j : ℕ) → (j ≡ i → ⊥) → row uptos j ≡ row uptos₀ j
+
+-- what all of it asks: k channels, counts within the arrays, ends and limits that leave room for the bias
+pub record Stack-asks (g : Given) (k : ℕ) : Type 0 where
+  pub some : 1 ≤ k
+  pub channels : k ≤ channels-held
+  pub listed : (i : ℕ) → i < k → count-of g i < separations-held
+  pub starts : (i : ℕ) → i ≤ k → entry (g .froms) i ≤ bias
+  pub ends : (i : ℕ) → i ≤ k → entry (g .uptos) i ≤ bias
+  pub lows : (i q : ℕ) → i < k → q ≤ count-of g i → low-of g i q ≤ 2 * bias
+  pub highs : (i q : ℕ) → i < k → q ≤ count-of g i → high-of g i q ≤ 2 * bias
+
+-- rows i to k of the tables hold the spans of their strips, for totals up to cap
+pub record Filled (g : Given) (k cap i : ℕ) (froms uptos : List (List ℕ)) : Type 0 where
+  pub sized-froms : Sized froms
+  pub sized-uptos : Sized uptos
+  pub filled : (j n v : ℕ) → i ≤ j → j + n ≡ k → v ≤ cap → v ≤ most (levels g j n) → span-in froms uptos j v ≡ back bias (window-of g j) (levels g j n) v
+
+pub record Fill-asks (g : Given) (k cap : ℕ) (froms uptos : List (List ℕ)) : Type 0 where
+  pub stack : Stack-asks g k
+  pub total : cap < totals-held
+  pub sized-froms : Sized froms
+  pub sized-uptos : Sized uptos
+
+pub record Fill-leaves (g : Given) (k cap : ℕ) (froms uptos : List (List ℕ)) (above : ℕ) : Type 0 where
+  pub table : Filled g k cap 1 froms uptos
+  pub above-first : above ≡ most (levels g 1 (k - 1))
+
+-- what the search for a separation asks of a channel, for the strip below in the span (from, upto)
+pub record Serve-asks (lows highs : List ℕ) (last above from upto : ℕ) : Type 0 where
+  pub listed : last < separations-held
+  pub total : above < totals-held
+  pub starts : from ≤ strips-held * bias
+  pub ends : upto ≤ bias
+  pub lows-small : (q : ℕ) → q ≤ last → entry lows q ≤ 2 * bias
+  pub highs-small : (q : ℕ) → q ≤ last → entry highs q ≤ 2 * bias

@@ -1,0 +1,270 @@
+// The least total and the placement of a stack, from windows and limit lists.
+use numbers::difference;
+use numbers::greater;
+use numbers::lesser;
+use stack::Stack;
+ghost use mathlib.Core.Path.{_≡_};
+ghost use Prim.Native.Nat.{_+_, _-_, _*_, _≤_, _<_};
+ghost use lib.ListN.{getD};
+ghost use lib.Dec.{ltb};
+ghost use Rattle.solver.specs.Spans.{span, cut, shift-on, join-if, gather};
+ghost use Rattle.solver.specs.Solver.{first-open, start, stop, cell, first-total, first-serving};
+ghost use Rattle.solver.specs.Arrays.{bias, strips-held, separations-held, totals-held, entry, spans-of, Gathers, Cell, row, Row-asks, Row-filled, given, Fill-asks, Fill-leaves, Serve-asks};
+
+const SEPARATIONS: usize = Stack::MAX_SEPARATION + 1;
+
+const CHANNELS: usize = Stack::MAX_CHANNELS;
+
+const STRIPS: usize = Stack::MAX_CHANNELS + 1;
+
+const TOTALS: usize = Stack::MAX_TOTAL + 1;
+
+// A span of positions: from ≤ x < upto.
+struct Span {
+    from: u64,
+    upto: u64,
+}
+
+// The least separation whose limit is open, or one past the last.
+fn least_open(low: &[u64; SEPARATIONS], high: &[u64; SEPARATIONS], last: usize) -> usize
+    requires { ⌜ last < separations-held ⌝ }
+    ensures { λ r. ⌜ r ≡ first-open (entry (now (low .entry))) (entry (now (high .entry))) last ⌝ }
+{
+    let mut q = 0;
+    while q <= last {
+        if low[q] <= high[q] {
+            return q;
+        }
+        q += 1;
+    }
+    q
+}
+
+// The span s joined with the span of ends from, upto shifted back by the limit (low, high), if that span is not empty.
+fn widen(s: Span, from: u64, upto: u64, low: u64, high: u64) -> Span
+    requires { ⌜ (from ≤ bias) × (upto ≤ bias) ⌝ }
+    ensures { λ r. ⌜ span (r .from) (r .upto) ≡ join-if (ltb from upto) bias low high (span from upto) (span (s .from) (s .upto)) ⌝ }
+{
+    if from < upto {
+        Span {
+            from: lesser(s.from, difference(from + Stack::BIAS, high)),
+            upto: greater(s.upto, difference(upto + Stack::BIAS, low)),
+        }
+    } else {
+        s
+    }
+}
+
+// The spans of the strip above for what separations from start to below stop leave of total v, each shifted back by its limit, joined.
+fn gather(
+    low: &[u64; SEPARATIONS],
+    high: &[u64; SEPARATIONS],
+    from: &[u64; TOTALS],
+    upto: &[u64; TOTALS],
+    v: usize,
+    start: usize,
+    stop: usize,
+    top: u64,
+) -> Span
+    requires { ⌜ Gathers v start stop (now from) (now upto) ⌝ }
+    ensures { λ r. ⌜ span (r .from) (r .upto) ≡ gather bias (entry (now (low .entry))) (entry (now (high .entry))) (λ q. spans-of (now (from .entry)) (now (upto .entry)) (v - q)) start (stop - start) (span top 0) ⌝ }
+{
+    let mut s = Span { from: top, upto: 0 };
+    let mut q = start;
+    while q < stop {
+        let u = v - q;
+        let t = widen(s, from[u], upto[u], low[q], high[q]);
+        s = t;
+        q += 1;
+    }
+    s
+}
+
+// The first separation of use in a channel at total v: an open one that leaves no more than the levels above can use.
+fn start(least: usize, last: usize, above: usize, v: usize) -> usize
+    ensures { λ r. ⌜ r ≡ start least last above v ⌝ }
+{
+    let needed = lesser(last as u64, difference(v as u64, above as u64));
+    greater(least as u64, needed) as usize
+}
+
+// One past the last separation of use.
+fn stop(last: usize, v: usize) -> usize
+    requires { ⌜ last < separations-held ⌝ }
+    ensures { λ r. ⌜ r ≡ stop last v ⌝ }
+{
+    lesser(v as u64, last as u64) as usize + 1
+}
+
+// The positions of a strip, from its window (from, upto), from which the strips above can be placed with total v.
+fn cell(
+    low: &[u64; SEPARATIONS],
+    high: &[u64; SEPARATIONS],
+    froms: &[u64; TOTALS],
+    uptos: &[u64; TOTALS],
+    v: usize,
+    least: usize,
+    last: usize,
+    above: usize,
+    from: u64,
+    upto: u64,
+) -> Span
+    requires { ⌜ Cell v last above (now froms) (now uptos) ⌝ }
+    ensures { λ r. ⌜ span (r .from) (r .upto) ≡ cell bias (entry (now (low .entry))) (entry (now (high .entry))) least last above (spans-of (now (froms .entry)) (now (uptos .entry))) (span from upto) v ⌝ }
+{
+    let s = gather(
+        low,
+        high,
+        froms,
+        uptos,
+        v,
+        start(least, last, above, v),
+        stop(last, v),
+        upto,
+    );
+    Span {
+        from: greater(from, s.from),
+        upto: lesser(upto, s.upto),
+    }
+}
+
+// Row i of the tables of spans, for totals up to end, from row i + 1.
+fn fill_row(
+    low: &[u64; SEPARATIONS],
+    high: &[u64; SEPARATIONS],
+    i: usize,
+    last: usize,
+    above: usize,
+    from: u64,
+    upto: u64,
+    end: usize,
+    froms: &mut [[u64; TOTALS]; STRIPS],
+    uptos: &mut [[u64; TOTALS]; STRIPS],
+)
+    requires { ⌜ Row-asks i last above end (now froms) (now uptos) ⌝ }
+    ensures { λ _. ⌜ Row-filled i (end + 1) (cell bias (entry (now (low .entry))) (entry (now (high .entry))) (first-open (entry (now (low .entry))) (entry (now (high .entry))) last) last above (spans-of (row (now (froms .entry)) (i + 1)) (row (now (uptos .entry)) (i + 1))) (span from upto)) (now (froms .entry)) (now (uptos .entry)) (now (froms .exit)) (now (uptos .exit)) ⌝ }
+{
+    let least = least_open(low, high, last);
+    let mut v = 0;
+    while v <= end {
+        let s = cell(
+            low,
+            high,
+            &froms[i + 1],
+            &uptos[i + 1],
+            v,
+            least,
+            last,
+            above,
+            from,
+            upto,
+        );
+        froms[i][v] = s.from;
+        uptos[i][v] = s.upto;
+        v += 1;
+    }
+}
+
+// The tables of spans for strips k to 1, for totals up to cap; the sum of the last separations of the channels above channel 0.
+fn fill(
+    low: &[[u64; SEPARATIONS]; CHANNELS],
+    high: &[[u64; SEPARATIONS]; CHANNELS],
+    counts: &[usize; CHANNELS],
+    from: &[u64; STRIPS],
+    upto: &[u64; STRIPS],
+    k: usize,
+    cap: usize,
+    froms: &mut [[u64; TOTALS]; STRIPS],
+    uptos: &mut [[u64; TOTALS]; STRIPS],
+) -> usize
+    requires { ⌜ Fill-asks (given (now low) (now high) (now counts) (now from) (now upto)) k cap (now froms) (now uptos) ⌝ }
+    ensures { λ r. ⌜ Fill-leaves (given (now (low .entry)) (now (high .entry)) (now (counts .entry)) (now (from .entry)) (now (upto .entry))) k cap (now (froms .exit)) (now (uptos .exit)) r ⌝ }
+{
+    froms[k][0] = from[k];
+    uptos[k][0] = upto[k];
+    let mut above = 0;
+    let mut i = k;
+    while 1 < i {
+        i -= 1;
+        let last = counts[i];
+        let end = lesser(cap as u64, (last + above) as u64) as usize;
+        fill_row(
+            &low[i],
+            &high[i],
+            i,
+            last,
+            above,
+            from[i],
+            upto[i],
+            end,
+            froms,
+            uptos,
+        );
+        above += last;
+    }
+    above
+}
+
+// The positions in the window (from, upto) that are within the limit (low, high) of some position in s.
+fn forward(s: Span, low: u64, high: u64, from: u64, upto: u64) -> Span
+    requires { ⌜ (s .from ≤ strips-held * bias) × (s .upto ≤ bias) × (low ≤ 2 * bias) × (high ≤ 2 * bias) ⌝ }
+    ensures { λ r. ⌜ span (r .from) (r .upto) ≡ cut (span from upto) (shift-on bias low high (span (s .from) (s .upto))) ⌝ }
+{
+    Span {
+        from: greater(from, difference(s.from + low, Stack::BIAS)),
+        upto: lesser(upto, difference(s.upto + high, Stack::BIAS)),
+    }
+}
+
+// The least separation of a channel that serves with total v, for the strip below in s; one past the last of use if none does.
+fn serving(
+    low: &[u64; SEPARATIONS],
+    high: &[u64; SEPARATIONS],
+    froms: &[u64; TOTALS],
+    uptos: &[u64; TOTALS],
+    last: usize,
+    above: usize,
+    s: Span,
+    v: usize,
+) -> usize
+    requires { ⌜ Serve-asks (now low) (now high) last above (s .from) (s .upto) ⌝ }
+    ensures { λ r. ⌜ r ≡ first-serving bias (entry (now (low .entry))) (entry (now (high .entry))) (first-open (entry (now (low .entry))) (entry (now (high .entry))) last) last above (spans-of (now (froms .entry)) (now (uptos .entry))) (span (s .from) (s .upto)) v ⌝ }
+{
+    let end = stop(last, v);
+    let mut q = least_open(low, high, last);
+    while q < end {
+        let u = lesser((v - q) as u64, above as u64) as usize;
+        let t = forward(s, low[q], high[q], froms[u], uptos[u]);
+        if t.from < t.upto {
+            return q;
+        }
+        q += 1;
+    }
+    q
+}
+
+// The least total with which the strip in the window (from, upto) can stand; one past the greatest of use if there is none.
+fn first_total(
+    low: &[u64; SEPARATIONS],
+    high: &[u64; SEPARATIONS],
+    froms: &[u64; TOTALS],
+    uptos: &[u64; TOTALS],
+    last: usize,
+    above: usize,
+    from: u64,
+    upto: u64,
+) -> usize
+    requires { ⌜ Cell (last + above) last above (now froms) (now uptos) ⌝ }
+    ensures { λ r. ⌜ r ≡ first-total (cell bias (entry (now (low .entry))) (entry (now (high .entry))) (first-open (entry (now (low .entry))) (entry (now (high .entry))) last) last above (spans-of (now (froms .entry)) (now (uptos .entry))) (span from upto)) (last + above) ⌝ }
+{
+    let least = least_open(low, high, last);
+    let mut v = 0;
+    while v <= last + above {
+        let s = cell(low, high, froms, uptos, v, least, last, above, from, upto);
+        if s.from < s.upto {
+            return v;
+        }
+        v += 1;
+    }
+    v
+}
