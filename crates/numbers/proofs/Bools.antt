@@ -34,3 +34,6 @@ or-right false b h = h
 pub not-true-false : (a : Bool) → (a ≡ true → ⊥) → a ≡ false
 not-true-false true h = absurd (h refl)
 not-true-false false h = refl
+
+pub impossible {ℓ} : {A : Type ℓ} → false ≡ true → A
+impossible h = let z : _≡_ {A = ℕ} 0 1 = cc in absurd (omega arith)

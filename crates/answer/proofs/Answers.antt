@@ -1,0 +1,127 @@
+-- The solver's answer is the answer of Stack.antt, whatever bias of at least s + 32 it is worked out with: there is one for every spread from the
+-- longest strip upward, and only one. Assumes nothing.
+use mathlib.Core.Path.{_≡_, refl, sym, ap, _∙_}
+use mathlib.Core.Bool.{Bool, true, false, _&&_, cond}
+use mathlib.Core.List.{List, [], _∷_}
+use Prim.Native.Nat.{ℕ, zero, suc, _+_, _-_, _≤_, _<_}
+use native.Mathlib.Omega.{arith}
+use lib.Dec.{ltb}
+use lib.ListN.{length, getD, drop}
+use borrow.Author.Tests.{ltb-true, ltb-false}
+use Rattle.numbers.proofs.Bools.{ands, and-left, and-right, impossible}
+use Rattle.stack.specs.Stack.{Pair, Stack, stack, in-spread, channels-good, legal, sum, longest, not-later, Answer}
+use Rattle.stack.specs.Limits.{channels-within, within-limits}
+use Rattle.channel.specs.Limits.{low-limit, high-limit}
+use Rattle.channel.proofs.Between.{low-open, high-open}
+use Rattle.solver.specs.Spans.{Span, In, Fits}
+use Rattle.solver.specs.Solver.{Level, separations, lowest, positions-on, least-total}
+use Rattle.solver.specs.Placed.{Placed, alone, under, Widening, Best}
+use Rattle.solver.proofs.Best.{best}
+use Rattle.solver.proofs.Order.{not-later-both}
+use Rattle.answer.specs.Solve.{window, channel-limits, stack-levels, bottom, levels-of, total-with, separations-with, positions-with, answer-total, answer-separations, answer-positions}
+use Rattle.answer.proofs.Legal.{in-window, legal-placed, placed-legal, stack-widening, channel-fits-open}
+
+longest-bounds : (l : ℕ) (ls : List ℕ) (s : ℕ) → longest (l ∷ ls) ≤ s → (l ≤ s) × (longest ls ≤ s)
+unfolding longest
+longest-bounds l ls s h = go (ltb l (longest ls)) refl h
+  where
+    go : (v : Bool) → ltb l (longest ls) ≡ v → cond v (longest ls) l ≤ s → (l ≤ s) × (longest ls ≤ s)
+    go true e k = omega (arith, ltb-true)
+    go false e k = omega (arith, ltb-false)
+
+-- every strip at 0 and every separation the count of pairs
+pub counts-of : List (List Pair) → List ℕ
+counts-of [] = []
+counts-of (c ∷ cs) = length c ∷ counts-of cs
+
+pub zeros-of : List (List Pair) → List ℕ
+zeros-of [] = []
+zeros-of (c ∷ cs) = 0 ∷ zeros-of cs
+
+module _ (b s : ℕ) (wide : s + 32 ≤ b) where
+  some-placed : (l : ℕ) (ls : List ℕ) (cs : List (List Pair)) → channels-within (l ∷ ls) cs ≡ true → l ≤ s → longest ls ≤ s →
+      Placed b (window s l) (stack-levels b s ls cs) (counts-of cs) 0 (zeros-of cs)
+  unfolding channels-within stack-levels counts-of zeros-of
+  some-placed l [] [] e h k = alone (in-window b s wide l 0 (omega arith))
+  some-placed l [] (c ∷ cs) e h k = impossible e
+  some-placed l (u ∷ ls) [] e h k = impossible e
+  some-placed l (u ∷ ls) (c ∷ cs) e h k =
+      let n = longest-bounds u ls s k in
+      under (in-window b s wide l 0 (omega arith)) (channel-fits-open b s wide c 0 0 (omega arith) (omega arith)) (some-placed u ls cs (search ands) (n .0) (n .1))
+
+  answer-from : (l : ℕ) (ls : List ℕ) (cs : List (List Pair)) (ts : List ℕ) (x : ℕ) (xs : List ℕ) → channels-within (l ∷ ls) cs ≡ true →
+      Best b (window s l) (stack-levels b s ls cs) ts x xs → Answer (stack (l ∷ ls) cs) s ts (x ∷ xs)
+  unfolding legal stack in-spread
+  answer-from l ls cs ts x xs e best =
+      record {
+        is-legal = placed-legal b s wide l ls cs ts x xs e (best .is-placed);
+        least = λ us ys h. go-least us ys h;
+        first = λ us ys h k. go-first us ys h k;
+        first-places = λ ys h. go-places ys h;
+      }
+    where
+      placed : (us : List ℕ) (y : ℕ) (zs : List ℕ) → (in-spread s (l ∷ ls) (y ∷ zs) && channels-good cs us (y ∷ zs)) ≡ true → Placed b (window s l) (stack-levels b s ls cs) us y zs
+      placed us y zs h = legal-placed b s wide l ls cs us y zs e (search ands) (search ands)
+
+      go-least : (us ys : List ℕ) → (in-spread s (l ∷ ls) ys && channels-good cs us ys) ≡ true → sum ts ≤ sum us
+      go-least us [] h = impossible h
+      go-least us (y ∷ zs) h = best .least us y zs (placed us y zs h)
+
+      go-first : (us ys : List ℕ) → (in-spread s (l ∷ ls) ys && channels-good cs us ys) ≡ true → sum us ≡ sum ts → not-later ts us ≡ true
+      go-first us [] h k = impossible h
+      go-first us (y ∷ zs) h k = best .first us y zs (placed us y zs h) k
+
+      go-places : (ys : List ℕ) → (in-spread s (l ∷ ls) ys && channels-good cs ts ys) ≡ true → not-later (x ∷ xs) ys ≡ true
+      go-places [] h = impossible h
+      go-places (y ∷ zs) h = best .first-places y zs (placed ts y zs h)
+
+  answer-of : (ls : List ℕ) (cs : List (List Pair)) → channels-within ls cs ≡ true → longest ls ≤ s →
+      Answer (stack ls cs) s (separations-with b (stack ls cs) s (total-with b (stack ls cs) s)) (positions-with b (stack ls cs) s (separations-with b (stack ls cs) s (total-with b (stack ls cs) s)))
+  unfolding channels-within separations-with total-with positions-with bottom levels-of stack
+  answer-of [] cs e h = impossible e
+  answer-of (l ∷ ls) cs e h =
+      let n = longest-bounds l ls s h in
+      answer-from l ls cs _ _ _ e
+      (best b (window s l) (stack-levels b s ls cs) (stack-widening b s wide l ls cs e) (counts-of cs) 0 (zeros-of cs) (some-placed l ls cs e (n .0) (n .1)))
+
+  -- the answer with a bias of at least s + 32
+  pub answer-with : (k : Stack) → within-limits k ≡ true → longest (k .strips) ≤ s →
+      Answer k s (separations-with b k s (total-with b k s)) (positions-with b k s (separations-with b k s (total-with b k s)))
+  unfolding within-limits stack
+  answer-with k e h = answer-of (k .strips) (k .channels) (search ands) h
+
+-- a placement's lengths
+good-length : (cs : List (List Pair)) (ts xs : List ℕ) → channels-good cs ts xs ≡ true → length ts ≡ length cs
+unfolding channels-good
+good-length [] [] xs g = refl
+good-length [] (t ∷ ts) xs g = impossible g
+good-length (c ∷ cs) [] xs g = impossible g
+good-length (c ∷ cs) (t ∷ ts) [] g = impossible g
+good-length (c ∷ cs) (t ∷ ts) (x ∷ xs) g = ap suc (good-length cs ts xs (search ands))
+
+spread-length : (s : ℕ) (ls xs : List ℕ) → in-spread s ls xs ≡ true → length xs ≡ length ls
+unfolding in-spread
+spread-length s [] [] i = refl
+spread-length s [] (x ∷ xs) i = impossible i
+spread-length s (l ∷ ls) [] i = impossible i
+spread-length s (l ∷ ls) (x ∷ xs) i = ap suc (spread-length s ls xs (search ands))
+
+-- a legal placement has a separation for each channel and a position for each strip
+pub legal-lengths : (k : Stack) (s : ℕ) (ts xs : List ℕ) → legal k s ts xs ≡ true → (length ts ≡ length (k .channels)) × (length xs ≡ length (k .strips))
+unfolding legal
+legal-lengths k s ts xs e = (good-length (k .channels) ts xs (search ands), spread-length s (k .strips) xs (search ands))
+
+-- AT MOST ONE ANSWER
+pub answer-alone : (k : Stack) (s : ℕ) (ts xs us ys : List ℕ) → Answer k s ts xs → Answer k s us ys → (ts ≡ us) × (xs ≡ ys)
+answer-alone k s ts xs us ys a b =
+    let m = legal-lengths k s ts xs (a .is-legal) in
+    let n = legal-lengths k s us ys (b .is-legal) in
+    let same : ts ≡ us =
+    not-later-both ts us (omega arith) (a .first us ys (b .is-legal) (omega (arith, a .least us ys (b .is-legal), b .least ts xs (a .is-legal))))
+    (b .first ts xs (a .is-legal) (omega (arith, a .least us ys (b .is-legal), b .least ts xs (a .is-legal)))) in
+    (same, not-later-both xs ys (omega arith) (a .first-places ys (rw (← same) at (b .is-legal))) (b .first-places xs (rw same at (a .is-legal))))
+
+-- THE ANSWER, for every spread from the longest strip upward
+pub answer-there : (k : Stack) (s : ℕ) → within-limits k ≡ true → longest (k .strips) ≤ s → Answer k s (answer-separations k s) (answer-positions k s)
+unfolding answer-separations answer-positions answer-total
+answer-there k s e h = answer-with (s + 32) s (omega arith) k e h

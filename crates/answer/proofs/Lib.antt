@@ -1,0 +1,3 @@
+-- The solver's answer is the answer of Stack.antt.
+pub mod Legal
+pub mod Answers

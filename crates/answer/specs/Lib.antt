@@ -1,0 +1,2 @@
+-- The answer for a stack and a spread, by the solver.
+pub mod Solve

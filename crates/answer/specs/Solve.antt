@@ -1,0 +1,52 @@
+-- The answer for a stack and a spread as executable definitions: the stack's windows and limits handed to the solver. Assumes nothing: these are definitions.
+-- They are proved to be Stack.antt's Answer; nobody has to believe them.
+use mathlib.Core.List.{List, [], _∷_}
+use Prim.Native.Nat.{ℕ, suc, _+_, _-_}
+use lib.ListN.{length, getD, drop}
+use Rattle.stack.specs.Stack.{Pair, Stack}
+use Rattle.channel.specs.Limits.{low-limit, high-limit}
+use Rattle.solver.specs.Spans.{Span, span, Limit}
+use Rattle.solver.specs.Solver.{Level, level, least-total, separations, lowest, positions-on}
+use Rattle.solver.specs.Arrays.{limits-from}
+
+-- the WINDOW of a strip: its positions within the spread
+unfoldable pub window : (s length : ℕ) → Span
+window s l = span 0 (suc s - l)
+
+-- a channel's limits for the separations from 0 to its count of pairs
+unfoldable pub channel-limits : (b : ℕ) → List Pair → List Limit
+channel-limits b c = limits-from (low-limit b c) (high-limit b c) 0 (suc (length c))
+
+-- each channel with the strip on top of it
+unfoldable pub stack-levels : (b s : ℕ) → (upper-strips : List ℕ) → List (List Pair) → List Level
+stack-levels b s [] cs = []
+stack-levels b s (l ∷ ls) [] = []
+stack-levels b s (l ∷ ls) (c ∷ cs) = level (channel-limits b c) (window s l) ∷ stack-levels b s ls cs
+
+unfoldable pub bottom : Stack → (s : ℕ) → Span
+bottom k s = window s (getD (k .strips) 0 0)
+
+unfoldable pub levels-of : (b : ℕ) → Stack → (s : ℕ) → List Level
+levels-of b k s = stack-levels b s (drop 1 (k .strips)) (k .channels)
+
+-- the answer with a given bias: any that is at least s + 32 serves
+unfoldable pub total-with : (b : ℕ) → Stack → (s : ℕ) → ℕ
+total-with b k s = least-total b (bottom k s) (levels-of b k s)
+
+unfoldable pub separations-with : (b : ℕ) → Stack → (s v : ℕ) → List ℕ
+separations-with b k s v = separations b (bottom k s) (levels-of b k s) v
+
+unfoldable pub positions-with : (b : ℕ) → Stack → (s : ℕ) → (ts : List ℕ) → List ℕ
+positions-with b k s ts =
+    let x = lowest b (bottom k s) (levels-of b k s) ts in
+    x ∷ positions-on b x (levels-of b k s) ts
+
+-- THE ANSWER: least total, separations, positions
+unfoldable pub answer-total : Stack → (s : ℕ) → ℕ
+answer-total k s = total-with (s + 32) k s
+
+unfoldable pub answer-separations : Stack → (s : ℕ) → List ℕ
+answer-separations k s = separations-with (s + 32) k s (answer-total k s)
+
+unfoldable pub answer-positions : Stack → (s : ℕ) → List ℕ
+answer-positions k s = positions-with (s + 32) k s (answer-separations k s)

@@ -1,0 +1,1 @@
+// The answer for a stack and a spread.
