@@ -8,6 +8,7 @@ pub mod Order
 pub mod Separations
 pub mod Positions
 pub mod Best
+pub mod Jump
 pub mod Loops
 pub mod Cells
 pub mod Tables

@@ -4,3 +4,4 @@ pub mod Solver
 pub mod Placed
 pub mod Arrays
 pub mod Loops
+pub mod Jump

@@ -1,0 +1,74 @@
+-- How far the spread may grow before a span that is empty can fill. Assumes nothing: these are definitions.
+-- In a spread wider by d each window's end is d further right. A span that is not empty then only has its end moved by d, and one that is empty stays
+-- so, unless it is short by no more than d. So from one spread to the next event nothing has to be worked out: see proofs/Jump.antt.
+use mathlib.Core.Path.{_≡_}
+use mathlib.Core.Bool.{Bool, true, false}
+use mathlib.Core.List.{List, [], _∷_}
+use Prim.Native.Nat.{ℕ, zero, suc, _+_, _*_, _-_, _≤_, _<_, min, max}
+use Rattle.solver.specs.Spans.{Span, span, last, low-at, high-at, nonempty}
+use Rattle.solver.specs.Solver.{Level, level, least-open, most, start, stop, back}
+
+-- a window in a spread wider by d
+abbrev pub widened : (d : ℕ) → Span → Span
+widened d w = span (w .from) (w .upto + d)
+
+unfoldable pub widened-levels : (d : ℕ) → List Level → List Level
+widened-levels d [] = []
+widened-levels d (c ∷ cs) = level (c .limits) (widened d (c .window)) ∷ widened-levels d cs
+
+abbrev pub min-if : Bool → (x t : ℕ) → ℕ
+min-if true x t = min t x
+min-if false x t = t
+
+abbrev pub max-if : Bool → (x t : ℕ) → ℕ
+max-if true x t = max t x
+max-if false x t = t
+
+-- the least of t and the starts of those of f q, f (q + 1), .., n of them, that are not empty, each shifted back
+unfoldable pub nearest : (b : ℕ) → (high : ℕ → ℕ) → (ℕ → Span) → (q n t : ℕ) → ℕ
+nearest b high f q zero t = t
+nearest b high f q (suc n) t = nearest b high f (suc q) n (min-if (nonempty (f q)) (f q .from + b - high q) t)
+
+-- the greatest of t and their ends, raised by b once more, so that none is cut off at 0
+unfoldable pub furthest : (b : ℕ) → (low : ℕ → ℕ) → (ℕ → Span) → (q n t : ℕ) → ℕ
+furthest b low f q zero t = t
+furthest b low f q (suc n) t = furthest b low f (suc q) n (max-if (nonempty (f q)) (f q .upto + 2 * b - low q) t)
+
+-- the span in the window w between these ends
+abbrev pub between : (b : ℕ) → Span → (near reach : ℕ) → Span
+between b w n r = span (max (w .from) (min (w .upto) n)) (min (w .upto) (r - b))
+
+-- by how much that span is SHORT: 0 if it is not empty
+abbrev pub shortfall : (b : ℕ) → Span → (near reach : ℕ) → ℕ
+shortfall b w n r = max (w .from) n + 1 + b - min (w .upto + b) r
+
+-- the ends and the shortfall of a cell, where far stands for no start at all
+abbrev pub near-of : (b far : ℕ) → (high : ℕ → ℕ) → (least last above : ℕ) → (f : ℕ → Span) → (v : ℕ) → ℕ
+near-of b far high o m a f v = nearest b high (λ q. f (v - q)) (start o m a v) (stop m v - start o m a v) far
+
+abbrev pub reach-of : (b : ℕ) → (low : ℕ → ℕ) → (least last above : ℕ) → (f : ℕ → Span) → (v : ℕ) → ℕ
+reach-of b low o m a f v = furthest b low (λ q. f (v - q)) (start o m a v) (stop m v - start o m a v) 0
+
+unfoldable pub cell-short : (b far : ℕ) → (low high : ℕ → ℕ) → (least last above : ℕ) → (f : ℕ → Span) → (w : Span) → (v : ℕ) → ℕ
+cell-short b far low high o m a f w v = shortfall b w (near-of b far high o m a f v) (reach-of b low o m a f v)
+
+-- the same for the bottom strip of a stack
+abbrev pub short-at : (b far : ℕ) → Span → Level → List Level → (v : ℕ) → ℕ
+short-at b far w c cs v =
+    cell-short b far (low-at (c .limits)) (high-at (c .limits)) (least-open (c .limits)) (last (c .limits)) (most cs) (λ u. back b (c .window) cs u) w v
+
+-- a span s and what becomes of it in a spread wider by d
+pub record Grows (d : ℕ) (s t : Span) : Type 0 where
+  pub filled : s .from < s .upto → (t .from ≡ s .from) × (t .upto ≡ s .upto + d)
+  pub empty : s .upto ≤ s .from → t .upto ≤ t .from
+
+-- the top strip has a position, no window's end reaches beyond far in the wider spread, and no lower limit is above twice the bias
+unfoldable pub Roomy : (b far d : ℕ) → Span → List Level → Type 0
+Roomy b far d w [] = w .from < w .upto
+Roomy b far d w (c ∷ cs) = (w .upto + d ≤ far) × ((q : ℕ) → low-at (c .limits) q ≤ 2 * b) × Roomy b far d (c .window) cs
+
+-- no span for a total of at most v is short by d or less
+unfoldable pub None-within : (b far d v : ℕ) → Span → List Level → Type 0
+None-within b far d v w [] = zero ≡ zero
+None-within b far d v w (c ∷ cs) =
+    ((u : ℕ) → u ≤ v → u ≤ most (c ∷ cs) → 0 < short-at b far w c cs u → d < short-at b far w c cs u) × None-within b far d v (c .window) cs
