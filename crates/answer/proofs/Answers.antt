@@ -16,7 +16,8 @@ use Rattle.channel.proofs.Between.{low-open, high-open}
 use Rattle.solver.specs.Spans.{Span, In, Fits}
 use Rattle.solver.specs.Solver.{Level, separations, lowest, positions-on, least-total}
 use Rattle.solver.specs.Placed.{Placed, alone, under, Widening, Best}
-use Rattle.solver.proofs.Best.{best}
+use Rattle.solver.proofs.Total.{least-total-at-most, least-total-reached}
+use Rattle.solver.proofs.Best.{best, chosen}
 use Rattle.solver.proofs.Order.{not-later-both}
 use Rattle.answer.specs.Solve.{window, channel-limits, stack-levels, bottom, levels-of, total-with, separations-with, positions-with, answer-total, answer-separations, answer-positions}
 use Rattle.answer.proofs.Legal.{in-window, legal-placed, placed-legal, stack-widening, channel-fits-open}
@@ -90,6 +91,23 @@ module _ (b s : ℕ) (wide : s + 32 ≤ b) where
   unfolding within-limits stack
   answer-with k e h = answer-of (k .strips) (k .channels) (search ands) h
 
+  sum-of : (ls : List ℕ) (cs : List (List Pair)) → channels-within ls cs ≡ true → longest ls ≤ s →
+      sum (separations-with b (stack ls cs) s (total-with b (stack ls cs) s)) ≡ total-with b (stack ls cs) s
+  unfolding channels-within separations-with total-with bottom levels-of stack
+  sum-of [] cs e h = impossible e
+  sum-of (l ∷ ls) cs e h =
+      let n = longest-bounds l ls s h in
+      let w = window s l in
+      let up = stack-levels b s ls cs in
+      let wide-levels = stack-widening b s wide l ls cs e in
+      let any = some-placed l ls cs e (n .0) (n .1) in
+      chosen b w up (least-total b w up) wide-levels (least-total-reached b w up wide-levels (least-total-at-most b w up wide-levels (counts-of cs) 0 (zeros-of cs) any)) .total
+
+  -- the separations sum to the least total
+  pub sum-with : (k : Stack) → within-limits k ≡ true → longest (k .strips) ≤ s → sum (separations-with b k s (total-with b k s)) ≡ total-with b k s
+  unfolding within-limits stack
+  sum-with k e h = sum-of (k .strips) (k .channels) (search ands) h
+
 -- a placement's lengths
 good-length : (cs : List (List Pair)) (ts xs : List ℕ) → channels-good cs ts xs ≡ true → length ts ≡ length cs
 unfolding channels-good
@@ -125,3 +143,7 @@ answer-alone k s ts xs us ys a b =
 pub answer-there : (k : Stack) (s : ℕ) → within-limits k ≡ true → longest (k .strips) ≤ s → Answer k s (answer-separations k s) (answer-positions k s)
 unfolding answer-separations answer-positions answer-total
 answer-there k s e h = answer-with (s + 32) s (omega arith) k e h
+
+pub answer-sum : (k : Stack) (s : ℕ) → within-limits k ≡ true → longest (k .strips) ≤ s → sum (answer-separations k s) ≡ answer-total k s
+unfolding answer-separations answer-total
+answer-sum k s e h = sum-with (s + 32) s (omega arith) k e h

@@ -13,6 +13,7 @@ use Rattle.numbers.proofs.Bools.{ands, and-right, and-both, impossible}
 use Rattle.numbers.proofs.Orders.{le-or-lt}
 use Rattle.stack.specs.Stack.{Pair, Stack, q-at, feasible, in-spread, channels-good, legal}
 use Rattle.stack.specs.Limits.{rising, on-strips, channel-within, channels-within, strips-within, within-limits}
+use Rattle.stack.proofs.OnStrips.{terminals-on}
 use Rattle.channel.specs.Limits.{low-limit, high-limit, Between}
 use Rattle.channel.proofs.Between.{Biased, feasible-between, between-feasible, low-widens, high-widens, low-open, high-open}
 use Rattle.solver.specs.Spans.{Span, span, In, Fits, Limit, last, low-at, high-at}
@@ -48,13 +49,6 @@ channel-high b c t = go (le-or-lt t (length c))
         sym (high-capped (channel-limits b c) t)
         ∙ rw (past b c t h, high-open b c t (omega arith), high-at-of (low-limit b c) (high-limit b c) (length c) (length c) (omega arith)) (high-open b c (length c) (omega arith))
 
--- a channel's terminals are on its strips
-terminals-on : (l u : ℕ) (c : List Pair) → on-strips l u c ≡ true → (j : ℕ) → j < length c → q-at c j ≤ u
-unfolding on-strips q-at
-terminals-on l u [] e j h = absurd (omega arith)
-terminals-on l u (x ∷ c) e zero h = leb-true (x .q) u (search ands)
-terminals-on l u (x ∷ c) e (suc j) h = terminals-on l u c (search ands) j (omega arith)
-
 joined : (a i f g : Bool) → a ≡ true → f ≡ true → (i && g) ≡ true → ((a && i) && (f && g)) ≡ true
 joined true i true g ha hf h = h
 joined true i false g ha hf h = impossible hf
@@ -72,7 +66,7 @@ module _ (b s : ℕ) (wide : s + 32 ≤ b) where
   unfolding channel-within
   biased l u x y c e hu hx hy =
       let few : length c ≤ 32 = leb-true (length c) 32 (search ands) in
-      record { lower = omega arith; upper = omega arith; terminal = λ j h. omega (arith, terminals-on l u c (search ands) j h) }
+      record { lower = omega arith; upper = omega arith; terminal = λ j h. omega (arith, terminals-on l u c (search ands) j h .1) }
 
   -- one channel
   feasible-fits : (l u x y t : ℕ) (c : List Pair) → channel-within l u c ≡ true → u ≤ s → x ≤ s → y ≤ s → feasible c t x y ≡ true →

@@ -3,3 +3,4 @@ pub mod Values
 pub mod Found
 pub mod Rising
 pub mod Feasible
+pub mod OnStrips

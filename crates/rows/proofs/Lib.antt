@@ -1,0 +1,3 @@
+-- The rows that the walk finds are the rows of Stack.antt.
+pub mod Settled
+pub mod Rows

@@ -1,0 +1,2 @@
+-- The rows of a stack's table.
+pub mod Walk

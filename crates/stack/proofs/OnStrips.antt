@@ -1,0 +1,17 @@
+-- The terminals of a channel within the limits lie on its strips. By induction on the pairs. Assumes nothing.
+use mathlib.Core.Path.{_≡_}
+use mathlib.Core.Bool.{true}
+use mathlib.Core.List.{List, [], _∷_}
+use Prim.Native.Nat.{ℕ, zero, suc, _≤_, _<_}
+use native.Mathlib.Omega.{arith}
+use lib.ListN.{length}
+use borrow.Author.Tests.{leb-true}
+use Rattle.numbers.proofs.Bools.{ands}
+use Rattle.stack.specs.Stack.{Pair, p-at, q-at}
+use Rattle.stack.specs.Limits.{on-strips}
+
+pub terminals-on : (l u : ℕ) (c : List Pair) → on-strips l u c ≡ true → (j : ℕ) → j < length c → (p-at c j ≤ l) × (q-at c j ≤ u)
+unfolding on-strips p-at q-at
+terminals-on l u [] e j h = absurd (omega arith)
+terminals-on l u (x ∷ c) e zero h = (leb-true (x .p) l (search ands), leb-true (x .q) u (search ands))
+terminals-on l u (x ∷ c) e (suc j) h = terminals-on l u c (search ands) j (omega arith)
