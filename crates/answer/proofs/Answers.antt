@@ -22,7 +22,7 @@ use Rattle.solver.proofs.Order.{not-later-both}
 use Rattle.answer.specs.Solve.{window, channel-limits, stack-levels, bottom, levels-of, total-with, separations-with, positions-with, answer-total, answer-separations, answer-positions}
 use Rattle.answer.proofs.Legal.{in-window, legal-placed, placed-legal, stack-widening, channel-fits-open}
 
-longest-bounds : (l : ℕ) (ls : List ℕ) (s : ℕ) → longest (l ∷ ls) ≤ s → (l ≤ s) × (longest ls ≤ s)
+pub longest-bounds : (l : ℕ) (ls : List ℕ) (s : ℕ) → longest (l ∷ ls) ≤ s → (l ≤ s) × (longest ls ≤ s)
 unfolding longest
 longest-bounds l ls s h = go (ltb l (longest ls)) refl h
   where
@@ -40,7 +40,7 @@ zeros-of [] = []
 zeros-of (c ∷ cs) = 0 ∷ zeros-of cs
 
 module _ (b s : ℕ) (wide : s + 32 ≤ b) where
-  some-placed : (l : ℕ) (ls : List ℕ) (cs : List (List Pair)) → channels-within (l ∷ ls) cs ≡ true → l ≤ s → longest ls ≤ s →
+  pub some-placed : (l : ℕ) (ls : List ℕ) (cs : List (List Pair)) → channels-within (l ∷ ls) cs ≡ true → l ≤ s → longest ls ≤ s →
       Placed b (window s l) (stack-levels b s ls cs) (counts-of cs) 0 (zeros-of cs)
   unfolding channels-within stack-levels counts-of zeros-of
   some-placed l [] [] e h k = alone (in-window b s wide l 0 (omega arith))

@@ -29,7 +29,7 @@ past : (b : ℕ) (c : List Pair) (t : ℕ) → length c < t → min t (last (cha
 unfolding channel-limits
 past b c t h = omega (arith, last-of (low-limit b c) (high-limit b c) (length c))
 
-channel-low : (b : ℕ) (c : List Pair) (t : ℕ) → low-at (channel-limits b c) t ≡ low-limit b c t
+pub channel-low : (b : ℕ) (c : List Pair) (t : ℕ) → low-at (channel-limits b c) t ≡ low-limit b c t
 unfolding channel-limits
 channel-low b c t = go (le-or-lt t (length c))
   where

@@ -14,7 +14,7 @@ use Rattle.stack.proofs.Feasible.{By-pairs, by-pairs-feasible, feasible-by-pair
 use Rattle.channel.specs.Limits.{low-term, high-term, greatest, least, low-limit, high-limit, Between}
 
 -- a bound on the greatest is a bound on each
-greatest-at-most : (b : ℕ) (c : List Pair) (t n m : ℕ) → ((i : ℕ) → i < n → low-term b c t i ≤ m) → greatest b c t n ≤ m
+pub greatest-at-most : (b : ℕ) (c : List Pair) (t n m : ℕ) → ((i : ℕ) → i < n → low-term b c t i ≤ m) → greatest b c t n ≤ m
 unfolding greatest
 greatest-at-most b c t zero m h = omega arith
 greatest-at-most b c t (suc n) m h = omega (arith, h n (omega arith), greatest-at-most b c t n m (λ i l. h i (omega arith)))

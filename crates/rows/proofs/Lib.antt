@@ -1,3 +1,4 @@
 -- The rows that the walk finds are the rows of Stack.antt.
 pub mod Settled
 pub mod Rows
+pub mod Jumps
