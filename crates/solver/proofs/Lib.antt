@@ -13,3 +13,4 @@ pub mod Cells
 pub mod Tables
 pub mod Levels
 pub mod Filling
+pub mod Separating

@@ -1,8 +1,9 @@
 -- What the solver's arrays stand for. Assumes nothing: these are definitions.
 use mathlib.Core.Path.{_≡_}
-use mathlib.Core.List.{List, [], _∷_}
-use Prim.Native.Nat.{ℕ, zero, suc, _+_, _-_, _*_, _≤_, _<_}
-use lib.ListN.{length, getD}
+use mathlib.Core.List.{List, [], _∷_, map}
+use Prim.Native.Nat.{ℕ, zero, suc, _+_, _-_, _*_, _≤_, _<_, min}
+use lib.ListN.{length, getD, set}
+use Rattle.stack.specs.declared.Tracks.{Tracks}
 use Rattle.solver.specs.Spans.{Span, span, Limit, limit}
 use Rattle.solver.specs.Solver.{Level, level, most, back}
 
@@ -146,3 +147,21 @@ pub record Serve-asks (lows highs : List ℕ) (last above from upto : ℕ) : Typ
   pub ends : upto ≤ bias
   pub lows-small : (q : ℕ) → q ≤ last → entry lows q ≤ 2 * bias
   pub highs-small : (q : ℕ) → q ≤ last → entry highs q ≤ 2 * bias
+
+-- what the search for all separations asks: the tables hold what is left of the total in every channel but the last
+pub record Separate-asks (g : Given) (k total first : ℕ) (froms uptos : List (List ℕ)) : Type 0 where
+  pub stack : Stack-asks g k
+  pub cap : ℕ
+  pub table : Filled g k cap 1 froms uptos
+  pub enough : min total (most (levels g 1 (k - 1))) ≤ cap
+  pub above-first : first ≡ most (levels g 1 (k - 1))
+  pub fits : total < 4294967296
+
+-- the numbers of separations
+abbrev pub tracks : List Tracks → List ℕ
+tracks ts = map (λ (t : Tracks). t .0) ts
+
+-- xs written over ys from place i on
+unfoldable pub store : (ys : List ℕ) → (i : ℕ) → (xs : List ℕ) → List ℕ
+store ys i [] = ys
+store ys i (x ∷ xs) = store (set ys i x) (suc i) xs

@@ -3,13 +3,14 @@ use numbers::difference;
 use numbers::greater;
 use numbers::lesser;
 use stack::Stack;
+use stack::Tracks;
 ghost use mathlib.Core.Path.{_≡_};
-ghost use Prim.Native.Nat.{_+_, _-_, _*_, _≤_, _<_};
-ghost use lib.ListN.{getD};
+ghost use Prim.Native.Nat.{_+_, _-_, _*_, _≤_, _<_, min};
+ghost use lib.ListN.{replicate};
 ghost use lib.Dec.{ltb};
 ghost use Rattle.solver.specs.Spans.{span, cut, shift-on, join-if, gather};
-ghost use Rattle.solver.specs.Solver.{first-open, start, stop, cell, first-total, first-serving};
-ghost use Rattle.solver.specs.Arrays.{bias, strips-held, separations-held, totals-held, entry, spans-of, Gathers, Cell, row, Row-asks, Row-filled, given, Fill-asks, Fill-leaves, Serve-asks};
+ghost use Rattle.solver.specs.Solver.{first-open, start, stop, cell, first-total, first-serving, separations};
+ghost use Rattle.solver.specs.Arrays.{bias, channels-held, strips-held, separations-held, totals-held, entry, spans-of, Gathers, Cell, row, Row-asks, Row-filled, given, Fill-asks, Fill-leaves, Serve-asks, window-of, levels, tracks, store, Separate-asks};
 
 const SEPARATIONS: usize = Stack::MAX_SEPARATION + 1;
 
@@ -267,4 +268,68 @@ fn first_total(
         v += 1;
     }
     v
+}
+
+// The positions in the window (from, upto) of the strip above, for the strip below in s and separation q.
+fn pass_on(
+    low: &[u64; SEPARATIONS],
+    high: &[u64; SEPARATIONS],
+    last: usize,
+    q: usize,
+    s: Span,
+    from: u64,
+    upto: u64,
+) -> Span
+    requires { ⌜ Serve-asks (now low) (now high) last 0 (s .from) (s .upto) ⌝ }
+    ensures { λ r. ⌜ span (r .from) (r .upto) ≡ cut (span from upto) (shift-on bias (entry (now (low .entry)) (min q last)) (entry (now (high .entry)) (min q last)) (span (s .from) (s .upto))) ⌝ }
+{
+    let p = lesser(q as u64, last as u64) as usize;
+    forward(s, low[p], high[p], from, upto)
+}
+
+// The separations for a total, channel 1 first, from the tables of spans; zeros in unused places.
+fn separations_for(
+    low: &[[u64; SEPARATIONS]; CHANNELS],
+    high: &[[u64; SEPARATIONS]; CHANNELS],
+    counts: &[usize; CHANNELS],
+    from: &[u64; STRIPS],
+    upto: &[u64; STRIPS],
+    k: usize,
+    total: usize,
+    first: usize,
+    froms: &[[u64; TOTALS]; STRIPS],
+    uptos: &[[u64; TOTALS]; STRIPS],
+) -> [Tracks; CHANNELS]
+    requires { ⌜ Separate-asks (given (now low) (now high) (now counts) (now from) (now upto)) k total first (now froms) (now uptos) ⌝ }
+    ensures { λ r. ⌜ tracks r ≡ store (replicate channels-held 0) 0 (separations bias (window-of (given (now (low .entry)) (now (high .entry)) (now (counts .entry)) (now (from .entry)) (now (upto .entry))) 0) (levels (given (now (low .entry)) (now (high .entry)) (now (counts .entry)) (now (from .entry)) (now (upto .entry))) 0 k) total) ⌝ }
+{
+    let mut ts = [Tracks(0); CHANNELS];
+    let mut s = Span {
+        from: from[0],
+        upto: upto[0],
+    };
+    let mut v = total;
+    let mut above = first;
+    let mut i = 0;
+    while i + 1 < k {
+        let last = counts[i];
+        let q = serving(
+            &low[i],
+            &high[i],
+            &froms[i + 1],
+            &uptos[i + 1],
+            last,
+            above,
+            s,
+            v,
+        );
+        ts[i] = Tracks(q as u32);
+        let t = pass_on(&low[i], &high[i], last, q, s, from[i + 1], upto[i + 1]);
+        s = t;
+        v = difference(v as u64, q as u64) as usize;
+        i += 1;
+        above -= counts[i];
+    }
+    ts[i] = Tracks(v as u32);
+    ts
 }
