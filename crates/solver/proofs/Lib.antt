@@ -14,3 +14,4 @@ pub mod Tables
 pub mod Levels
 pub mod Filling
 pub mod Separating
+pub mod Fixing

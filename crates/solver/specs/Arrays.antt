@@ -5,7 +5,7 @@ use Prim.Native.Nat.{ℕ, zero, suc, _+_, _-_, _*_, _≤_, _<_, min}
 use lib.ListN.{length, getD, set}
 use Rattle.stack.specs.declared.Tracks.{Tracks}
 use Rattle.solver.specs.Spans.{Span, span, Limit, limit}
-use Rattle.solver.specs.Solver.{Level, level, most, back}
+use Rattle.solver.specs.Solver.{Level, level, most, back, fixed}
 
 -- the code's bias, Stack::BIAS
 abbrev pub bias : ℕ
@@ -165,3 +165,16 @@ tracks ts = map (λ (t : Tracks). t .0) ts
 unfoldable pub store : (ys : List ℕ) → (i : ℕ) → (xs : List ℕ) → List ℕ
 store ys i [] = ys
 store ys i (x ∷ xs) = store (set ys i x) (suc i) xs
+
+-- n entries from place i on
+unfoldable pub taken : List ℕ → (i n : ℕ) → List ℕ
+taken xs i zero = []
+taken xs i (suc n) = entry xs i ∷ taken xs (suc i) n
+
+abbrev pub fixed-from : Given → (ts : List ℕ) → (i n : ℕ) → Span
+fixed-from g ts i n = fixed bias (window-of g i) (levels g i n) (taken ts i n)
+
+-- from strip i on, the starts of the spans from which the strips above can be placed with the separations ts
+pub record Starts-are (g : Given) (k : ℕ) (ts : List ℕ) (i : ℕ) (starts : List ℕ) : Type 0 where
+  pub size : length starts ≡ strips-held
+  pub written : (j n : ℕ) → i ≤ j → j + n ≡ k → entry starts j ≡ fixed-from g ts j n .from

@@ -6,7 +6,7 @@ use Prim.Native.Nat.{ℕ, suc, _+_, _-_, _*_, _≤_, _<_}
 use lib.ListN.{replicate}
 use Rattle.solver.specs.Spans.{Span, gather}
 use Rattle.solver.specs.Solver.{first, most, separations}
-use Rattle.solver.specs.Arrays.{bias, channels-held, Given, window-of, levels, Filled, store}
+use Rattle.solver.specs.Arrays.{bias, channels-held, Given, window-of, levels, Filled, store, fixed-from, Starts-are}
 
 -- a search for the first number below stop at which f is true, at q
 pub record Searching (f : ℕ → Bool) (stop q found : ℕ) : Type 0 where
@@ -37,3 +37,11 @@ pub record Separating (g : Given) (k total i v above : ℕ) (s : Span) (ts : Lis
   pub at-most : v ≤ total
   pub starts : s .from ≤ bias * suc i
   pub ends : s .upto ≤ bias
+
+-- the spans for given separations worked out down to strip i, its span in s
+pub record Fixing (g : Given) (k : ℕ) (ts : List ℕ) (i : ℕ) (s : Span) (starts : List ℕ) : Type 0 where
+  pub to-top : i ≤ k
+  pub starts-are : Starts-are g k ts i starts
+  pub here : (n : ℕ) → i + n ≡ k → s ≡ fixed-from g ts i n
+  pub from-small : s .from + bias * i ≤ bias * suc k
+  pub upto-small : s .upto ≤ bias

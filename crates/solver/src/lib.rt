@@ -8,9 +8,9 @@ ghost use mathlib.Core.Path.{_≡_};
 ghost use Prim.Native.Nat.{_+_, _-_, _*_, _≤_, _<_, min};
 ghost use lib.ListN.{replicate};
 ghost use lib.Dec.{ltb};
-ghost use Rattle.solver.specs.Spans.{span, cut, shift-on, join-if, gather};
+ghost use Rattle.solver.specs.Spans.{span, cut, shift-back, shift-on, join-if, gather};
 ghost use Rattle.solver.specs.Solver.{first-open, start, stop, cell, first-total, first-serving, separations};
-ghost use Rattle.solver.specs.Arrays.{bias, channels-held, strips-held, separations-held, totals-held, entry, spans-of, Gathers, Cell, row, Row-asks, Row-filled, given, Fill-asks, Fill-leaves, Serve-asks, window-of, levels, tracks, store, Separate-asks};
+ghost use Rattle.solver.specs.Arrays.{bias, channels-held, strips-held, separations-held, totals-held, entry, spans-of, Gathers, Cell, row, Row-asks, Row-filled, given, Fill-asks, Fill-leaves, Serve-asks, window-of, levels, tracks, store, Separate-asks, Stack-asks, Starts-are};
 
 const SEPARATIONS: usize = Stack::MAX_SEPARATION + 1;
 
@@ -332,4 +332,54 @@ fn separations_for(
     }
     ts[i] = Tracks(v as u32);
     ts
+}
+
+// The positions in the window (from, upto) of the strip below, for the strip above in s and separation q.
+fn pull_back(
+    low: &[u64; SEPARATIONS],
+    high: &[u64; SEPARATIONS],
+    last: usize,
+    q: u32,
+    s: Span,
+    from: u64,
+    upto: u64,
+) -> Span
+    requires { ⌜ (last < separations-held) × (s .from ≤ strips-held * bias) × (s .upto ≤ bias) ⌝ }
+    ensures { λ r. ⌜ span (r .from) (r .upto) ≡ cut (span from upto) (shift-back bias (entry (now (low .entry)) (min q last)) (entry (now (high .entry)) (min q last)) (span (s .from) (s .upto))) ⌝ }
+{
+    let p = lesser(q as u64, last as u64) as usize;
+    Span {
+        from: greater(from, difference(s.from + Stack::BIAS, high[p])),
+        upto: lesser(upto, difference(s.upto + Stack::BIAS, low[p])),
+    }
+}
+
+// The first position of each strip from which the strips above can be placed with these separations.
+fn starts_for(
+    low: &[[u64; SEPARATIONS]; CHANNELS],
+    high: &[[u64; SEPARATIONS]; CHANNELS],
+    counts: &[usize; CHANNELS],
+    from: &[u64; STRIPS],
+    upto: &[u64; STRIPS],
+    k: usize,
+    ts: [Tracks; CHANNELS],
+) -> [u64; STRIPS]
+    requires { ⌜ Stack-asks (given (now low) (now high) (now counts) (now from) (now upto)) k ⌝ }
+    ensures { λ r. ⌜ Starts-are (given (now (low .entry)) (now (high .entry)) (now (counts .entry)) (now (from .entry)) (now (upto .entry))) k (tracks ts) 0 r ⌝ }
+{
+    let mut s = Span {
+        from: from[k],
+        upto: upto[k],
+    };
+    let mut starts = [0u64; STRIPS];
+    starts[k] = s.from;
+    let mut i = k;
+    while 0 < i {
+        i -= 1;
+        let Tracks(q) = ts[i];
+        let t = pull_back(&low[i], &high[i], counts[i], q, s, from[i], upto[i]);
+        s = t;
+        starts[i] = s.from;
+    }
+    starts
 }
