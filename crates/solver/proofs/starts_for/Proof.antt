@@ -1,11 +1,11 @@
-use mathlib.Core.Path.{refl, sym}
+use mathlib.Core.Path.{refl}
+use Prim.Native.Nat.{_-_}
 use native.Mathlib.Omega.{arith}
-use lib.ListN.{replicate, List·getD-map}
-use Rattle.stack.specs.declared.Tracks.{Tracks}
+use lib.ListN.{replicate}
 use Rattle.solver.specs.Spans.{span}
 use Rattle.solver.specs.Arrays.{strips-held, given, tracks}
 use Rattle.solver.specs.Loops.{Fixing}
-use Rattle.solver.proofs.Fixing.{fixing-start, fixing-asks, fixing-step, fixing-end}
+use Rattle.solver.proofs.Fixing.{track-at, fixing-start, fixing-asks, fixing-step, fixing-end}
 use borrow.Author.Needs.{needs}
 use Rattle.solver.proofs.starts_for.Statement.{statement}
 use Rattle.solver.proofs.starts_for.Tie as tie
@@ -93,7 +93,7 @@ loop-less c = search needs
 loop-again : tie.Need-loop-again Inv-loop μ-loop
 loop-again c =
     let a = c .before .before .before .before .before .before .before in
-    fixing-step _ _ _ (a .before .before .before .pre) _ _ _ _ _ _ (a .loop .inv) (omega arith) (sym (List·getD-map (λ (t : Tracks). t .0) _ _ (record { 0 = 0 }))) (c .pull-back .ensures)
+    fixing-step _ _ _ (a .before .before .before .pre) _ _ _ _ _ _ (a .loop .inv) (omega arith) (track-at (a .before .before .before .args .t7) (a .loop .i - 1)) (c .pull-back .ensures)
 
 returns : tie.Need-returns Inv-loop μ-loop
 returns c = fixing-end _ _ _ (c .before .before .before .before .pre) _ _ _ (c .before .loop .inv) (omega arith)
