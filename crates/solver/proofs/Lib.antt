@@ -15,3 +15,4 @@ pub mod Levels
 pub mod Filling
 pub mod Separating
 pub mod Fixing
+pub mod Positioning

@@ -4,8 +4,10 @@ use mathlib.Core.List.{List, [], _∷_, map}
 use Prim.Native.Nat.{ℕ, zero, suc, _+_, _-_, _*_, _≤_, _<_, min}
 use lib.ListN.{length, getD, set}
 use Rattle.stack.specs.declared.Tracks.{Tracks}
+use Rattle.stack.specs.declared.Columns.{Columns}
 use Rattle.solver.specs.Spans.{Span, span, Limit, limit}
 use Rattle.solver.specs.Solver.{Level, level, most, back, fixed}
+use Rattle.solver.specs.Placed.{Placed}
 
 -- the code's bias, Stack::BIAS
 abbrev pub bias : ℕ
@@ -178,3 +180,24 @@ fixed-from g ts i n = fixed bias (window-of g i) (levels g i n) (taken ts i n)
 pub record Starts-are (g : Given) (k : ℕ) (ts : List ℕ) (i : ℕ) (starts : List ℕ) : Type 0 where
   pub size : length starts ≡ strips-held
   pub written : (j n : ℕ) → i ≤ j → j + n ≡ k → entry starts j ≡ fixed-from g ts j n .from
+
+pub record Next-asks (lows : List ℕ) (last x : ℕ) : Type 0 where
+  pub listed : last < separations-held
+  pub position : x ≤ bias
+  pub lows-small : (q : ℕ) → q ≤ last → entry lows q ≤ 2 * bias
+
+-- the numbers of positions
+abbrev pub columns : List Columns → List ℕ
+columns xs = map (λ (x : Columns). x .0) xs
+
+-- positions fit their type
+abbrev pub Narrow : Given → (k : ℕ) → Type 0
+Narrow g k = (i : ℕ) → i ≤ k → entry (g .uptos) i ≤ 4294967296
+
+-- what the search for the positions asks: a placement with these separations
+pub record Position-asks (g : Given) (k : ℕ) (ts : List ℕ) : Type 0 where
+  pub stack : Stack-asks g k
+  pub narrow : Narrow g k
+  pub x : ℕ
+  pub ys : List ℕ
+  pub placed : Placed bias (window-of g 0) (levels g 0 k) (taken ts 0 k) x ys

@@ -5,8 +5,9 @@ use mathlib.Core.List.{List}
 use Prim.Native.Nat.{ℕ, suc, _+_, _-_, _*_, _≤_, _<_}
 use lib.ListN.{replicate}
 use Rattle.solver.specs.Spans.{Span, gather}
-use Rattle.solver.specs.Solver.{first, most, separations}
-use Rattle.solver.specs.Arrays.{bias, channels-held, Given, window-of, levels, Filled, store, fixed-from, Starts-are}
+use Rattle.solver.specs.Solver.{first, most, separations, positions-on, positions}
+use Rattle.solver.specs.Placed.{Placed}
+use Rattle.solver.specs.Arrays.{bias, channels-held, strips-held, Given, window-of, levels, Filled, store, taken, fixed-from, Starts-are}
 
 -- a search for the first number below stop at which f is true, at q
 pub record Searching (f : ℕ → Bool) (stop q found : ℕ) : Type 0 where
@@ -45,3 +46,16 @@ pub record Fixing (g : Given) (k : ℕ) (ts : List ℕ) (i : ℕ) (s : Span) (st
   pub here : (n : ℕ) → i + n ≡ k → s ≡ fixed-from g ts i n
   pub from-small : s .from + bias * i ≤ bias * suc k
   pub upto-small : s .upto ≤ bias
+
+-- the positions of the strips up to i written, strip i at x
+pub record Positioning (g : Given) (k : ℕ) (ts : List ℕ) (i x : ℕ) (xs : List ℕ) : Type 0 where
+  pub inside : i ≤ k
+  pub left :
+      (n : ℕ)
+      → i + n ≡ k
+      → store xs (suc i) (positions-on bias x (levels g i n) (taken ts i n))
+      ≡ store (replicate strips-held 0) 0 (positions bias (window-of g 0) (levels g 0 k) (taken ts 0 k))
+  pub placed :
+      (n : ℕ)
+      → i + n ≡ k
+      → Placed bias (window-of g i) (levels g i n) (taken ts i n) x (positions-on bias x (levels g i n) (taken ts i n))

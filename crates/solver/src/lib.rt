@@ -2,15 +2,16 @@
 use numbers::difference;
 use numbers::greater;
 use numbers::lesser;
+use stack::Columns;
 use stack::Stack;
 use stack::Tracks;
 ghost use mathlib.Core.Path.{_≡_};
-ghost use Prim.Native.Nat.{_+_, _-_, _*_, _≤_, _<_, min};
+ghost use Prim.Native.Nat.{_+_, _-_, _*_, _≤_, _<_, min, max};
 ghost use lib.ListN.{replicate};
 ghost use lib.Dec.{ltb};
 ghost use Rattle.solver.specs.Spans.{span, cut, shift-back, shift-on, join-if, gather};
-ghost use Rattle.solver.specs.Solver.{first-open, start, stop, cell, first-total, first-serving, separations};
-ghost use Rattle.solver.specs.Arrays.{bias, channels-held, strips-held, separations-held, totals-held, entry, spans-of, Gathers, Cell, row, Row-asks, Row-filled, given, Fill-asks, Fill-leaves, Serve-asks, window-of, levels, tracks, store, Separate-asks, Stack-asks, Starts-are};
+ghost use Rattle.solver.specs.Solver.{first-open, start, stop, cell, first-total, first-serving, separations, positions};
+ghost use Rattle.solver.specs.Arrays.{bias, channels-held, strips-held, separations-held, totals-held, entry, spans-of, Gathers, Cell, row, Row-asks, Row-filled, given, Fill-asks, Fill-leaves, Serve-asks, window-of, levels, tracks, store, Separate-asks, Stack-asks, Starts-are, Next-asks, Position-asks, columns, taken};
 
 const SEPARATIONS: usize = Stack::MAX_SEPARATION + 1;
 
@@ -382,4 +383,40 @@ fn starts_for(
         starts[i] = s.from;
     }
     starts
+}
+
+// The position of the strip above, as far left as start and the strip below at x allow.
+fn next(low: &[u64; SEPARATIONS], last: usize, q: u32, x: u64, start: u64) -> u64
+    requires { ⌜ Next-asks (now low) last x ⌝ }
+    ensures { λ r. ⌜ r ≡ max start (x + entry (now (low .entry)) (min q last) - bias) ⌝ }
+{
+    let p = lesser(q as u64, last as u64) as usize;
+    greater(start, difference(x + low[p], Stack::BIAS))
+}
+
+// The positions for separations that can be had, bottom strip first, each as far left as can be; zeros in unused places.
+fn positions_for(
+    low: &[[u64; SEPARATIONS]; CHANNELS],
+    high: &[[u64; SEPARATIONS]; CHANNELS],
+    counts: &[usize; CHANNELS],
+    from: &[u64; STRIPS],
+    upto: &[u64; STRIPS],
+    k: usize,
+    ts: [Tracks; CHANNELS],
+) -> [Columns; STRIPS]
+    requires { ⌜ Position-asks (given (now low) (now high) (now counts) (now from) (now upto)) k (tracks ts) ⌝ }
+    ensures { λ r. ⌜ columns r ≡ store (replicate strips-held 0) 0 (positions bias (window-of (given (now (low .entry)) (now (high .entry)) (now (counts .entry)) (now (from .entry)) (now (upto .entry))) 0) (levels (given (now (low .entry)) (now (high .entry)) (now (counts .entry)) (now (from .entry)) (now (upto .entry))) 0 k) (taken (tracks ts) 0 k)) ⌝ }
+{
+    let starts = starts_for(low, high, counts, from, upto, k, ts);
+    let mut xs = [Columns(0); STRIPS];
+    let mut x = starts[0];
+    xs[0] = Columns(x as u32);
+    let mut i = 0;
+    while i < k {
+        let Tracks(q) = ts[i];
+        x = next(&low[i], counts[i], q, x, starts[i + 1]);
+        i += 1;
+        xs[i] = Columns(x as u32);
+    }
+    xs
 }
