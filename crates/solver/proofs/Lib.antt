@@ -16,3 +16,5 @@ pub mod Filling
 pub mod Separating
 pub mod Fixing
 pub mod Positioning
+pub mod Stored
+pub mod Placing

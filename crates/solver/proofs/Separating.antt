@@ -22,7 +22,7 @@ unfolding first-serving
 serving-bound b low high o m a f s v h = omega (arith, first-upto (serves b low high a f s v) o (stop m v - o))
 
 -- the last separations of a stack sum to what the tables hold
-most-small : (g : Given) (k : ℕ) → Stack-asks g k → (i n : ℕ) → i + n ≡ k → most (levels g i n) ≤ 32 * n
+pub most-small : (g : Given) (k : ℕ) → Stack-asks g k → (i n : ℕ) → i + n ≡ k → most (levels g i n) ≤ 32 * n
 unfolding most levels
 most-small g k s i zero e = omega arith
 most-small g k s i (suc n) e =

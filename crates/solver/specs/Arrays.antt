@@ -1,13 +1,15 @@
 -- What the solver's arrays stand for. Assumes nothing: these are definitions.
 use mathlib.Core.Path.{_≡_}
-use mathlib.Core.List.{List, [], _∷_, map}
+use mathlib.Core.List.{List, [], _∷_, _++_, map}
 use Prim.Native.Nat.{ℕ, zero, suc, _+_, _-_, _*_, _≤_, _<_, min}
-use lib.ListN.{length, getD, set}
+use lib.ListN.{length, getD, set, replicate}
 use Rattle.stack.specs.declared.Tracks.{Tracks}
 use Rattle.stack.specs.declared.Columns.{Columns}
+use Rattle.solver.specs.declared.Placement.{Placement}
+use Rattle.solver.specs.declared.Found.{Found}
 use Rattle.solver.specs.Spans.{Span, span, Limit, limit}
-use Rattle.solver.specs.Solver.{Level, level, most, back, fixed}
-use Rattle.solver.specs.Placed.{Placed}
+use Rattle.solver.specs.Solver.{Level, level, most, back, least-total, separations, fixed, positions}
+use Rattle.solver.specs.Placed.{Placed, Exactly, Widening}
 
 -- the code's bias, Stack::BIAS
 abbrev pub bias : ℕ
@@ -201,3 +203,32 @@ pub record Position-asks (g : Given) (k : ℕ) (ts : List ℕ) : Type 0 where
   pub x : ℕ
   pub ys : List ℕ
   pub placed : Placed bias (window-of g 0) (levels g 0 k) (taken ts 0 k) x ys
+
+-- xs with zeros behind it, n places in all
+unfoldable pub padded : (n : ℕ) → List ℕ → List ℕ
+padded n xs = xs ++ replicate (n - length xs) 0
+
+abbrev pub least-total-of : Given → (k : ℕ) → ℕ
+least-total-of g k = least-total bias (window-of g 0) (levels g 0 k)
+
+abbrev pub separations-of : Given → (k total : ℕ) → List ℕ
+separations-of g k v = separations bias (window-of g 0) (levels g 0 k) v
+
+-- what a placement for a stated total asks: limits that widen, positions that fit their type, and some placement with that total
+pub record Place-asks (g : Given) (k total : ℕ) : Type 0 where
+  pub stack : Stack-asks g k
+  pub narrow : Narrow g k
+  pub widening : Widening (levels g 0 k)
+  pub fits : total < 4294967296
+  pub exactly : Exactly bias (window-of g 0) (levels g 0 k) total
+
+-- THE PLACEMENT for a total, as the code gives it
+pub record Placement-is (g : Given) (k total : ℕ) (r : Placement) : Type 0 where
+  pub total-is : r .total .0 ≡ total
+  pub separations-are : tracks (r .separations) ≡ padded channels-held (separations-of g k total)
+  pub positions-are : columns (r .positions) ≡ padded strips-held (positions bias (window-of g 0) (levels g 0 k) (separations-of g k total))
+
+-- the tables filled for all totals, with the least total and the sum of the last separations above channel 0
+pub record Found-is (g : Given) (k : ℕ) (froms uptos : List (List ℕ)) (r : Found) : Type 0 where
+  pub leaves : Fill-leaves g k (totals-held - 1) froms uptos (r .above)
+  pub total-is : r .total ≡ least-total-of g k

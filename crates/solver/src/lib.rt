@@ -11,7 +11,7 @@ ghost use lib.ListN.{replicate};
 ghost use lib.Dec.{ltb};
 ghost use Rattle.solver.specs.Spans.{span, cut, shift-back, shift-on, join-if, gather};
 ghost use Rattle.solver.specs.Solver.{first-open, start, stop, cell, first-total, first-serving, separations, positions};
-ghost use Rattle.solver.specs.Arrays.{bias, channels-held, strips-held, separations-held, totals-held, entry, spans-of, Gathers, Cell, row, Row-asks, Row-filled, given, Fill-asks, Fill-leaves, Serve-asks, window-of, levels, tracks, store, Separate-asks, Stack-asks, Starts-are, Next-asks, Position-asks, columns, taken};
+ghost use Rattle.solver.specs.Arrays.{bias, channels-held, strips-held, separations-held, totals-held, entry, spans-of, Gathers, Cell, row, Row-asks, Row-filled, given, Fill-asks, Fill-leaves, Serve-asks, window-of, levels, tracks, store, Separate-asks, Stack-asks, Starts-are, Next-asks, Position-asks, columns, taken, least-total-of, Place-asks, Placement-is, Found-is};
 
 const SEPARATIONS: usize = Stack::MAX_SEPARATION + 1;
 
@@ -25,6 +25,19 @@ const TOTALS: usize = Stack::MAX_TOTAL + 1;
 struct Span {
     from: u64,
     upto: u64,
+}
+
+// A placement: its total, its separations from channel 1 up, its positions from strip 0 up; zeros in unused places.
+pub struct Placement {
+    pub total: Tracks,
+    pub separations: [Tracks; CHANNELS],
+    pub positions: [Columns; STRIPS],
+}
+
+// The least total, and the sum of the last separations of the channels above channel 0.
+struct Found {
+    total: usize,
+    above: usize,
 }
 
 // The least separation whose limit is open, or one past the last.
@@ -419,4 +432,157 @@ fn positions_for(
         xs[i] = Columns(x as u32);
     }
     xs
+}
+
+// The tables of spans for all totals, and the least total.
+fn find(
+    low: &[[u64; SEPARATIONS]; CHANNELS],
+    high: &[[u64; SEPARATIONS]; CHANNELS],
+    counts: &[usize; CHANNELS],
+    from: &[u64; STRIPS],
+    upto: &[u64; STRIPS],
+    k: usize,
+    froms: &mut [[u64; TOTALS]; STRIPS],
+    uptos: &mut [[u64; TOTALS]; STRIPS],
+) -> Found
+    requires { ⌜ Fill-asks (given (now low) (now high) (now counts) (now from) (now upto)) k (totals-held - 1) (now froms) (now uptos) ⌝ }
+    ensures { λ r. ⌜ Found-is (given (now (low .entry)) (now (high .entry)) (now (counts .entry)) (now (from .entry)) (now (upto .entry))) k (now (froms .exit)) (now (uptos .exit)) r ⌝ }
+{
+    let above = fill(
+        low,
+        high,
+        counts,
+        from,
+        upto,
+        k,
+        Stack::MAX_TOTAL,
+        froms,
+        uptos,
+    );
+    let total = first_total(
+        &low[0],
+        &high[0],
+        &froms[1],
+        &uptos[1],
+        counts[0],
+        above,
+        from[0],
+        upto[0],
+    );
+    Found { total, above }
+}
+
+// The placement for a total that can be had, from the tables of spans.
+fn place_in(
+    low: &[[u64; SEPARATIONS]; CHANNELS],
+    high: &[[u64; SEPARATIONS]; CHANNELS],
+    counts: &[usize; CHANNELS],
+    from: &[u64; STRIPS],
+    upto: &[u64; STRIPS],
+    k: usize,
+    total: usize,
+    above: usize,
+    froms: &[[u64; TOTALS]; STRIPS],
+    uptos: &[[u64; TOTALS]; STRIPS],
+) -> Placement
+    requires { ⌜ Place-asks (given (now low) (now high) (now counts) (now from) (now upto)) k total × Separate-asks (given (now low) (now high) (now counts) (now from) (now upto)) k total above (now froms) (now uptos) ⌝ }
+    ensures { λ r. ⌜ Placement-is (given (now (low .entry)) (now (high .entry)) (now (counts .entry)) (now (from .entry)) (now (upto .entry))) k total r ⌝ }
+{
+    let ts = separations_for(low, high, counts, from, upto, k, total, above, froms, uptos);
+    let xs = positions_for(low, high, counts, from, upto, k, ts);
+    Placement {
+        total: Tracks(total as u32),
+        separations: ts,
+        positions: xs,
+    }
+}
+
+// The least total of a stack; one past the greatest of use if nothing can be placed.
+pub fn least_total(
+    low: &[[u64; SEPARATIONS]; CHANNELS],
+    high: &[[u64; SEPARATIONS]; CHANNELS],
+    counts: &[usize; CHANNELS],
+    from: &[u64; STRIPS],
+    upto: &[u64; STRIPS],
+    k: usize,
+) -> usize
+    requires { ⌜ Stack-asks (given (now low) (now high) (now counts) (now from) (now upto)) k ⌝ }
+    ensures { λ r. ⌜ r ≡ least-total-of (given (now (low .entry)) (now (high .entry)) (now (counts .entry)) (now (from .entry)) (now (upto .entry))) k ⌝ }
+{
+    let mut froms = [[0u64; TOTALS]; STRIPS];
+    let mut uptos = [[0u64; TOTALS]; STRIPS];
+    let f = find(low, high, counts, from, upto, k, &mut froms, &mut uptos);
+    f.total
+}
+
+// The placement of a stack for a stated total that some placement has.
+pub fn place_for(
+    low: &[[u64; SEPARATIONS]; CHANNELS],
+    high: &[[u64; SEPARATIONS]; CHANNELS],
+    counts: &[usize; CHANNELS],
+    from: &[u64; STRIPS],
+    upto: &[u64; STRIPS],
+    k: usize,
+    total: usize,
+) -> Placement
+    requires { ⌜ Place-asks (given (now low) (now high) (now counts) (now from) (now upto)) k total ⌝ }
+    ensures { λ r. ⌜ Placement-is (given (now (low .entry)) (now (high .entry)) (now (counts .entry)) (now (from .entry)) (now (upto .entry))) k total r ⌝ }
+{
+    let mut froms = [[0u64; TOTALS]; STRIPS];
+    let mut uptos = [[0u64; TOTALS]; STRIPS];
+    let cap = lesser(total as u64, Stack::MAX_TOTAL as u64) as usize;
+    let above = fill(
+        low,
+        high,
+        counts,
+        from,
+        upto,
+        k,
+        cap,
+        &mut froms,
+        &mut uptos,
+    );
+    place_in(
+        low,
+        high,
+        counts,
+        from,
+        upto,
+        k,
+        total,
+        above,
+        &froms,
+        &uptos,
+    )
+}
+
+// The placement of a stack for its least total.
+pub fn place(
+    low: &[[u64; SEPARATIONS]; CHANNELS],
+    high: &[[u64; SEPARATIONS]; CHANNELS],
+    counts: &[usize; CHANNELS],
+    from: &[u64; STRIPS],
+    upto: &[u64; STRIPS],
+    k: usize,
+) -> Placement
+    requires { ⌜ Place-asks (given (now low) (now high) (now counts) (now from) (now upto)) k (least-total-of (given (now low) (now high) (now counts) (now from) (now upto)) k) ⌝ }
+    ensures { λ r. ⌜ Placement-is (given (now (low .entry)) (now (high .entry)) (now (counts .entry)) (now (from .entry)) (now (upto .entry))) k (least-total-of (given (now (low .entry)) (now (high .entry)) (now (counts .entry)) (now (from .entry)) (now (upto .entry))) k) r ⌝ }
+{
+    let mut froms = [[0u64; TOTALS]; STRIPS];
+    let mut uptos = [[0u64; TOTALS]; STRIPS];
+    let f = find(low, high, counts, from, upto, k, &mut froms, &mut uptos);
+    let total = f.total;
+    let above = f.above;
+    place_in(
+        low,
+        high,
+        counts,
+        from,
+        upto,
+        k,
+        total,
+        above,
+        &froms,
+        &uptos,
+    )
 }
