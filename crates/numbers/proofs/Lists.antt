@@ -1,7 +1,7 @@
--- Laws of tabulate: its length, its elements, one element more, agreement, and one element changed; of filled: its start, a step, its end.
+-- Laws of tabulate: its length, its elements, one element more, agreement, and one element changed; of filled: its start, a step, its end; a map of a store.
 -- Assumes nothing.
 use mathlib.Core.Path.{_≡_, refl, ap, sym, _∙_}
-use mathlib.Core.List.{List, [], _∷_, _++_, append-assoc}
+use mathlib.Core.List.{List, [], _∷_, _++_, map, append-assoc}
 use mathlib.Core.Logic.{_≢_}
 use Prim.Native.Nat.{ℕ, zero, suc, _+_, _-_, _≤_, _<_}
 use native.Mathlib.Nat.{add-zero, zero-add, add-suc, suc-add, sub-zero}
@@ -92,3 +92,10 @@ filled-ends n t f d h k =
   where
     rest : tabulate (n - t) (0 + t) f ≡ tabulate (n - t) (0 + t) (λ s. d)
     rest = tabulate-same (n - t) (0 + t) f (λ s. d) (λ s l u. k s (omega (arith, zero-add t)))
+
+-- a map of a list with one element written
+pub map-set : {A B : Type 0} (f : A → B) (xs : List A) (i : ℕ) (a : A) → map f (set xs i a) ≡ set (map f xs) i (f a)
+unfolding map
+map-set f [] i a = refl
+map-set f (x ∷ xs) zero a = refl
+map-set {B = B} f (x ∷ xs) (suc i) a = ap {B = List B} (λ ys. f x ∷ ys) (map-set f xs i a)

@@ -87,7 +87,7 @@ module _ (b s d l : ℕ) (ls : List ℕ) (cs : List (List Pair)) (wide : s + d +
       nonempty (back b w up u) ≡ true
   possible-before v u y us zs clear i j p t =
       let there : In (back b (window (s + d) l) (stack-levels b (s + d) ls cs) u) y =
-        back-complete b (stack-levels b (s + d) ls cs) (stack-widening b (s + d) wide l ls cs e) (window (s + d) l) u us y zs p (omega arith) in
+      back-complete b (stack-levels b (s + d) ls cs) (stack-widening b (s + d) wide l ls cs e) (window (s + d) l) u us y zs p (omega arith) in
       filled-before d (back b w up u) (back b (widened d w) (widened-levels d up) u) y
       (back-grows b b d v w up (roomy b s d l ls cs wide h n e) clear u i j)
       (rw (window-wider s d l h, levels-wider b s d ls cs n) at there)
@@ -141,8 +141,12 @@ module _ (k : Stack) (good : within-limits k ≡ true) where
   jump-stays b s d v wide h clear i =
       let a = answer-there k (s + d) good (omega arith) in
       let same = total-any-bias b k s (omega arith) good h in
-      omega (arith, total-never-rises s (s + d) h (omega arith), answer-sum k (s + d) good (omega arith),
-      no-fall-strips b s d v (k .strips) (k .channels) (answer-separations k (s + d)) (answer-positions k (s + d)) wide h (search ands) clear (omega arith) (a .is-legal))
+      omega (
+        arith,
+        total-never-rises s (s + d) h (omega arith),
+        answer-sum k (s + d) good (omega arith),
+        no-fall-strips b s d v (k .strips) (k .channels) (answer-separations k (s + d)) (answer-positions k (s + d)) wide h (search ands) clear (omega arith) (a .is-legal),
+      )
 
   -- spreads at which the total stays have no row
   pub walk-jumps : (n d s v : ℕ) → ((i : ℕ) → i < d → v ≤ answer-total k (s + i)) → rows-walk k (d + n) s v ≡ rows-walk k n (s + d) v

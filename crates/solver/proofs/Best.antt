@@ -10,9 +10,9 @@ use lib.ListN.{length}
 use Rattle.stack.specs.Stack.{sum, not-later}
 use Rattle.solver.specs.Spans.{Span}
 use Rattle.solver.specs.Solver.{Level, most, least-total, separations, lowest, positions-on}
-use Rattle.solver.specs.Placed.{Placed, alone, under, Can, Widening, Chosen, Best}
+use Rattle.solver.specs.Placed.{Placed, alone, under, Exactly, Widening, Chosen, Best}
 use Rattle.solver.proofs.Order.{not-later-both}
-use Rattle.solver.proofs.Total.{Exactly, raise, no-smaller-total, least-total-at-most, least-total-reached}
+use Rattle.solver.proofs.Total.{no-smaller-total, least-total-at-most, least-total-reached}
 use Rattle.solver.proofs.Separations.{First-with, separations-first}
 use Rattle.solver.proofs.Positions.{lowest-placed, lowest-first}
 

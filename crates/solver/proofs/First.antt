@@ -37,6 +37,15 @@ module _ (f : ℕ → Bool) where
       go r (here e s) = omega arith
       go r (later e s) = omega arith
 
+  pub first-upto : (q n : ℕ) → first f q n ≤ q + n
+  unfolding first
+  first-upto q zero = omega arith
+  first-upto q (suc n) = go (first-upto (suc q) n) (found q n)
+    where
+      go : first f (suc q) n ≤ suc q + n → Found q n → first f q (suc n) ≤ q + suc n
+      go r (here e s) = omega arith
+      go r (later e s) = omega arith
+
   pub first-holds : (q n : ℕ) → first f q n < q + n → f (first f q n) ≡ true
   unfolding first
   first-holds q zero h = absurd (omega arith)

@@ -7,10 +7,11 @@ use native.Mathlib.Omega.{arith}
 use native.Mathlib.Nat.{add-zero, add-suc, suc-add}
 use lib.Dec.{leb}
 use lib.ListN.{length, getD}
-use Rattle.solver.specs.Spans.{Span, span, Limit, limit, last, low-at, high-at, cut, nonempty, join-if, gather}
-use Rattle.solver.specs.Solver.{Level, first, opens, first-open, least-open, most, start, stop, cell, back}
+use Rattle.solver.specs.Spans.{Span, span, Limit, limit, last, low-at, high-at, cut, shift-on, nonempty, join-if, gather}
+use Rattle.solver.specs.Solver.{Level, first, opens, first-open, least-open, most, start, stop, cell, back, serves, first-serving, least-serving, forward}
+use Rattle.solver.proofs.Limits.{low-capped, high-capped}
 use Rattle.solver.proofs.First.{first-hit, first-miss}
-use Rattle.solver.specs.Arrays.{bias, entry, Given, low-of, high-of, count-of, window-of, limits-from, levels}
+use Rattle.solver.specs.Arrays.{bias, entry, Given, low-of, high-of, count-of, window-of, limits-from, level-of, levels}
 
 module _ (low high : ℕ → ℕ) where
   limits-length : (q n : ℕ) → length (limits-from low high q n) ≡ n
@@ -41,6 +42,13 @@ module _ (low high : ℕ → ℕ) where
   pub high-at-of : (m q : ℕ) → q ≤ m → high-at (limits-from low high 0 (suc m)) q ≡ high q
   unfolding high-at
   high-at-of m q h = ap (λ (l : Limit). l .high) (entry-of m q h)
+
+  -- past the last separation the last entry
+  pub low-at-any : (m q : ℕ) → low-at (limits-from low high 0 (suc m)) q ≡ low (min q m)
+  low-at-any m q = sym (low-capped (limits-from low high 0 (suc m)) q) ∙ rw (last-of m) (low-at-of m (min q m) (omega arith))
+
+  pub high-at-any : (m q : ℕ) → high-at (limits-from low high 0 (suc m)) q ≡ high (min q m)
+  high-at-any m q = sym (high-capped (limits-from low high 0 (suc m)) q) ∙ rw (last-of m) (high-at-of m (min q m) (omega arith))
 
 -- a separation of use is in the list and leaves a total of use
 in-use : (o m a v j : ℕ) → v ≤ m + a → start o m a v ≤ j → j < start o m a v + (stop m v - start o m a v) → (j ≤ m) × (v - j ≤ v) × (v - j ≤ a)
@@ -83,18 +91,38 @@ open-of low high m =
     (λ j h k. ap₂ (λ (x y : ℕ). leb x y) (low-at-of low high m j (omega arith)) (high-at-of low high m j (omega arith)))
 
 -- THE CODE'S CELL IS THE SPAN: with the spans of the row above in f
+abbrev m : (g : Given) (i : ℕ) → ℕ
+m g i = count-of g i
+
+abbrev above : (g : Given) (i n : ℕ) → ℕ
+above g i n = most (levels g (suc i) n)
+
 module _ (g : Given) (i n v : ℕ) (f : ℕ → Span) where
-  abbrev m : ℕ
-  m = count-of g i
-
-  abbrev above : ℕ
-  above = most (levels g (suc i) n)
-
-  pub cell-back : v ≤ m + above → ((u : ℕ) → u ≤ v → u ≤ above → f u ≡ back bias (window-of g (suc i)) (levels g (suc i) n) u) → cell bias (low-of g i) (high-of g i) (first-open (low-of g i) (high-of g i) m) m above f (window-of g i) v ≡ back bias (window-of g i) (levels g i (suc n)) v
+  pub cell-back : v ≤ m g i + above g i n → ((u : ℕ) → u ≤ v → u ≤ above g i n → f u ≡ back bias (window-of g (suc i)) (levels g (suc i) n) u) → cell bias (low-of g i) (high-of g i) (first-open (low-of g i) (high-of g i) (m g i)) (m g i) (above g i n) f (window-of g i) v ≡ back bias (window-of g i) (levels g i (suc n)) v
   unfolding back levels
   cell-back h s =
-      rw (last-of (low-of g i) (high-of g i) m, open-of (low-of g i) (high-of g i) m)
-      (cell-same bias _ _ _ _ f _ _ m above (window-of g i) v h (λ q k. (sym (low-at-of (low-of g i) (high-of g i) m q k), sym (high-at-of (low-of g i) (high-of g i) m q k))) s)
+      rw (last-of (low-of g i) (high-of g i) (m g i), open-of (low-of g i) (high-of g i) (m g i))
+      (cell-same bias _ _ _ _ f _ _ (m g i) (above g i n) (window-of g i) v h (λ q k. (sym (low-at-of (low-of g i) (high-of g i) (m g i) q k), sym (high-at-of (low-of g i) (high-of g i) (m g i) q k))) s)
+
+-- the least separation that serves, and the forward span, from the arrays and from the levels
+module _ (g : Given) (i n : ℕ) (f : ℕ → Span) (s : Span) (v : ℕ) where
+  abbrev c : List Limit
+  c = limits-from (low-of g i) (high-of g i) 0 (suc (count-of g i))
+
+  serves-back : ((u : ℕ) → u ≤ v → u ≤ above g i n → f u ≡ back bias (window-of g (suc i)) (levels g (suc i) n) u) → (q : ℕ) → q < stop (m g i) v → serves bias (low-at c) (high-at c) (above g i n) (λ u. back bias (window-of g (suc i)) (levels g (suc i) n) u) s v q ≡ serves bias (low-of g i) (high-of g i) (above g i n) f s v q
+  unfolding serves
+  serves-back h q k =
+      rw (low-at-of (low-of g i) (high-of g i) (m g i) q (omega arith), high-at-of (low-of g i) (high-of g i) (m g i) q (omega arith), h (min (v - q) (above g i n)) (omega arith) (omega arith))
+
+  pub serving-back : ((u : ℕ) → u ≤ v → u ≤ above g i n → f u ≡ back bias (window-of g (suc i)) (levels g (suc i) n) u) → first-serving bias (low-of g i) (high-of g i) (first-open (low-of g i) (high-of g i) (m g i)) (m g i) (above g i n) f s v ≡ least-serving bias s (level-of g i) (levels g (suc i) n) v
+  unfolding first-serving
+  serving-back h =
+      rw (last-of (low-of g i) (high-of g i) (m g i), open-of (low-of g i) (high-of g i) (m g i))
+      (first-same _ _ _ _ (λ q k l. sym (serves-back h q (omega arith))))
+
+  pub forward-back : (q : ℕ) → cut (window-of g (suc i)) (shift-on bias (low-of g i (min q (m g i))) (high-of g i (min q (m g i))) s) ≡ forward bias s (level-of g i) q
+  unfolding forward
+  forward-back q = rw (low-at-any (low-of g i) (high-of g i) (m g i) q, high-at-any (low-of g i) (high-of g i) (m g i) q)
 
 gather-below : (b : ℕ) (low high : ℕ → ℕ) (f : ℕ → Span) (q n : ℕ) (t : Span) → gather b low high f q n t .from ≤ t .from
 unfolding gather

@@ -14,3 +14,8 @@ pub mod Cells
 pub mod Tables
 pub mod Levels
 pub mod Filling
+pub mod Separating
+pub mod Fixing
+pub mod Positioning
+pub mod Stored
+pub mod Placing

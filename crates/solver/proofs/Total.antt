@@ -8,19 +8,11 @@ use native.Mathlib.Omega.{arith}
 use Rattle.stack.specs.Stack.{sum}
 use Rattle.solver.specs.Spans.{Span, In, nonempty}
 use Rattle.solver.specs.Solver.{Level, most, back, first-total, least-total}
-use Rattle.solver.specs.Placed.{Placed, under, Can, Widening, more}
+use Rattle.solver.specs.Placed.{Placed, under, Can, Exactly, Widening, more}
 use Rattle.solver.proofs.First.{first-holds, first-least}
 use Rattle.solver.proofs.Limits.{fits-wider}
 use Rattle.solver.proofs.Spans.{in-nonempty, nonempty-in}
 use Rattle.solver.proofs.Back.{Capped, capped, back-complete, back-sound}
-
--- a placement with the total v
-pub record Exactly (b : ℕ) (w : Span) (cs : List Level) (v : ℕ) : Type 0 where
-  pub ts : List ℕ
-  pub x : ℕ
-  pub ys : List ℕ
-  pub placed : Placed b w cs ts x ys
-  pub total : sum ts ≡ v
 
 -- what can be placed with at most v can be placed with v: the first separation is raised by what is left
 pub raise : (b : ℕ) (w : Span) (c : Level) (cs : List Level) (v x : ℕ) → Widening (c ∷ cs) → Can b w (c ∷ cs) v x → Exactly b w (c ∷ cs) v

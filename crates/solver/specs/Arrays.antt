@@ -1,10 +1,15 @@
 -- What the solver's arrays stand for. Assumes nothing: these are definitions.
 use mathlib.Core.Path.{_≡_}
-use mathlib.Core.List.{List, [], _∷_}
-use Prim.Native.Nat.{ℕ, zero, suc, _+_, _-_, _*_, _≤_, _<_}
-use lib.ListN.{length, getD}
+use mathlib.Core.List.{List, [], _∷_, _++_, map}
+use Prim.Native.Nat.{ℕ, zero, suc, _+_, _-_, _*_, _≤_, _<_, min}
+use lib.ListN.{length, getD, set, replicate}
+use Rattle.stack.specs.declared.Tracks.{Tracks}
+use Rattle.stack.specs.declared.Columns.{Columns}
+use Rattle.solver.specs.declared.Placement.{Placement}
+use Rattle.solver.specs.declared.Found.{Found}
 use Rattle.solver.specs.Spans.{Span, span, Limit, limit}
-use Rattle.solver.specs.Solver.{Level, level, most, back}
+use Rattle.solver.specs.Solver.{Level, level, most, back, least-total, separations, fixed, positions}
+use Rattle.solver.specs.Placed.{Placed, Exactly, Widening}
 
 -- the code's bias, Stack::BIAS
 abbrev pub bias : ℕ
@@ -146,3 +151,84 @@ pub record Serve-asks (lows highs : List ℕ) (last above from upto : ℕ) : Typ
   pub ends : upto ≤ bias
   pub lows-small : (q : ℕ) → q ≤ last → entry lows q ≤ 2 * bias
   pub highs-small : (q : ℕ) → q ≤ last → entry highs q ≤ 2 * bias
+
+-- what the search for all separations asks: the tables hold what is left of the total in every channel but the last
+pub record Separate-asks (g : Given) (k total first : ℕ) (froms uptos : List (List ℕ)) : Type 0 where
+  pub stack : Stack-asks g k
+  pub cap : ℕ
+  pub table : Filled g k cap 1 froms uptos
+  pub enough : min total (most (levels g 1 (k - 1))) ≤ cap
+  pub above-first : first ≡ most (levels g 1 (k - 1))
+  pub fits : total < 4294967296
+
+-- the numbers of separations
+abbrev pub tracks : List Tracks → List ℕ
+tracks ts = map (λ (t : Tracks). t .0) ts
+
+-- xs written over ys from place i on
+unfoldable pub store : (ys : List ℕ) → (i : ℕ) → (xs : List ℕ) → List ℕ
+store ys i [] = ys
+store ys i (x ∷ xs) = store (set ys i x) (suc i) xs
+
+-- n entries from place i on
+unfoldable pub taken : List ℕ → (i n : ℕ) → List ℕ
+taken xs i zero = []
+taken xs i (suc n) = entry xs i ∷ taken xs (suc i) n
+
+abbrev pub fixed-from : Given → (ts : List ℕ) → (i n : ℕ) → Span
+fixed-from g ts i n = fixed bias (window-of g i) (levels g i n) (taken ts i n)
+
+-- from strip i on, the starts of the spans from which the strips above can be placed with the separations ts
+pub record Starts-are (g : Given) (k : ℕ) (ts : List ℕ) (i : ℕ) (starts : List ℕ) : Type 0 where
+  pub size : length starts ≡ strips-held
+  pub written : (j n : ℕ) → i ≤ j → j + n ≡ k → entry starts j ≡ fixed-from g ts j n .from
+
+pub record Next-asks (lows : List ℕ) (last x : ℕ) : Type 0 where
+  pub listed : last < separations-held
+  pub position : x ≤ bias
+  pub lows-small : (q : ℕ) → q ≤ last → entry lows q ≤ 2 * bias
+
+-- the numbers of positions
+abbrev pub columns : List Columns → List ℕ
+columns xs = map (λ (x : Columns). x .0) xs
+
+-- positions fit their type
+abbrev pub Narrow : Given → (k : ℕ) → Type 0
+Narrow g k = (i : ℕ) → i ≤ k → entry (g .uptos) i ≤ 4294967296
+
+-- what the search for the positions asks: a placement with these separations
+pub record Position-asks (g : Given) (k : ℕ) (ts : List ℕ) : Type 0 where
+  pub stack : Stack-asks g k
+  pub narrow : Narrow g k
+  pub x : ℕ
+  pub ys : List ℕ
+  pub placed : Placed bias (window-of g 0) (levels g 0 k) (taken ts 0 k) x ys
+
+-- xs with zeros behind it, n places in all
+unfoldable pub padded : (n : ℕ) → List ℕ → List ℕ
+padded n xs = xs ++ replicate (n - length xs) 0
+
+abbrev pub least-total-of : Given → (k : ℕ) → ℕ
+least-total-of g k = least-total bias (window-of g 0) (levels g 0 k)
+
+abbrev pub separations-of : Given → (k total : ℕ) → List ℕ
+separations-of g k v = separations bias (window-of g 0) (levels g 0 k) v
+
+-- what a placement for a stated total asks: limits that widen, positions that fit their type, and some placement with that total
+pub record Place-asks (g : Given) (k total : ℕ) : Type 0 where
+  pub stack : Stack-asks g k
+  pub narrow : Narrow g k
+  pub widening : Widening (levels g 0 k)
+  pub fits : total < 4294967296
+  pub exactly : Exactly bias (window-of g 0) (levels g 0 k) total
+
+-- THE PLACEMENT for a total, as the code gives it
+pub record Placement-is (g : Given) (k total : ℕ) (r : Placement) : Type 0 where
+  pub total-is : r .total .0 ≡ total
+  pub separations-are : tracks (r .separations) ≡ padded channels-held (separations-of g k total)
+  pub positions-are : columns (r .positions) ≡ padded strips-held (positions bias (window-of g 0) (levels g 0 k) (separations-of g k total))
+
+-- the tables filled for all totals, with the least total and the sum of the last separations above channel 0
+pub record Found-is (g : Given) (k : ℕ) (froms uptos : List (List ℕ)) (r : Found) : Type 0 where
+  pub leaves : Fill-leaves g k (totals-held - 1) froms uptos (r .above)
+  pub total-is : r .total ≡ least-total-of g k

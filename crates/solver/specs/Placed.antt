@@ -25,6 +25,14 @@ pub record Can (b : ℕ) (w : Span) (cs : List Level) (v x : ℕ) : Type 0 where
   pub placed : Placed b w cs ts x ys
   pub within : sum ts ≤ v
 
+-- a placement with the total v
+pub record Exactly (b : ℕ) (w : Span) (cs : List Level) (v : ℕ) : Type 0 where
+  pub ts : List ℕ
+  pub x : ℕ
+  pub ys : List ℕ
+  pub placed : Placed b w cs ts x ys
+  pub total : sum ts ≡ v
+
 -- limits widen as the separation grows
 pub record Widens (c : List Limit) : Type 0 where
   pub lower : (q n : ℕ) → q ≤ n → low-at c n ≤ low-at c q

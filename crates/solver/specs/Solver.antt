@@ -94,7 +94,7 @@ fixed b w (c ∷ cs) [] = w
 fixed b w (c ∷ cs) (t ∷ ts) =
     cut w (shift-back b (low-at (c .limits) t) (high-at (c .limits) t) (fixed b (c .window) cs ts))
 
--- THE POSITIONS for these separations: the bottom strip at x, and each strip above as far left as it can be
+-- the positions above the bottom strip at x for these separations: each strip as far left as it can be
 unfoldable pub positions-on : (b x : ℕ) → List Level → (ts : List ℕ) → List ℕ
 positions-on b x [] ts = []
 positions-on b x (c ∷ cs) [] = []
@@ -102,5 +102,10 @@ positions-on b x (c ∷ cs) (t ∷ ts) =
     let y = max (fixed b (c .window) cs ts .from) (x + low-at (c .limits) t - b) in
     y ∷ positions-on b y cs ts
 
+-- the bottom strip as far left as can be
 unfoldable pub lowest : (b : ℕ) → Span → List Level → (ts : List ℕ) → ℕ
 lowest b w cs ts = fixed b w cs ts .from
+
+-- THE POSITIONS for these separations, bottom strip first
+unfoldable pub positions : (b : ℕ) → Span → List Level → (ts : List ℕ) → List ℕ
+positions b w cs ts = lowest b w cs ts ∷ positions-on b (lowest b w cs ts) cs ts

@@ -1,0 +1,132 @@
+-- The tables, the least total and the placement put together. Assumes nothing.
+use mathlib.Core.Path.{_≡_, refl, sym, ap, _∙_}
+use mathlib.Core.List.{List, [], _∷_}
+use Prim.Native.Nat.{ℕ, zero, suc, _+_, _-_, _*_, _≤_, _<_, min, max}
+use native.Mathlib.Omega.{arith}
+use lib.ListN.{length, replicate, getD-replicate, length-replicate}
+use Rattle.solver.specs.Spans.{Span, span, nonempty}
+use Rattle.solver.specs.Solver.{Level, first, first-open, most, cell, back, first-total, least-total, forward, separations, lowest, positions-on, positions}
+use Rattle.solver.specs.Placed.{Placed, Exactly, Widening, Chosen}
+use Rattle.solver.specs.Arrays.{bias, channels-held, strips-held, totals-held, entry, spans-of, row, Sized, span-in, Cell, Given, low-of, high-of, count-of, window-of, level-of, levels, Stack-asks, Filled, Fill-asks, Fill-leaves, Separate-asks, store, taken, padded, Position-asks, least-total-of, separations-of, Place-asks, Placement-is, Found-is, tracks, columns}
+use Rattle.solver.specs.declared.Placement.{Placement}
+use Rattle.solver.proofs.Levels.{last-of, first-same, cell-back, back-ends}
+use Rattle.solver.proofs.Separating.{most-small}
+use Rattle.solver.proofs.Stored.{store-padded, taken-padded}
+use Rattle.solver.proofs.Best.{chosen, placed-lengths}
+
+-- tables of zeros
+abbrev zeros : ℕ → List ℕ
+zeros n = replicate n 0
+
+zeros-rows : (m n : ℕ) → length (replicate m (zeros n)) ≡ m
+zeros-rows m n = length-replicate m (zeros n)
+
+zeros-cells : (m n i : ℕ) → i < m → length (row (replicate m (zeros n)) i) ≡ n
+zeros-cells m n i h = rw (getD-replicate m i (zeros n) [] h) (length-replicate {A = ℕ} n 0)
+
+sized-zeros : Sized (replicate strips-held (replicate totals-held 0))
+sized-zeros = record { rows = zeros-rows strips-held totals-held; cells = zeros-cells strips-held totals-held }
+
+pub zeros-ask : (g : Given) (k cap : ℕ) → Stack-asks g k → cap < totals-held → Fill-asks g k cap (replicate strips-held (replicate totals-held 0)) (replicate strips-held (replicate totals-held 0))
+zeros-ask g k cap a h = record { stack = a; total = h; sized-froms = sized-zeros; sized-uptos = sized-zeros }
+
+-- the tables serve for a total if they are filled up to it, or for all totals
+pub separate-asks : (g : Given) (k cap total above : ℕ) (froms uptos : List (List ℕ)) → Stack-asks g k → Fill-leaves g k cap froms uptos above → min total (totals-held - 1) ≤ cap → total < 4294967296 → Separate-asks g k total above froms uptos
+separate-asks g k cap total above froms uptos a f h t =
+    record {
+      stack = a;
+      cap = cap;
+      table = f .table;
+      enough = omega (arith, most-small g k a 1 (k - 1) (omega (arith, a .some)), a .channels);
+      above-first = f .above-first;
+      fits = t;
+    }
+
+-- a separation for each channel, a position for each strip
+levels-length : (g : Given) (i n : ℕ) → length (levels g i n) ≡ n
+unfolding levels
+levels-length g i zero = refl
+levels-length g i (suc n) = ap suc (levels-length g (suc i) n)
+
+separations-length : (b : ℕ) (s : Span) (cs : List Level) (v : ℕ) → length (separations b s cs v) ≡ length cs
+unfolding separations
+separations-length b s [] v = refl
+separations-length b s (c ∷ []) v = refl
+separations-length b s (c ∷ d ∷ cs) v = ap suc (separations-length b _ (d ∷ cs) _)
+
+positions-on-length : (b x : ℕ) (cs : List Level) (ts : List ℕ) → length ts ≡ length cs → length (positions-on b x cs ts) ≡ length cs
+unfolding positions-on
+positions-on-length b x [] ts e = refl
+positions-on-length b x (c ∷ cs) [] e = absurd (omega arith)
+positions-on-length b x (c ∷ cs) (t ∷ ts) e = ap suc (positions-on-length b _ cs ts (omega arith))
+
+module _ (g : Given) (k total : ℕ) (a : Place-asks g k total) where
+  separations-count : length (separations-of g k total) ≡ k
+  separations-count = separations-length bias (window-of g 0) (levels g 0 k) total ∙ levels-length g 0 k
+
+  stored : (ts : List ℕ) → ts ≡ store (replicate channels-held 0) 0 (separations-of g k total) → ts ≡ padded channels-held (separations-of g k total)
+  stored ts e = e ∙ store-padded channels-held (separations-of g k total) (omega (arith, separations-count, a .stack .channels))
+
+  read-back : (ts : List ℕ) → ts ≡ store (replicate channels-held 0) 0 (separations-of g k total) → taken ts 0 k ≡ separations-of g k total
+  read-back ts e = rw (stored ts e) (taken-padded channels-held k (separations-of g k total) separations-count)
+
+  pub position-asks : (ts : List ℕ) → ts ≡ store (replicate channels-held 0) 0 (separations-of g k total) → Position-asks g k ts
+  position-asks ts e = go (chosen bias (window-of g 0) (levels g 0 k) total (a .widening) (a .exactly))
+    where
+      go : {x : ℕ} {ys : List ℕ} → Chosen bias (window-of g 0) (levels g 0 k) total (separations-of g k total) x ys → Position-asks g k ts
+      go {x} {ys} c = record { stack = a .stack; narrow = a .narrow; x = x; ys = ys; placed = rw (read-back ts e) (c .is-placed) }
+
+  positions-count : length (positions bias (window-of g 0) (levels g 0 k) (separations-of g k total)) ≡ suc k
+  unfolding positions
+  positions-count = ap suc (positions-on-length bias _ (levels g 0 k) (separations-of g k total) (separations-length bias (window-of g 0) (levels g 0 k) total) ∙ levels-length g 0 k)
+
+  pub placement-is : (r : Placement) → r .total .0 ≡ total → tracks (r .separations) ≡ store (replicate channels-held 0) 0 (separations-of g k total) → columns (r .positions) ≡ store (replicate strips-held 0) 0 (positions bias (window-of g 0) (levels g 0 k) (taken (tracks (r .separations)) 0 k)) → Placement-is g k total r
+  placement-is r t s p =
+      record {
+        total-is = t;
+        separations-are = stored (tracks (r .separations)) s;
+        positions-are = (rw (read-back (tracks (r .separations)) s) at p) ∙ store-padded strips-held _ (omega (arith, positions-count, a .stack .channels));
+      }
+
+-- the search for the least total
+module _ (g : Given) (k : ℕ) (froms uptos : List (List ℕ)) (above : ℕ) (a : Stack-asks g k) (f : Fill-leaves g k (totals-held - 1) froms uptos above) where
+  whole : k ≡ suc (k - 1)
+  whole = omega (arith, a .some)
+
+  most-whole : most (levels g 0 k) ≡ count-of g 0 + above
+  unfolding most levels
+  most-whole = rw whole (omega (arith, last-of (low-of g 0) (high-of g 0) (count-of g 0), f .above-first))
+
+  total-small : count-of g 0 + above ≤ totals-held - 1
+  total-small = omega (arith, most-whole, most-small g k a 0 k (omega arith), a .channels)
+
+  row-is : (u : ℕ) → u ≤ above → spans-of (row froms 1) (row uptos 1) u ≡ back bias (window-of g 1) (levels g 1 (k - 1)) u
+  row-is u h = f .table .filled 1 (k - 1) u (omega arith) (omega (arith, a .some)) (omega (arith, total-small)) (omega (arith, f .above-first))
+
+  row-ends : (u : ℕ) → u ≤ above → (entry (row froms 1) u ≤ bias) × (entry (row uptos 1) u ≤ bias)
+  row-ends u h =
+      omega (arith, ap (λ (t : Span). t .from) (row-is u h), ap (λ (t : Span). t .upto) (row-is u h), back-ends bias (window-of g 1) (levels g 1 (k - 1)) u, a .starts 1 (a .some), a .ends 1 (a .some))
+
+  pub total-asks : Cell (count-of g 0 + above) (count-of g 0) above (row froms 1) (row uptos 1)
+  total-asks =
+      record {
+        total = omega (arith, total-small);
+        listed = a .listed 0 (a .some);
+        of-use = omega arith;
+        starts = λ u h m. row-ends u m .0;
+        ends = λ u h m. row-ends u m .1;
+      }
+
+  -- the code's spans of the bottom strip
+  abbrev spans-found : ℕ → Span
+  spans-found = cell bias (low-of g 0) (high-of g 0) (first-open (low-of g 0) (high-of g 0) (count-of g 0)) (count-of g 0) above (spans-of (row froms 1) (row uptos 1)) (window-of g 0)
+
+  spans-are : (v : ℕ) → v ≤ count-of g 0 + above → spans-found v ≡ back bias (window-of g 0) (levels g 0 k) v
+  spans-are v h =
+      rw (f .above-first)
+      (cell-back g 0 (k - 1) v (spans-of (row froms 1) (row uptos 1)) (omega (arith, f .above-first)) (λ u m n. row-is u (omega (arith, f .above-first))))
+      ∙ ap (λ (n : ℕ). back bias (window-of g 0) (levels g 0 n) v) (sym whole)
+
+  pub total-is : (t : ℕ) → t ≡ first-total spans-found (count-of g 0 + above) → t ≡ least-total-of g k
+  unfolding first-total least-total
+  total-is t e = e ∙ rw (← most-whole) (first-same _ _ 0 _ (λ v h m. ap nonempty (spans-are v (omega (arith, most-whole)))))

@@ -1,0 +1,119 @@
+-- The loop that finds the separations, from the bottom channel up. Assumes nothing.
+use mathlib.Core.Path.{_≡_, refl, sym, ap, _∙_}
+use mathlib.Core.List.{List, [], _∷_}
+use Prim.Native.Nat.{ℕ, zero, suc, _+_, _-_, _*_, _≤_, _<_, min, max}
+use native.Mathlib.Numerals.{add-one}
+use native.Mathlib.Omega.{arith}
+use lib.ListN.{set, replicate}
+use Rattle.solver.specs.Spans.{Span, span, cut, shift-on}
+use Rattle.solver.specs.Solver.{first, opens, first-open, most, stop, back, serves, first-serving, least-serving, forward, separations}
+use Rattle.solver.specs.Arrays.{bias, channels-held, strips-held, separations-held, totals-held, entry, spans-of, row, span-in, Given, low-of, high-of, count-of, window-of, level-of, levels, Stack-asks, Filled, Serve-asks, Separate-asks, store}
+use Rattle.solver.specs.Loops.{Separating}
+use Rattle.solver.proofs.First.{first-upto}
+use Rattle.solver.proofs.Levels.{last-of, serving-back, forward-back}
+
+-- what is found is at most one past the last separation
+pub open-bound : (low high : ℕ → ℕ) (m : ℕ) → first-open low high m ≤ suc m
+unfolding first-open
+open-bound low high m = omega (arith, first-upto (opens low high) 0 (suc m))
+
+pub serving-bound : (b : ℕ) (low high : ℕ → ℕ) (o m a : ℕ) (f : ℕ → Span) (s : Span) (v : ℕ) → o ≤ suc m → first-serving b low high o m a f s v ≤ suc m
+unfolding first-serving
+serving-bound b low high o m a f s v h = omega (arith, first-upto (serves b low high a f s v) o (stop m v - o))
+
+-- the last separations of a stack sum to what the tables hold
+pub most-small : (g : Given) (k : ℕ) → Stack-asks g k → (i n : ℕ) → i + n ≡ k → most (levels g i n) ≤ 32 * n
+unfolding most levels
+most-small g k s i zero e = omega arith
+most-small g k s i (suc n) e =
+    omega (arith, most-small g k s (suc i) n (omega arith), last-of (low-of g i) (high-of g i) (count-of g i), s .listed i (omega arith))
+
+-- to pass a span on asks nothing of what is above
+pub pass-on-asks : (lows highs : List ℕ) (last above from upto : ℕ) → Serve-asks lows highs last above from upto → Serve-asks lows highs last 0 from upto
+pass-on-asks lows highs last above from upto a =
+    record {
+      listed = a .listed;
+      total = omega arith;
+      starts = a .starts;
+      ends = a .ends;
+      lows-small = a .lows-small;
+      highs-small = a .highs-small;
+    }
+
+module _ (g : Given) (k total : ℕ) where
+  pub separating-start : (first : ℕ) (froms uptos : List (List ℕ)) → Separate-asks g k total first froms uptos → Separating g k total 0 total first (window-of g 0) (replicate channels-held 0)
+  separating-start first froms uptos a =
+      record {
+        inside = a .stack .some;
+        left = λ n e. let z : n ≡ k = omega arith in rw z;
+        above-is = λ n e. let z : k - 1 ≡ n = omega arith in rw z at (a .above-first);
+        above-less = omega (arith, a .above-first);
+        at-most = omega arith;
+        starts = omega (arith, a .stack .starts 0 (omega arith));
+        ends = a .stack .ends 0 (omega arith);
+      }
+
+  module _ (i v above : ℕ) (s : Span) (ts : List ℕ) (first : ℕ) (froms uptos : List (List ℕ)) (a : Separate-asks g k total first froms uptos) (h : Separating g k total i v above s ts) (next : i + 1 < k) where
+    pub separating-asks : Serve-asks (row (g .lows) i) (row (g .highs) i) (count-of g i) above (s .from) (s .upto)
+    separating-asks =
+        record {
+          listed = a .stack .listed i (h .inside);
+          total = omega (arith, h .above-is (k - suc i) (omega arith), most-small g k (a .stack) (suc i) (k - suc i) (omega arith), a .stack .channels);
+          starts = omega (arith, h .starts, a .stack .channels);
+          ends = h .ends;
+          lows-small = λ q m. a .stack .lows i q (h .inside) m;
+          highs-small = λ q m. a .stack .highs i q (h .inside) m;
+        }
+
+    abbrev f : ℕ → Span
+    f = spans-of (row froms (i + 1)) (row uptos (i + 1))
+
+    row-is : (n u : ℕ) → suc i + n ≡ k → u ≤ v → u ≤ most (levels g (suc i) n) → f u ≡ back bias (window-of g (suc i)) (levels g (suc i) n) u
+    row-is n u e m l =
+        rw (add-one i)
+        (a .table .filled (suc i) n u (omega arith) e (omega (arith, a .enough, h .at-most, h .above-is n e, h .above-less)) l)
+
+    -- the sum of what is above, one channel on
+    above-next : (n : ℕ) → suc (suc i) + n ≡ k → above ≡ count-of g (suc i) + most (levels g (suc (suc i)) n)
+    unfolding most levels
+    above-next n e = h .above-is (suc n) (omega arith) ∙ rw (last-of (low-of g (suc i)) (high-of g (suc i)) (count-of g (suc i)))
+
+    pub above-holds : count-of g (i + 1) ≤ above
+    above-holds = rw (add-one i) (omega (arith, above-next (k - suc (suc i)) (omega arith)))
+
+    pub separation-small : (q : ℕ) → q ≡ first-serving bias (low-of g i) (high-of g i) (first-open (low-of g i) (high-of g i) (count-of g i)) (count-of g i) above f s v → q ≤ separations-held
+    separation-small q e =
+        omega (arith, e, serving-bound bias (low-of g i) (high-of g i) (first-open (low-of g i) (high-of g i) (count-of g i)) (count-of g i) above f s v (open-bound (low-of g i) (high-of g i) (count-of g i)), a .stack .listed i (h .inside))
+
+    module _ (q : ℕ) (t : Span) (v₁ : ℕ) (qe : q ≡ first-serving bias (low-of g i) (high-of g i) (first-open (low-of g i) (high-of g i) (count-of g i)) (count-of g i) above f s v) (te : t ≡ cut (spans-of (g .froms) (g .uptos) (i + 1)) (shift-on bias (low-of g i (min q (count-of g i))) (high-of g i (min q (count-of g i))) s)) (ve : v₁ ≡ v - q) where
+      q-is : (n : ℕ) → suc i + n ≡ k → q ≡ least-serving bias s (level-of g i) (levels g (suc i) n) v
+      q-is n e = qe ∙ rw (h .above-is n e) (serving-back g i n f s v (λ u m l. row-is n u e m l))
+
+      t-is : t ≡ forward bias s (level-of g i) q
+      t-is = te ∙ rw (add-one i) (forward-back g i 0 f s v q)
+
+      step-left : (n : ℕ) → suc i + n ≡ k → store (set ts i q) (suc i) (separations bias t (levels g (suc i) n) v₁) ≡ store (replicate channels-held 0) 0 (separations bias (window-of g 0) (levels g 0 k) total)
+      unfolding store separations levels
+      step-left zero e = absurd (omega arith)
+      step-left (suc n) e = rw (ve, t-is, q-is (suc n) e) (h .left (suc (suc n)) (omega arith))
+
+      t-ends : (t .from ≤ max (entry (g .froms) (i + 1)) (s .from + low-of g i (min q (count-of g i)) - bias)) × (t .upto ≤ entry (g .uptos) (i + 1))
+      t-ends = (rw te (omega arith), rw te (omega arith))
+
+      pub separating-step : Separating g k total (i + 1) v₁ (above - count-of g (i + 1)) t (set ts i q)
+      separating-step =
+          rw (add-one i)
+          (record {
+            inside = omega arith;
+            left = λ n e. step-left n e;
+            above-is = λ n e. omega (arith, above-next n e);
+            above-less = omega (arith, h .above-less);
+            at-most = omega (arith, h .at-most);
+            starts = omega (arith, t-ends, h .starts, a .stack .starts (i + 1) (omega arith), a .stack .lows i (min q (count-of g i)) (h .inside) (omega arith));
+            ends = omega (arith, t-ends, a .stack .ends (i + 1) (omega arith));
+          })
+
+  -- the last channel takes what is left
+  pub separating-end : (i v above : ℕ) (s : Span) (ts : List ℕ) → Separating g k total i v above s ts → k ≤ i + 1 → set ts i v ≡ store (replicate channels-held 0) 0 (separations bias (window-of g 0) (levels g 0 k) total)
+  unfolding store separations levels
+  separating-end i v above s ts h e = h .left 1 (omega (arith, h .inside))

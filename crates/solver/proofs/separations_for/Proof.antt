@@ -1,0 +1,202 @@
+use Prim.Native.Nat.{_-_}
+use native.Mathlib.Omega.{arith}
+use Rattle.numbers.proofs.Lists.{map-set}
+use Rattle.solver.specs.Spans.{span}
+use Rattle.solver.specs.Arrays.{given, tracks}
+use Rattle.solver.specs.Loops.{Separating}
+use Rattle.solver.proofs.Separating.{pass-on-asks, separating-start, separating-asks, separation-small, above-holds, separating-step, separating-end}
+use borrow.Author.Needs.{needs}
+use Rattle.solver.proofs.separations_for.Statement.{statement}
+use Rattle.solver.proofs.separations_for.Tie as tie
+
+abbrev Inv-loop : tie.InvT-loop
+Inv-loop low high counts from upto k total first froms uptos ts₀ s₀ v₀ above₀ i₀ ts s v above i = Separating (given low high counts from upto) k total i v above (span (s .from) (s .upto)) (tracks ts)
+
+abbrev μ-loop : tie.MeasureT-loop
+μ-loop low high counts from upto k total first froms uptos ts₀ s₀ v₀ above₀ i₀ ts s v above i = k - i
+
+element-copy-out-t22 : tie.Need-element-copy-out-t22 Inv-loop μ-loop
+element-copy-out-t22 c = search needs
+
+element-copy-out-t25 : tie.Need-element-copy-out-t25 Inv-loop μ-loop
+element-copy-out-t25 c = search needs
+
+loop-holds : tie.Need-loop-holds Inv-loop μ-loop
+loop-holds c = separating-start _ _ _ _ _ _ (c .before .before .pre)
+
+add-loop : tie.Need-add-loop Inv-loop μ-loop
+add-loop c = search needs
+
+mul-last : tie.Need-mul-last Inv-loop μ-loop
+mul-last c = search needs
+
+element-copy-out-last : tie.Need-element-copy-out-last Inv-loop μ-loop
+element-copy-out-last c = search needs
+
+mul-serving : tie.Need-mul-serving Inv-loop μ-loop
+mul-serving c = search needs
+
+index-1-serving : tie.Need-index-1-serving Inv-loop μ-loop
+index-1-serving c = search needs
+
+mul-serving-2 : tie.Need-mul-serving-2 Inv-loop μ-loop
+mul-serving-2 c = search needs
+
+index-1-serving-2 : tie.Need-index-1-serving-2 Inv-loop μ-loop
+index-1-serving-2 c = search needs
+
+add-serving : tie.Need-add-serving Inv-loop μ-loop
+add-serving c = search needs
+
+mul-serving-3 : tie.Need-mul-serving-3 Inv-loop μ-loop
+mul-serving-3 c = search needs
+
+index-1-serving-3 : tie.Need-index-1-serving-3 Inv-loop μ-loop
+index-1-serving-3 c = search needs
+
+add-serving-2 : tie.Need-add-serving-2 Inv-loop μ-loop
+add-serving-2 c = search needs
+
+mul-serving-4 : tie.Need-mul-serving-4 Inv-loop μ-loop
+mul-serving-4 c = search needs
+
+index-1-serving-4 : tie.Need-index-1-serving-4 Inv-loop μ-loop
+index-1-serving-4 c = search needs
+
+serving-requires : tie.Need-serving-requires Inv-loop μ-loop
+serving-requires c κs =
+    let a = c .before .before .before .before .before .before in
+    separating-asks _ _ _ _ _ _ _ _ _ _ _ (a .before .before .before .pre) (a .loop .inv) (omega arith)
+
+cast-t47 : tie.Need-cast-t47 Inv-loop μ-loop
+cast-t47 c =
+    let a = c .before .before .before .before .before .before .before in
+    omega (arith, separation-small _ _ _ _ _ _ _ _ _ _ _ (a .before .before .before .pre) (a .loop .inv) (omega arith) _ (c .serving .ensures))
+
+mul-ts : tie.Need-mul-ts Inv-loop μ-loop
+mul-ts c = search needs
+
+array-set-from-ts : tie.Need-array-set-from-ts Inv-loop μ-loop
+array-set-from-ts c = search needs
+
+mul-pass-on : tie.Need-mul-pass-on Inv-loop μ-loop
+mul-pass-on c = search needs
+
+index-1-pass-on : tie.Need-index-1-pass-on Inv-loop μ-loop
+index-1-pass-on c = search needs
+
+mul-pass-on-2 : tie.Need-mul-pass-on-2 Inv-loop μ-loop
+mul-pass-on-2 c = search needs
+
+index-1-pass-on-2 : tie.Need-index-1-pass-on-2 Inv-loop μ-loop
+index-1-pass-on-2 c = search needs
+
+add-pass-on : tie.Need-add-pass-on Inv-loop μ-loop
+add-pass-on c = search needs
+
+mul-pass-on-3 : tie.Need-mul-pass-on-3 Inv-loop μ-loop
+mul-pass-on-3 c = search needs
+
+element-copy-out-pass-on : tie.Need-element-copy-out-pass-on Inv-loop μ-loop
+element-copy-out-pass-on c = search needs
+
+add-pass-on-2 : tie.Need-add-pass-on-2 Inv-loop μ-loop
+add-pass-on-2 c = search needs
+
+mul-pass-on-4 : tie.Need-mul-pass-on-4 Inv-loop μ-loop
+mul-pass-on-4 c = search needs
+
+element-copy-out-pass-on-2 : tie.Need-element-copy-out-pass-on-2 Inv-loop μ-loop
+element-copy-out-pass-on-2 c = search needs
+
+pass-on-requires : tie.Need-pass-on-requires Inv-loop μ-loop
+pass-on-requires c κs =
+    let a = c .before .before .before .before .before .before .before .before .before .before .before in
+    pass-on-asks _ _ _ _ _ _ (separating-asks _ _ _ _ _ _ _ _ _ _ _ (a .before .before .before .pre) (a .loop .inv) (omega arith))
+
+difference-requires : tie.Need-difference-requires Inv-loop μ-loop
+difference-requires c κs = search needs
+
+add-i : tie.Need-add-i Inv-loop μ-loop
+add-i c = search needs
+
+mul-above : tie.Need-mul-above Inv-loop μ-loop
+mul-above c = search needs
+
+element-copy-out-above : tie.Need-element-copy-out-above Inv-loop μ-loop
+element-copy-out-above c = search needs
+
+sub-above : tie.Need-sub-above Inv-loop μ-loop
+sub-above c =
+    let a = c .before .before .before .before .before .before .before .before .before .before .before .before .before .before in
+    above-holds _ _ _ _ _ _ _ _ _ _ _ (a .before .before .before .pre) (a .loop .inv) (omega arith)
+
+loop-less : tie.Need-loop-less Inv-loop μ-loop
+loop-less c = search needs
+
+loop-again : tie.Need-loop-again Inv-loop μ-loop
+loop-again c =
+    let a = c .before .before .before .before .before .before .before .before .before .before .before .before .before .before in
+    rw map-set
+    (separating-step _ _ _ _ _ _ _ _ _ _ _ (a .before .before .before .pre) (a .loop .inv) (omega arith) _ _ _ (c .before .before .before .before .before .before .before .serving .ensures) (c .before .before .pass-on .ensures) (c .before .difference .ensures))
+
+cast-t66 : tie.Need-cast-t66 Inv-loop μ-loop
+cast-t66 c = search needs
+
+mul-ts-2 : tie.Need-mul-ts-2 Inv-loop μ-loop
+mul-ts-2 c = search needs
+
+array-set-from-ts-2 : tie.Need-array-set-from-ts-2 Inv-loop μ-loop
+array-set-from-ts-2 c = search needs
+
+returns : tie.Need-returns Inv-loop μ-loop
+returns c = rw map-set (separating-end _ _ _ _ _ _ _ _ (c .before .loop .inv) (omega arith))
+
+pub separations-for-spec : {M : Type 1} → statement M
+separations-for-spec =
+    tie.close
+    (tie.spec
+    Inv-loop
+    μ-loop
+    element-copy-out-t22
+    element-copy-out-t25
+    loop-holds
+    add-loop
+    mul-last
+    element-copy-out-last
+    mul-serving
+    index-1-serving
+    mul-serving-2
+    index-1-serving-2
+    add-serving
+    mul-serving-3
+    index-1-serving-3
+    add-serving-2
+    mul-serving-4
+    index-1-serving-4
+    serving-requires
+    cast-t47
+    mul-ts
+    array-set-from-ts
+    mul-pass-on
+    index-1-pass-on
+    mul-pass-on-2
+    index-1-pass-on-2
+    add-pass-on
+    mul-pass-on-3
+    element-copy-out-pass-on
+    add-pass-on-2
+    mul-pass-on-4
+    element-copy-out-pass-on-2
+    pass-on-requires
+    difference-requires
+    add-i
+    mul-above
+    element-copy-out-above
+    sub-above
+    loop-less
+    loop-again
+    cast-t66
+    mul-ts-2
+    array-set-from-ts-2
+    returns)
