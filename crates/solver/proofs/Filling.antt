@@ -10,7 +10,8 @@ use Rattle.solver.specs.Spans.{Span, span}
 use Rattle.solver.specs.Solver.{first-open, most, cell, back}
 use Rattle.solver.specs.Arrays.{bias, strips-held, totals-held, entry, spans-of, row, Sized, span-in, Given, low-of, high-of, count-of, window-of, levels, Row-asks, Row-filled, Stack-asks, Filled, Fill-asks, Fill-leaves}
 use Rattle.solver.specs.Loops.{Filling}
-use Rattle.solver.proofs.Tables.{put, put-same, sized-put}
+use Rattle.solver.specs.Scan.{put}
+use Rattle.solver.proofs.Tables.{put-same, sized-put}
 use Rattle.solver.proofs.Levels.{last-of, cell-back, back-ends}
 
 module _ (g : Given) (k cap : ℕ) where

@@ -51,7 +51,7 @@ module _ (low high : ℕ → ℕ) where
   high-at-any m q = sym (high-capped (limits-from low high 0 (suc m)) q) ∙ rw (last-of m) (high-at-of m (min q m) (omega arith))
 
 -- a separation of use is in the list and leaves a total of use
-in-use : (o m a v j : ℕ) → v ≤ m + a → start o m a v ≤ j → j < start o m a v + (stop m v - start o m a v) → (j ≤ m) × (v - j ≤ v) × (v - j ≤ a)
+pub in-use : (o m a v j : ℕ) → v ≤ m + a → start o m a v ≤ j → j < start o m a v + (stop m v - start o m a v) → (j ≤ m) × (v - j ≤ v) × (v - j ≤ a)
 in-use o m a v j h k n = omega arith
 
 -- what depends on a function only within a range is the same for two that agree there

@@ -19,3 +19,5 @@ pub mod Fixing
 pub mod Positioning
 pub mod Stored
 pub mod Placing
+pub mod Scanning
+pub mod Scans

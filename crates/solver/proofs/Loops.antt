@@ -12,10 +12,10 @@ use Rattle.solver.specs.Solver.{opens, first, first-open, first-total, s
 use Rattle.solver.specs.Loops.{Searching, Gathering}
 use Rattle.solver.proofs.First.{first-hit, first-miss}
 
-one-left : (stop q : ℕ) → q < stop → suc (stop - suc q) ≡ stop - q
+pub one-left : (stop q : ℕ) → q < stop → suc (stop - suc q) ≡ stop - q
 one-left stop q h = omega arith
 
-none-left : (stop q : ℕ) → stop ≤ q → 0 ≡ stop - q
+pub none-left : (stop q : ℕ) → stop ≤ q → 0 ≡ stop - q
 none-left stop q h = omega arith
 
 module _ (f : ℕ → Bool) (stop q : ℕ) where

@@ -10,10 +10,7 @@ use Rattle.numbers.proofs.Orders.{lt-or-eq, eq-or-not}
 use Rattle.solver.specs.Spans.{Span, span}
 use Rattle.solver.specs.Arrays.{bias, strips-held, totals-held, entry, spans-of, Cell, row, Sized, span-in, Row-asks, Row-filled}
 use Rattle.solver.specs.Solver.{cell}
-
--- the table with x at (i, v), as the code writes it
-abbrev pub put : List (List ℕ) → (i v x : ℕ) → List (List ℕ)
-put t i v x = set t i (set (getD t i []) v x)
+use Rattle.solver.specs.Scan.{put}
 
 module _ (t : List (List ℕ)) (s : Sized t) (i v x : ℕ) (h : i < strips-held) where
   row-written : row (put t i v x) i ≡ set (row t i) v x
@@ -27,6 +24,14 @@ module _ (t : List (List ℕ)) (s : Sized t) (i v x : ℕ) (h : i < strips-held)
 
   pub put-other : (u : ℕ) → (u ≡ v → ⊥) → entry (row (put t i v x) i) u ≡ entry (row t i) u
   put-other u n = rw row-written (getD-set-other (row t i) v u x 0 n)
+
+  -- every other cell is as it was
+  pub put-apart : (j u : ℕ) → (j ≡ i → u ≡ v → ⊥) → entry (row (put t i v x) j) u ≡ entry (row t j) u
+  put-apart j u n = go (eq-or-not j i)
+    where
+      go : (j ≡ i) ⊎ (j ≡ i → ⊥) → entry (row (put t i v x) j) u ≡ entry (row t j) u
+      go (inl e) = rw e (put-other u (n e))
+      go (inr d) = ap (λ (r : List ℕ). entry r u) (row-other j d)
 
   pub sized-put : Sized (put t i v x)
   sized-put = record { rows = length-set t i (set (row t i) v x) ∙ s .rows; cells = λ j k. go j k (eq-or-not j i) }

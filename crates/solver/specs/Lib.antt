@@ -5,3 +5,4 @@ pub mod Placed
 pub mod Arrays
 pub mod Loops
 pub mod Jump
+pub mod Scan

@@ -8,8 +8,10 @@ use stack::Tracks;
 ghost use mathlib.Core.Path.{_≡_};
 ghost use Prim.Native.Nat.{_+_, _-_, _*_, _≤_, _<_, min, max};
 ghost use lib.ListN.{replicate};
-ghost use lib.Dec.{ltb};
+ghost use lib.Dec.{ltb, eqb};
 ghost use Rattle.solver.specs.Spans.{span, cut, shift-back, shift-on, join-if, gather};
+ghost use Rattle.solver.specs.Jump.{min-if, max-if};
+ghost use Rattle.solver.specs.Scan.{Ends-ask, Ends-are, Strip-asks, Strip-done, Counts-ask, Sums-are, Leasts-are, jump-if, Total-asks, Scanning, Scan-asks, Scan-is};
 ghost use Rattle.solver.specs.Solver.{first-open, start, stop, cell, first-total, first-serving, separations, positions};
 ghost use Rattle.solver.specs.Arrays.{bias, channels-held, strips-held, separations-held, totals-held, entry, spans-of, Gathers, Cell, row, Row-asks, Row-filled, given, Fill-asks, Fill-leaves, Serve-asks, window-of, levels, tracks, store, Separate-asks, Stack-asks, Starts-are, Next-asks, Position-asks, columns, taken, least-total-of, Place-asks, Placement-is, Found-is};
 
@@ -585,4 +587,220 @@ pub fn place(
         &froms,
         &uptos,
     )
+}
+
+// Of spans shifted back: the nearest start, and the furthest end raised by the bias once more.
+struct Ends {
+    near: u64,
+    reach: u64,
+}
+
+// The first total that can be had, and how far the spread may grow before a smaller one can.
+pub struct Scan {
+    pub total: usize,
+    pub jump: u64,
+}
+
+// The ends stretched by the span (from, upto) shifted back by the limit (low, high), if that span is not empty.
+fn stretch(e: Ends, from: u64, upto: u64, low: u64, high: u64) -> Ends
+    requires { ⌜ (from ≤ bias) × (upto ≤ bias) × (low ≤ 2 * bias) ⌝ }
+    ensures { λ r. ⌜ (r .near ≡ min-if (ltb from upto) (from + bias - high) (e .near)) × (r .reach ≡ max-if (ltb from upto) (upto + 2 * bias - low) (e .reach)) ⌝ }
+{
+    if from < upto {
+        Ends {
+            near: lesser(e.near, difference(from + Stack::BIAS, high)),
+            reach: greater(e.reach, upto + 2 * Stack::BIAS - low),
+        }
+    } else {
+        e
+    }
+}
+
+// The ends of the spans of the strip above for what separations from start to below stop leave of total v, each shifted back by its limit.
+fn reach_back(
+    low: &[u64; SEPARATIONS],
+    high: &[u64; SEPARATIONS],
+    froms: &[u64; TOTALS],
+    uptos: &[u64; TOTALS],
+    v: usize,
+    start: usize,
+    stop: usize,
+) -> Ends
+    requires { ⌜ Ends-ask v start stop (now low) (now froms) (now uptos) ⌝ }
+    ensures { λ r. ⌜ Ends-are (now (low .entry)) (now (high .entry)) (now (froms .entry)) (now (uptos .entry)) v start stop r ⌝ }
+{
+    let mut e = Ends {
+        near: Stack::BIAS,
+        reach: 0,
+    };
+    let mut q = start;
+    while q < stop {
+        let u = v - q;
+        let wider = stretch(e, froms[u], uptos[u], low[q], high[q]);
+        e = wider;
+        q += 1;
+    }
+    e
+}
+
+// Writes the span of strip i for total v, from the spans of the strip above, and answers by how much it is short.
+fn scan_strip(
+    low: &[u64; SEPARATIONS],
+    high: &[u64; SEPARATIONS],
+    i: usize,
+    least: usize,
+    last: usize,
+    above: usize,
+    from: u64,
+    upto: u64,
+    v: usize,
+    froms: &mut [[u64; TOTALS]; STRIPS],
+    uptos: &mut [[u64; TOTALS]; STRIPS],
+) -> u64
+    requires { ⌜ Strip-asks i last above v from upto (now low) (now froms) (now uptos) ⌝ }
+    ensures { λ r. ⌜ Strip-done (now (low .entry)) (now (high .entry)) i least last above v (span from upto) (now (froms .entry)) (now (uptos .entry)) (now (froms .exit)) (now (uptos .exit)) r ⌝ }
+{
+    let e = reach_back(
+        low,
+        high,
+        &froms[i + 1],
+        &uptos[i + 1],
+        v,
+        start(least, last, above, v),
+        stop(last, v),
+    );
+    froms[i][v] = greater(from, lesser(upto, e.near));
+    uptos[i][v] = lesser(upto, difference(e.reach, Stack::BIAS));
+    difference(
+        greater(from, e.near) + 1 + Stack::BIAS,
+        lesser(upto + Stack::BIAS, e.reach),
+    )
+}
+
+// The sums of the counts above each strip.
+fn sums_above(counts: &[usize; CHANNELS], k: usize) -> [usize; STRIPS]
+    requires { ⌜ Counts-ask (now counts) k ⌝ }
+    ensures { λ r. ⌜ Sums-are (now (counts .entry)) k 0 r ⌝ }
+{
+    let mut sums = [0usize; STRIPS];
+    let mut i = k;
+    while 0 < i {
+        i -= 1;
+        sums[i] = counts[i] + sums[i + 1];
+    }
+    sums
+}
+
+// The least open separation of each channel.
+fn least_opens(
+    low: &[[u64; SEPARATIONS]; CHANNELS],
+    high: &[[u64; SEPARATIONS]; CHANNELS],
+    counts: &[usize; CHANNELS],
+    k: usize,
+) -> [usize; CHANNELS]
+    requires { ⌜ Counts-ask (now counts) k ⌝ }
+    ensures { λ r. ⌜ Leasts-are (now (low .entry)) (now (high .entry)) (now (counts .entry)) k r ⌝ }
+{
+    let mut leasts = [0usize; CHANNELS];
+    for i in 0..k {
+        leasts[i] = least_open(&low[i], &high[i], counts[i]);
+    }
+    leasts
+}
+
+// The lesser of a jump and a shortfall, if there is a shortfall.
+fn shorter(jump: u64, short: u64) -> u64
+    ensures { λ r. ⌜ r ≡ jump-if (eqb short 0) jump short ⌝ }
+{
+    if short == 0 {
+        return jump;
+    }
+    lesser(jump, short)
+}
+
+// Writes the spans of strips k - 1 to 0 for total v, and answers the jump cut down to their shortfalls.
+fn scan_total(
+    low: &[[u64; SEPARATIONS]; CHANNELS],
+    high: &[[u64; SEPARATIONS]; CHANNELS],
+    counts: &[usize; CHANNELS],
+    from: &[u64; STRIPS],
+    upto: &[u64; STRIPS],
+    leasts: &[usize; CHANNELS],
+    sums: &[usize; STRIPS],
+    k: usize,
+    v: usize,
+    before: u64,
+    froms: &mut [[u64; TOTALS]; STRIPS],
+    uptos: &mut [[u64; TOTALS]; STRIPS],
+) -> u64
+    requires { ⌜ Total-asks (given (now low) (now high) (now counts) (now from) (now upto)) k v (now leasts) (now sums) (now froms) (now uptos) before ⌝ }
+    ensures { λ r. ⌜ Scanning (given (now (low .entry)) (now (high .entry)) (now (counts .entry)) (now (from .entry)) (now (upto .entry))) k v 0 (now (froms .exit)) (now (uptos .exit)) r ⌝ }
+{
+    let mut jump = before;
+    let mut i = k;
+    while 0 < i {
+        i -= 1;
+        if v <= sums[i] {
+            let short = scan_strip(
+                &low[i],
+                &high[i],
+                i,
+                leasts[i],
+                counts[i],
+                sums[i + 1],
+                from[i],
+                upto[i],
+                v,
+                froms,
+                uptos,
+            );
+            jump = shorter(jump, short);
+        }
+    }
+    jump
+}
+
+// The first total up to cap that can be had, or one more than cap, with the tables of spans for the totals up to it.
+pub fn scan_totals(
+    low: &[[u64; SEPARATIONS]; CHANNELS],
+    high: &[[u64; SEPARATIONS]; CHANNELS],
+    counts: &[usize; CHANNELS],
+    from: &[u64; STRIPS],
+    upto: &[u64; STRIPS],
+    k: usize,
+    cap: usize,
+    froms: &mut [[u64; TOTALS]; STRIPS],
+    uptos: &mut [[u64; TOTALS]; STRIPS],
+) -> Scan
+    requires { ⌜ Scan-asks (given (now low) (now high) (now counts) (now from) (now upto)) k cap (now froms) (now uptos) ⌝ }
+    ensures { λ r. ⌜ Scan-is (given (now (low .entry)) (now (high .entry)) (now (counts .entry)) (now (from .entry)) (now (upto .entry))) k cap (now (froms .exit)) (now (uptos .exit)) r ⌝ }
+{
+    let sums = sums_above(counts, k);
+    let leasts = least_opens(low, high, counts, k);
+    froms[k][0] = from[k];
+    uptos[k][0] = upto[k];
+    let mut jump = Stack::BIAS;
+    let mut v = 0;
+    while v <= cap {
+        let next = scan_total(
+            low,
+            high,
+            counts,
+            from,
+            upto,
+            &leasts,
+            &sums,
+            k,
+            v,
+            jump,
+            froms,
+            uptos,
+        );
+        if froms[0][v] < uptos[0][v] {
+            return Scan { total: v, jump };
+        }
+        jump = next;
+        v += 1;
+    }
+    Scan { total: v, jump }
 }

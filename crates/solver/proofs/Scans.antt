@@ -1,0 +1,367 @@
+-- The laws of the scan's loops over channels, strips and totals. Assumes nothing.
+use mathlib.Core.Path.{_≡_, refl, sym, ap, ap₂, _∙_}
+use mathlib.Core.Bool.{Bool, true, false}
+use mathlib.Core.Logic.{_⊎_, inl, inr}
+use mathlib.Core.List.{List, []}
+use Prim.Native.Nat.{ℕ, zero, suc, _+_, _-_, _*_, _≤_, _<_, min, max}
+use native.Mathlib.Nat.{add-zero}
+use native.Mathlib.Numerals.{add-one}
+use native.Mathlib.Omega.{arith}
+use lib.Dec.{eqb}
+use lib.ListN.{length, set, replicate, length-set, length-replicate, getD-replicate}
+use lib.Seq.{getD-set-same, getD-set-other}
+use borrow.Author.Tests.{eqb-true, eqb-false}
+use Rattle.numbers.proofs.Orders.{lt-or-eq, eq-or-not, le-or-lt}
+use Rattle.solver.specs.Spans.{Span, span, nonempty}
+use Rattle.solver.specs.Solver.{first, first-open, most, start, stop, cell, back, first-total}
+use Rattle.solver.specs.Jump.{nearest, furthest, near-of, reach-of, shortfall, cell-short, short-at, None-within}
+use Rattle.solver.specs.Arrays.{bias, channels-held, strips-held, separations-held, totals-held, entry, spans-of, row, Sized, span-in, Given, low-of, high-of, count-of, window-of, level-of, levels, Stack-asks, Filled}
+use Rattle.solver.specs.Scan.{put, Strip-asks, Strip-done, jump-if, short-of, sums, Sums-are, Leasts-are, Counts-ask, Scanning, Total-asks, Scan-asks, Scan-is}
+use Rattle.solver.specs.Loops.{Searching}
+use Rattle.solver.proofs.Loops.{searching-hit, searching-miss, searching-end, totalling-start, ends-full, ends-empty}
+use Rattle.solver.proofs.Tables.{put-same, put-apart, sized-put}
+use Rattle.solver.proofs.Levels.{last-of, cell-back, back-ends, open-of, low-at-of, high-at-of, in-use as use-within}
+
+-- THE SUMS above each strip
+pub most-sums : (g : Given) (i n : ℕ) → most (levels g i n) ≡ sums (g .counts) i n
+unfolding most levels sums
+most-sums g i zero = refl
+most-sums g i (suc n) = ap₂ _+_ (last-of (low-of g i) (high-of g i) (count-of g i)) (most-sums g (suc i) n)
+
+pub sums-start : (counts : List ℕ) (k : ℕ) → Counts-ask counts k → Sums-are counts k k (replicate strips-held 0)
+unfolding sums
+sums-start counts k a =
+    record {
+      size = refl;
+      sums-are = λ j n h e.
+          let z : n ≡ 0 = omega arith in
+          rw z (getD-replicate strips-held j 0 0 (omega (arith, a .channels)));
+      small = λ j h l. let z : entry (replicate strips-held 0) j ≡ 0 = getD-replicate strips-held j 0 0 (omega (arith, a .channels)) in omega arith;
+    }
+
+module _ (counts : List ℕ) (k i j : ℕ) (r : List ℕ) (a : Counts-ask counts k) (s : Sums-are counts k i r) (below : j + 1 ≡ i) (h : i ≤ k) where
+  pub sums-room : entry counts j + entry r (j + 1) < 4096
+  sums-room = rw below (omega (arith, a .listed j (omega arith), a .channels, s .small i (omega arith) h))
+
+  abbrev new : List ℕ
+  new = set r j (entry counts j + entry r (j + 1))
+
+  written : entry new j ≡ entry counts j + entry r (j + 1)
+  written = getD-set-same r j _ 0 (omega (arith, s .size, a .channels))
+
+  pub sums-step : Sums-are counts k j new
+  unfolding sums
+  sums-step =
+      record {
+        size = length-set r j _ ∙ s .size;
+        sums-are = λ p n m e. go p n e (lt-or-eq j p m);
+        small = λ p m l. bound p l (lt-or-eq j p m);
+      }
+    where
+      here : (n : ℕ) → j + n ≡ k → entry new j ≡ sums counts j n
+      here zero e = absurd (omega arith)
+      here (suc n) e = written ∙ ap (λ (m : ℕ). entry counts j + m) (rw (add-one j) (s .sums-are (suc j) n (omega arith) (omega arith)))
+
+      go : (p n : ℕ) → p + n ≡ k → (j < p) ⊎ (j ≡ p) → entry new p ≡ sums counts p n
+      go p n e (inl m) = getD-set-other r j p _ 0 (omega arith) ∙ s .sums-are p n (omega arith) e
+      go p n e (inr m) = rw (← m) (here n (rw (← m) at e))
+
+      bound : (p : ℕ) → p ≤ k → (j < p) ⊎ (j ≡ p) → entry new p + 32 * p ≤ 32 * k
+      bound p l (inl m) = omega (arith, getD-set-other r j p (entry counts j + entry r (j + 1)) 0 (omega arith), s .small p (omega arith) l)
+      bound p l (inr m) =
+          let above : entry r (j + 1) + 32 * (j + 1) ≤ 32 * k = rw below (s .small i (omega arith) h) in
+          rw (← m) (omega (arith, written, a .listed j (omega arith)))
+
+-- THE LEAST OPEN SEPARATIONS
+pub leasts-start : (lows highs : List (List ℕ)) (counts : List ℕ) → Leasts-are lows highs counts 0 (replicate channels-held 0)
+leasts-start lows highs counts = record { size = refl; leasts-are = λ j h. absurd (omega arith) }
+
+pub leasts-step : (lows highs : List (List ℕ)) (counts : List ℕ) (i x : ℕ) (r : List ℕ) → i < channels-held → Leasts-are lows highs counts i r →
+    x ≡ first-open (entry (row lows i)) (entry (row highs i)) (entry counts i) → Leasts-are lows highs counts (i + 1) (set r i x)
+leasts-step lows highs counts i x r h s e = record { size = length-set r i x ∙ s .size; leasts-are = λ j l. go j (lt-or-eq j i (omega arith)) }
+  where
+    go : (j : ℕ) → (j < i) ⊎ (j ≡ i) → entry (set r i x) j ≡ first-open (entry (row lows j)) (entry (row highs j)) (entry counts j)
+    go j (inl m) = getD-set-other r i j x 0 (omega arith) ∙ s .leasts-are j m
+    go j (inr m) = rw m (getD-set-same r i x 0 (omega (arith, s .size)) ∙ e)
+
+-- A SHORTFALL from the arrays is that of the levels
+nearest-same : (b : ℕ) (high₁ high₂ : ℕ → ℕ) (f₁ f₂ : ℕ → Span) (q n t : ℕ) → ((j : ℕ) → q ≤ j → j < q + n → (high₁ j ≡ high₂ j) × (f₁ j ≡ f₂ j)) →
+    nearest b high₁ f₁ q n t ≡ nearest b high₂ f₂ q n t
+unfolding nearest
+nearest-same b high₁ high₂ f₁ f₂ q zero t h = refl
+nearest-same b high₁ high₂ f₁ f₂ q (suc n) t h =
+    let e = h q (omega arith) (omega arith) in
+    rw (e .0, e .1) (nearest-same b high₁ high₂ f₁ f₂ (suc q) n _ (λ j k m. h j (omega arith) (omega arith)))
+
+furthest-same : (b : ℕ) (low₁ low₂ : ℕ → ℕ) (f₁ f₂ : ℕ → Span) (q n t : ℕ) → ((j : ℕ) → q ≤ j → j < q + n → (low₁ j ≡ low₂ j) × (f₁ j ≡ f₂ j)) →
+    furthest b low₁ f₁ q n t ≡ furthest b low₂ f₂ q n t
+unfolding furthest
+furthest-same b low₁ low₂ f₁ f₂ q zero t h = refl
+furthest-same b low₁ low₂ f₁ f₂ q (suc n) t h =
+    let e = h q (omega arith) (omega arith) in
+    rw (e .0, e .1) (furthest-same b low₁ low₂ f₁ f₂ (suc q) n _ (λ j k m. h j (omega arith) (omega arith)))
+
+module _ (g : Given) (i n v : ℕ) (f : ℕ → Span) where
+  abbrev last : ℕ
+  last = count-of g i
+
+  abbrev above : ℕ
+  above = most (levels g (suc i) n)
+
+  pub short-back : v ≤ last + above → ((u : ℕ) → u ≤ v → u ≤ above → f u ≡ back bias (window-of g (suc i)) (levels g (suc i) n) u) →
+      cell-short bias bias (low-of g i) (high-of g i) (first-open (low-of g i) (high-of g i) last) last above f (window-of g i) v ≡ short-of g i n v
+  unfolding cell-short
+  short-back h s =
+      rw (last-of (low-of g i) (high-of g i) last, open-of (low-of g i) (high-of g i) last)
+      (ap₂ (shortfall bias (window-of g i))
+      (nearest-same bias _ _ _ _ _ _ bias (λ j k m. let r = in-use j k m in (sym (high-at-of (low-of g i) (high-of g i) last j (r .0)), s (v - j) (r .1) (r .2))))
+      (furthest-same bias _ _ _ _ _ _ 0 (λ j k m. let r = in-use j k m in (sym (low-at-of (low-of g i) (high-of g i) last j (r .0)), s (v - j) (r .1) (r .2)))))
+    where
+      o : ℕ
+      o = first-open (low-of g i) (high-of g i) last
+
+      in-use : (j : ℕ) → start o last above v ≤ j → j < start o last above v + (stop last v - start o last above v) → (j ≤ last) × (v - j ≤ v) × (v - j ≤ above)
+      in-use j k m = use-within o last above v j h k m
+
+pub none-yet : (g : Given) (k cap : ℕ) (froms uptos : List (List ℕ)) → Scan-asks g k cap froms uptos → Scan-asks g k 0 froms uptos
+none-yet g k cap froms uptos a =
+    record { stack = a .stack; total = omega arith; of-use = omega arith; sized-froms = a .sized-froms; sized-uptos = a .sized-uptos }
+
+-- THE TABLES before the first total: the top strip's window
+module _ (g : Given) (k : ℕ) (froms uptos : List (List ℕ)) (a : Scan-asks g k 0 froms uptos) where
+  abbrev top-froms : List (List ℕ)
+  top-froms = put froms k 0 (entry (g .froms) k)
+
+  abbrev top-uptos : List (List ℕ)
+  top-uptos = put uptos k 0 (entry (g .uptos) k)
+
+  top : span-in top-froms top-uptos k 0 ≡ window-of g k
+  top =
+      ap₂ span (put-same froms (a .sized-froms) k 0 _ (omega (arith, a .stack .channels)) (omega arith))
+      (put-same uptos (a .sized-uptos) k 0 _ (omega (arith, a .stack .channels)) (omega arith))
+
+  pub scanning-start : Scanning g k 0 k top-froms top-uptos bias
+  unfolding most levels back
+  scanning-start =
+      record {
+        sized-froms = sized-put froms (a .sized-froms) k 0 _ (omega (arith, a .stack .channels));
+        sized-uptos = sized-put uptos (a .sized-uptos) k 0 _ (omega (arith, a .stack .channels));
+        earlier = λ j n u e h m. absurd (omega arith);
+        here = λ j n h e m. let z : n ≡ 0 = omega arith in let p : j ≡ k = omega arith in rw (z, p) top;
+        earlier-jump = λ j n u e h m t. absurd (omega arith);
+        here-jump = λ j n h e m t. absurd (omega arith);
+      }
+
+-- one strip more, strip j under strip i
+module _ (g : Given) (k v i j : ℕ) (froms uptos : List (List ℕ)) (jump : ℕ) (a : Stack-asks g k) (s : Scanning g k v i froms uptos jump) (below : j + 1 ≡ i) (h : i ≤ k) where
+  -- how many channels lie above strip i
+  abbrev n : ℕ
+  n = k - i
+
+  counted : j + suc n ≡ k
+  counted = omega arith
+
+  most-here : most (levels g j (suc n)) ≡ count-of g j + most (levels g (suc j) n)
+  unfolding most levels
+  most-here = ap (λ (m : ℕ). m + most (levels g (suc j) n)) (last-of (low-of g j) (high-of g j) (count-of g j))
+
+  -- the strip above, by its totals
+  above-is : (u : ℕ) → u ≤ v → u ≤ most (levels g (suc j) n) → span-in froms uptos (j + 1) u ≡ back bias (window-of g (suc j)) (levels g (suc j) n) u
+  above-is u l m = rw (add-one j) (go (lt-or-eq u v l))
+    where
+      go : (u < v) ⊎ (u ≡ v) → span-in froms uptos (suc j) u ≡ back bias (window-of g (suc j)) (levels g (suc j) n) u
+      go (inl p) = s .earlier (suc j) n u (omega arith) p m
+      go (inr p) = rw p (s .here (suc j) n (omega arith) (omega arith) (rw p at m))
+
+  above-ends : (u : ℕ) → u ≤ v → u ≤ most (levels g (suc j) n) → (entry (row froms (j + 1)) u ≤ bias) × (entry (row uptos (j + 1)) u ≤ bias)
+  above-ends u l m =
+      let r = above-is u l m in
+      omega (arith, ap (λ (t : Span). t .from) r, ap (λ (t : Span). t .upto) r, back-ends bias (window-of g (suc j)) (levels g (suc j) n) u, a .starts (suc j) (omega arith), a .ends (suc j) (omega arith))
+
+  module _ (least last above : ℕ) (le : least ≡ first-open (low-of g j) (high-of g j) (count-of g j)) (la : last ≡ count-of g j) (ab : above ≡ most (levels g (suc j) n)) (used : v ≤ last + above) where
+    pub strip-asks : v < totals-held → Strip-asks j last above v (entry (g .froms) j) (entry (g .uptos) j) (row (g .lows) j) froms uptos
+    strip-asks t =
+        record {
+          channel = omega (arith, a .channels);
+          total = t;
+          listed = omega (arith, a .listed j (omega arith));
+          of-use = used;
+          start = a .starts j (omega arith);
+          end = a .ends j (omega arith);
+          lows-small = λ q l. a .lows j q (omega arith) (omega arith);
+          starts = λ u l m. above-ends u l (omega arith) .0;
+          ends = λ u l m. above-ends u l (omega arith) .1;
+        }
+
+    module _ (froms′ uptos′ : List (List ℕ)) (short : ℕ) (d : Strip-done (row (g .lows) j) (row (g .highs) j) j least last above v (window-of g j) froms uptos froms′ uptos′ short) (t : v < totals-held) where
+      abbrev f : ℕ → Span
+      f = spans-of (row froms (j + 1)) (row uptos (j + 1))
+
+      cell-is : cell bias (low-of g j) (high-of g j) least last above f (window-of g j) v ≡ back bias (window-of g j) (levels g j (suc n)) v
+      cell-is = rw (le, la, ab) (cell-back g j n v f (omega arith) (λ u l m. above-is u l m))
+
+      short-is : short ≡ short-of g j n v
+      short-is = d .short-is ∙ rw (le, la, ab) (short-back g j n v f (omega arith) (λ u l m. above-is u l m))
+
+      -- the other cells are as they were
+      kept : (p u : ℕ) → (p ≡ j → u ≡ v → ⊥) → span-in froms′ uptos′ p u ≡ span-in froms uptos p u
+      kept p u m =
+          rw (d .from-put, d .upto-put)
+          (ap₂ span (put-apart froms (s .sized-froms) j v _ (omega (arith, a .channels)) p u m) (put-apart uptos (s .sized-uptos) j v _ (omega (arith, a .channels)) p u m))
+
+      here-written : span-in froms′ uptos′ j v ≡ back bias (window-of g j) (levels g j (suc n)) v
+      here-written =
+          rw (d .from-put, d .upto-put)
+          (ap₂ span (put-same froms (s .sized-froms) j v _ (omega (arith, a .channels)) t) (put-same uptos (s .sized-uptos) j v _ (omega (arith, a .channels)) t)) ∙ cell-is
+
+      jump-less : (z : Bool) → jump-if z jump short ≤ jump
+      jump-less true = omega arith
+      jump-less false = omega arith
+
+      jump-short : (z : Bool) → eqb short 0 ≡ z → 0 < short → jump-if z jump short ≤ short
+      jump-short true e l = absurd (omega (arith, eqb-true short 0 e))
+      jump-short false e l = omega arith
+
+      pub scanning-strip : Scanning g k v j froms′ uptos′ (jump-if (eqb short 0) jump short)
+      scanning-strip =
+          record {
+            sized-froms = rw (d .from-put) (sized-put froms (s .sized-froms) j v _ (omega (arith, a .channels)));
+            sized-uptos = rw (d .upto-put) (sized-put uptos (s .sized-uptos) j v _ (omega (arith, a .channels)));
+            earlier = λ p m u e l o. kept p u (λ q r. omega arith) ∙ s .earlier p m u e l o;
+            here = λ p m l e o. go p m e o (lt-or-eq j p l);
+            earlier-jump = λ p m u e l o x. omega (arith, jump-less (eqb short 0), s .earlier-jump p m u e l o x);
+            here-jump = λ p m l e o x. jumps p m e o x (lt-or-eq j p l);
+          }
+        where
+          go : (p m : ℕ) → p + m ≡ k → v ≤ most (levels g p m) → (j < p) ⊎ (j ≡ p) → span-in froms′ uptos′ p v ≡ back bias (window-of g p) (levels g p m) v
+          go p m e o (inl l) = kept p v (λ q r. omega arith) ∙ s .here p m (omega arith) e o
+          go p m e o (inr l) = let z : m ≡ suc n = omega arith in rw (← l, z) here-written
+
+          jumps : (p m : ℕ) → p + suc m ≡ k → v ≤ most (levels g p (suc m)) → 0 < short-of g p m v → (j < p) ⊎ (j ≡ p) → jump-if (eqb short 0) jump short ≤ short-of g p m v
+          jumps p m e o x (inl l) = omega (arith, jump-less (eqb short 0), s .here-jump p m (omega arith) e o x)
+          jumps p m e o x (inr l) =
+              let z : m ≡ n = omega arith in
+              let y : 0 < short = omega (arith, short-is, rw (← l, z) at x) in
+              rw (← l, z) (omega (arith, short-is, jump-short (eqb short 0) refl y))
+
+  -- a strip for which the total is beyond use
+  pub scanning-skip : most (levels g j (suc n)) < v → Scanning g k v j froms uptos jump
+  scanning-skip o =
+      record {
+        sized-froms = s .sized-froms;
+        sized-uptos = s .sized-uptos;
+        earlier = s .earlier;
+        here = λ p m l e u. go p m e u (lt-or-eq j p l);
+        earlier-jump = s .earlier-jump;
+        here-jump = λ p m l e u x. jumps p m e u x (lt-or-eq j p l);
+      }
+    where
+      go : (p m : ℕ) → p + m ≡ k → v ≤ most (levels g p m) → (j < p) ⊎ (j ≡ p) → span-in froms uptos p v ≡ back bias (window-of g p) (levels g p m) v
+      go p m e u (inl l) = s .here p m (omega arith) e u
+      go p m e u (inr l) = let z : m ≡ suc n = omega arith in absurd (omega (arith, rw (← l, z) at u))
+
+      jumps : (p m : ℕ) → p + suc m ≡ k → v ≤ most (levels g p (suc m)) → 0 < short-of g p m v → (j < p) ⊎ (j ≡ p) → jump ≤ short-of g p m v
+      jumps p m e u x (inl l) = s .here-jump p m (omega arith) e u x
+      jumps p m e u x (inr l) = let z : m ≡ n = omega arith in absurd (omega (arith, rw (← l, z) at u))
+
+-- THE LOOP OVER TOTALS
+module _ (g : Given) (k cap : ℕ) where
+  abbrev bottom-span : ℕ → Span
+  bottom-span v = back bias (window-of g 0) (levels g 0 k) v
+
+  module _ (v jump : ℕ) (froms uptos : List (List ℕ)) (s : Scanning g k v 0 froms uptos jump) where
+    pub scanning-next : Scanning g k (v + 1) k froms uptos jump
+    unfolding most levels
+    scanning-next =
+        record {
+          sized-froms = s .sized-froms;
+          sized-uptos = s .sized-uptos;
+          earlier = λ j n u e h m. before j n u e m (lt-or-eq u v (omega arith));
+          here = λ j n h e m. let z : n ≡ 0 = omega arith in absurd (omega (arith, rw z at m));
+          earlier-jump = λ j n u e h m x. jumps j n u e m x (lt-or-eq u v (omega arith));
+          here-jump = λ j n h e m x. absurd (omega arith);
+        }
+      where
+        before : (j n u : ℕ) → j + n ≡ k → u ≤ most (levels g j n) → (u < v) ⊎ (u ≡ v) → span-in froms uptos j u ≡ back bias (window-of g j) (levels g j n) u
+        before j n u e m (inl l) = s .earlier j n u e l m
+        before j n u e m (inr l) = rw l (s .here j n (omega arith) e (rw l at m))
+
+        jumps : (j n u : ℕ) → j + suc n ≡ k → u ≤ most (levels g j (suc n)) → 0 < short-of g j n u → (u < v) ⊎ (u ≡ v) → jump ≤ short-of g j n u
+        jumps j n u e m x (inl l) = s .earlier-jump j n u e l m x
+        jumps j n u e m x (inr l) = rw l (s .here-jump j n (omega arith) e (rw l at m) (rw l at x))
+
+    -- the bottom strip's span, from the tables
+    bottom-is : v ≤ most (levels g 0 k) → span-in froms uptos 0 v ≡ bottom-span v
+    bottom-is m = s .here 0 k (omega arith) (omega arith) m
+
+    table-to : Filled g k v 0 froms uptos
+    table-to =
+        record {
+          sized-froms = s .sized-froms;
+          sized-uptos = s .sized-uptos;
+          filled = λ j n u h e c m. go j n u e m (lt-or-eq u v c);
+        }
+      where
+        go : (j n u : ℕ) → j + n ≡ k → u ≤ most (levels g j n) → (u < v) ⊎ (u ≡ v) → span-in froms uptos j u ≡ back bias (window-of g j) (levels g j n) u
+        go j n u e m (inl l) = s .earlier j n u e l m
+        go j n u e m (inr l) = rw l (s .here j n (omega arith) e (rw l at m))
+
+    module _ (of-use : cap ≤ most (levels g 0 k)) (h : v ≤ cap) (found : ℕ) (q : Searching (λ u. nonempty (bottom-span u)) (suc cap) v found) where
+      pub totals-miss : entry (row uptos 0) v ≤ entry (row froms 0) v → Searching (λ u. nonempty (bottom-span u)) (suc cap) (v + 1) found
+      totals-miss e =
+          searching-miss (λ u. nonempty (bottom-span u)) (suc cap) v found q (omega arith) (ends-empty (entry (row froms 0) v) (entry (row uptos 0) v) (bottom-span v) (bottom-is (omega arith)) e)
+
+      pub totals-hit : entry (row froms 0) v < entry (row uptos 0) v → v ≡ found
+      totals-hit e =
+          searching-hit (λ u. nonempty (bottom-span u)) (suc cap) v found q (omega arith) (ends-full (entry (row froms 0) v) (entry (row uptos 0) v) (bottom-span v) (bottom-is (omega arith)) e)
+
+      pub scan-found : (before : ℕ) (froms₀ uptos₀ : List (List ℕ)) → Scanning g k v k froms₀ uptos₀ before → found ≡ first-total bottom-span cap →
+          entry (row froms 0) v < entry (row uptos 0) v → Scan-is g k cap froms uptos (record { total = v; jump = before })
+      scan-found before froms₀ uptos₀ p t e =
+          let m : min v cap ≡ v = omega arith in
+          record { table = rw m table-to; total-is = totals-hit e ∙ t; jump-is = λ j n u i l o x. p .earlier-jump j n u i l o x }
+
+  pub scan-none : (v jump : ℕ) (froms uptos : List (List ℕ)) → cap < v → v ≤ cap + 1 → Scanning g k v k froms uptos jump →
+      Searching (λ u. nonempty (bottom-span u)) (suc cap) v (first-total bottom-span cap) → Scan-is g k cap froms uptos (record { total = v; jump = jump })
+  scan-none v jump froms uptos h i s q =
+      let m : min v cap ≡ cap = omega arith in
+      record {
+        table = rw m (record { sized-froms = s .sized-froms; sized-uptos = s .sized-uptos; filled = λ j n u l e c o. s .earlier j n u e (omega arith) o });
+        total-is = searching-end (λ u. nonempty (bottom-span u)) (suc cap) v (first-total bottom-span cap) q (omega arith);
+        jump-is = λ j n u e l o x. s .earlier-jump j n u e l o x;
+      }
+
+-- THE LOOP OVER STRIPS, as the code goes: from strip i to strip i - 1
+module _ (g : Given) (k v : ℕ) (ls ms : List ℕ) (froms₀ uptos₀ : List (List ℕ)) (before : ℕ) (t : Total-asks g k v ls ms froms₀ uptos₀ before)
+    (i : ℕ) (froms uptos : List (List ℕ)) (jump : ℕ) (some : 0 < i) (inside : i ≤ k) (s : Scanning g k v i froms uptos jump) where
+  abbrev j : ℕ
+  j = i - 1
+
+  strip-below : j + 1 ≡ i
+  strip-below = omega arith
+
+  most-of : entry ms j ≡ most (levels g j (suc (k - i)))
+  most-of = t .mosts .sums-are j (suc (k - i)) (omega arith) (omega arith) ∙ sym (most-sums g j (suc (k - i)))
+
+  above-of : entry ms (j + 1) ≡ most (levels g (suc j) (k - i))
+  above-of = rw (add-one j) (t .mosts .sums-are (suc j) (k - i) (omega arith) (omega arith) ∙ sym (most-sums g (suc j) (k - i)))
+
+  least-of : entry ls j ≡ first-open (low-of g j) (high-of g j) (count-of g j)
+  least-of = t .leasts .leasts-are j (omega arith)
+
+  used-of : v ≤ entry ms j → v ≤ count-of g j + entry ms (j + 1)
+  used-of h = omega (arith, most-of, above-of, most-here g k v i j froms uptos jump (t .stack) s strip-below inside)
+
+  pub total-strip-asks : v ≤ entry ms j → Strip-asks j (count-of g j) (entry ms (j + 1)) v (entry (g .froms) j) (entry (g .uptos) j) (row (g .lows) j) froms uptos
+  total-strip-asks h =
+      strip-asks g k v i j froms uptos jump (t .stack) s strip-below inside (entry ls j) (count-of g j) (entry ms (j + 1)) least-of refl above-of (used-of h) (t .total)
+
+  pub total-strip : v ≤ entry ms j → (froms′ uptos′ : List (List ℕ)) (short next : ℕ) →
+      Strip-done (row (g .lows) j) (row (g .highs) j) j (entry ls j) (count-of g j) (entry ms (j + 1)) v (window-of g j) froms uptos froms′ uptos′ short →
+      next ≡ jump-if (eqb short 0) jump short → Scanning g k v j froms′ uptos′ next
+  total-strip h froms′ uptos′ short next d e =
+      rw e
+      (scanning-strip g k v i j froms uptos jump (t .stack) s strip-below inside (entry ls j) (count-of g j) (entry ms (j + 1)) least-of refl above-of (used-of h) froms′ uptos′ short d (t .total))
+
+  pub total-skip : entry ms j < v → Scanning g k v j froms uptos jump
+  total-skip h = scanning-skip g k v i j froms uptos jump (t .stack) s strip-below inside (omega (arith, most-of))

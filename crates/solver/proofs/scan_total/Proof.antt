@@ -1,0 +1,127 @@
+-- scan_total meets its contract: the loop keeps Scanning. Assumes nothing.
+use mathlib.Core.Path.{_≡_}
+use Prim.Native.Nat.{_-_, _≤_}
+use native.Mathlib.Omega.{arith}
+use Rattle.solver.specs.Arrays.{given}
+use Rattle.solver.specs.Scan.{Scanning}
+use Rattle.solver.proofs.Scans.{total-strip-asks, total-strip, total-skip}
+use borrow.Author.Needs.{needs}
+use Rattle.solver.proofs.scan_total.Statement.{statement}
+use Rattle.solver.proofs.scan_total.Tie as tie
+
+abbrev Inv-loop : tie.InvT-loop
+Inv-loop low high counts from upto leasts sums k v before froms₀ uptos₀ jump₀ i₀ froms uptos jump i = (i ≤ k) × Scanning (given low high counts from upto) k v i froms uptos jump
+
+abbrev μ-loop : tie.MeasureT-loop
+μ-loop low high counts from upto leasts sums k v before froms₀ uptos₀ jump₀ i₀ froms uptos jump i = i
+
+loop-holds : tie.Need-loop-holds Inv-loop μ-loop
+loop-holds c = (omega arith, c .pre .tables)
+
+sub-i : tie.Need-sub-i Inv-loop μ-loop
+sub-i c = search needs
+
+mul-if1 : tie.Need-mul-if1 Inv-loop μ-loop
+mul-if1 c = search needs
+
+element-copy-out-if1 : tie.Need-element-copy-out-if1 Inv-loop μ-loop
+element-copy-out-if1 c = search needs
+
+mul-scan-strip : tie.Need-mul-scan-strip Inv-loop μ-loop
+mul-scan-strip c = search needs
+
+index-1-scan-strip : tie.Need-index-1-scan-strip Inv-loop μ-loop
+index-1-scan-strip c = search needs
+
+mul-scan-strip-2 : tie.Need-mul-scan-strip-2 Inv-loop μ-loop
+mul-scan-strip-2 c = search needs
+
+index-1-scan-strip-2 : tie.Need-index-1-scan-strip-2 Inv-loop μ-loop
+index-1-scan-strip-2 c = search needs
+
+mul-scan-strip-3 : tie.Need-mul-scan-strip-3 Inv-loop μ-loop
+mul-scan-strip-3 c = search needs
+
+element-copy-out-scan-strip : tie.Need-element-copy-out-scan-strip Inv-loop μ-loop
+element-copy-out-scan-strip c = search needs
+
+mul-scan-strip-4 : tie.Need-mul-scan-strip-4 Inv-loop μ-loop
+mul-scan-strip-4 c = search needs
+
+element-copy-out-scan-strip-2 : tie.Need-element-copy-out-scan-strip-2 Inv-loop μ-loop
+element-copy-out-scan-strip-2 c = search needs
+
+add-scan-strip : tie.Need-add-scan-strip Inv-loop μ-loop
+add-scan-strip c = search needs
+
+mul-scan-strip-5 : tie.Need-mul-scan-strip-5 Inv-loop μ-loop
+mul-scan-strip-5 c = search needs
+
+element-copy-out-scan-strip-3 : tie.Need-element-copy-out-scan-strip-3 Inv-loop μ-loop
+element-copy-out-scan-strip-3 c = search needs
+
+mul-scan-strip-6 : tie.Need-mul-scan-strip-6 Inv-loop μ-loop
+mul-scan-strip-6 c = search needs
+
+element-copy-out-scan-strip-4 : tie.Need-element-copy-out-scan-strip-4 Inv-loop μ-loop
+element-copy-out-scan-strip-4 c = search needs
+
+mul-scan-strip-7 : tie.Need-mul-scan-strip-7 Inv-loop μ-loop
+mul-scan-strip-7 c = search needs
+
+element-copy-out-scan-strip-5 : tie.Need-element-copy-out-scan-strip-5 Inv-loop μ-loop
+element-copy-out-scan-strip-5 c = search needs
+
+scan-strip-requires : tie.Need-scan-strip-requires Inv-loop μ-loop
+scan-strip-requires c κs = total-strip-asks (given (c .before .before .before .before .before .before .before .before .before .before .before .before .before .args .low .now) (c .before .before .before .before .before .before .before .before .before .before .before .before .before .args .high .now) (c .before .before .before .before .before .before .before .before .before .before .before .before .before .args .counts .now) (c .before .before .before .before .before .before .before .before .before .before .before .before .before .args .from .now) (c .before .before .before .before .before .before .before .before .before .before .before .before .before .args .upto .now)) (c .before .before .before .before .before .before .before .before .before .before .before .before .before .args .k) (c .before .before .before .before .before .before .before .before .before .before .before .before .before .args .v) _ _ _ _ _ (c .before .before .before .before .before .before .before .before .before .before .before .before .before .pre) (c .before .before .before .before .before .before .before .before .before .before .before .before .loop .i) _ _ _ (c .before .before .before .before .before .before .before .before .before .before .before .loop-test .taken) (c .before .before .before .before .before .before .before .before .before .before .before .before .loop .inv .0) (c .before .before .before .before .before .before .before .before .before .before .before .before .loop .inv .1) (c .before .before .before .before .before .before .before .before .before .if1 .taken)
+
+shorter-requires : tie.Need-shorter-requires Inv-loop μ-loop
+shorter-requires c κs = search needs
+
+loop-less : tie.Need-loop-less Inv-loop μ-loop
+loop-less c = search needs
+
+loop-again : tie.Need-loop-again Inv-loop μ-loop
+loop-again c = (omega arith, total-strip (given (c .before .before .before .before .before .before .before .before .before .before .before .before .before .before .before .args .low .now) (c .before .before .before .before .before .before .before .before .before .before .before .before .before .before .before .args .high .now) (c .before .before .before .before .before .before .before .before .before .before .before .before .before .before .before .args .counts .now) (c .before .before .before .before .before .before .before .before .before .before .before .before .before .before .before .args .from .now) (c .before .before .before .before .before .before .before .before .before .before .before .before .before .before .before .args .upto .now)) (c .before .before .before .before .before .before .before .before .before .before .before .before .before .before .before .args .k) (c .before .before .before .before .before .before .before .before .before .before .before .before .before .before .before .args .v) _ _ _ _ _ (c .before .before .before .before .before .before .before .before .before .before .before .before .before .before .before .pre) (c .before .before .before .before .before .before .before .before .before .before .before .before .before .before .loop .i) _ _ _ (c .before .before .before .before .before .before .before .before .before .before .before .before .before .loop-test .taken) (c .before .before .before .before .before .before .before .before .before .before .before .before .before .before .loop .inv .0) (c .before .before .before .before .before .before .before .before .before .before .before .before .before .before .loop .inv .1) (c .before .before .before .before .before .before .before .before .before .before .before .if1 .taken) _ _ (c .before .scan-strip .result) (c .shorter .result) (c .before .scan-strip .ensures) (c .shorter .ensures))
+
+loop-less-2 : tie.Need-loop-less-2 Inv-loop μ-loop
+loop-less-2 c = search needs
+
+loop-again-2 : tie.Need-loop-again-2 Inv-loop μ-loop
+loop-again-2 c = (omega arith, total-skip (given (c .before .before .before .before .args .low .now) (c .before .before .before .before .args .high .now) (c .before .before .before .before .args .counts .now) (c .before .before .before .before .args .from .now) (c .before .before .before .before .args .upto .now)) (c .before .before .before .before .args .k) (c .before .before .before .before .args .v) _ _ _ _ _ (c .before .before .before .before .pre) (c .before .before .before .loop .i) _ _ _ (c .before .before .loop-test .taken) (c .before .before .before .loop .inv .0) (c .before .before .before .loop .inv .1) (c .if1 .left))
+
+returns : tie.Need-returns Inv-loop μ-loop
+returns c = let z : c .before .loop .i ≡ 0 = omega arith in rw z at (c .before .loop .inv .1)
+
+pub scan-total-spec : {M : Type 1} → statement M
+scan-total-spec =
+    tie.close
+    (tie.spec
+    Inv-loop
+    μ-loop
+    loop-holds
+    sub-i
+    mul-if1
+    element-copy-out-if1
+    mul-scan-strip
+    index-1-scan-strip
+    mul-scan-strip-2
+    index-1-scan-strip-2
+    mul-scan-strip-3
+    element-copy-out-scan-strip
+    mul-scan-strip-4
+    element-copy-out-scan-strip-2
+    add-scan-strip
+    mul-scan-strip-5
+    element-copy-out-scan-strip-3
+    mul-scan-strip-6
+    element-copy-out-scan-strip-4
+    mul-scan-strip-7
+    element-copy-out-scan-strip-5
+    scan-strip-requires
+    shorter-requires
+    loop-less
+    loop-again
+    loop-less-2
+    loop-again-2
+    returns)

@@ -1,0 +1,117 @@
+-- The scan for the least total: total after total from 0 on, each strip's span from the top down, until the bottom strip's is not empty; and how far the
+-- spread may grow before a total below it can be had. Assumes nothing: these are definitions.
+use mathlib.Core.Path.{_≡_}
+use mathlib.Core.Bool.{Bool, true, false}
+use mathlib.Core.List.{List, []}
+use Prim.Native.Nat.{ℕ, zero, suc, _+_, _-_, _*_, _≤_, _<_, min}
+use lib.Dec.{eqb}
+use lib.ListN.{length, getD, set}
+use Rattle.solver.specs.Spans.{Span, span}
+use Rattle.solver.specs.Solver.{first-open, most, cell, back, first-total}
+use Rattle.solver.specs.Jump.{nearest, furthest, cell-short, short-at}
+use Rattle.solver.specs.Arrays.{bias, channels-held, strips-held, separations-held, totals-held, entry, spans-of, row, Sized, span-in, Given, low-of, high-of, count-of, window-of, level-of, levels, Stack-asks, Filled}
+use Rattle.solver.specs.declared.Ends.{Ends}
+use Rattle.solver.specs.declared.Scan.{Scan}
+
+-- the table with x at (i, v), as the code writes it
+abbrev pub put : List (List ℕ) → (i v x : ℕ) → List (List ℕ)
+put t i v x = set t i (set (getD t i []) v x)
+
+-- what the loop over a channel's separations asks: indices within the arrays, ends and limits that leave room for the bias
+pub record Ends-ask (v start stop : ℕ) (lows froms uptos : List ℕ) : Type 0 where
+  pub total : v < totals-held
+  pub listed : stop ≤ separations-held
+  pub within : stop ≤ suc v
+  pub lows-small : (q : ℕ) → q < stop → entry lows q ≤ 2 * bias
+  pub starts : (u : ℕ) → u + start ≤ v → entry froms u ≤ bias
+  pub ends : (u : ℕ) → u + start ≤ v → entry uptos u ≤ bias
+
+pub record Ends-are (lows highs froms uptos : List ℕ) (v start stop : ℕ) (r : Ends) : Type 0 where
+  pub small : r .near ≤ bias
+  pub near-is : r .near ≡ nearest bias (entry highs) (λ q. spans-of froms uptos (v - q)) start (stop - start) bias
+  pub reach-is : r .reach ≡ furthest bias (entry lows) (λ q. spans-of froms uptos (v - q)) start (stop - start) 0
+
+-- ends found so far, at separation q
+pub record Stretching (b : ℕ) (low high : ℕ → ℕ) (f : ℕ → Span) (stop q near reach nearest-of furthest-of : ℕ) : Type 0 where
+  pub starts-left : nearest b high f q (stop - q) near ≡ nearest-of
+  pub ends-left : furthest b low f q (stop - q) reach ≡ furthest-of
+  pub near-small : near ≤ b
+
+-- what one cell asks
+pub record Strip-asks (i last above v from upto : ℕ) (lows : List ℕ) (froms uptos : List (List ℕ)) : Type 0 where
+  pub channel : i < channels-held
+  pub total : v < totals-held
+  pub listed : last < separations-held
+  pub of-use : v ≤ last + above
+  pub start : from ≤ bias
+  pub end : upto ≤ bias
+  pub lows-small : (q : ℕ) → q ≤ last → entry lows q ≤ 2 * bias
+  pub starts : (u : ℕ) → u ≤ v → u ≤ above → entry (row froms (i + 1)) u ≤ bias
+  pub ends : (u : ℕ) → u ≤ v → u ≤ above → entry (row uptos (i + 1)) u ≤ bias
+
+-- the cell written, and its shortfall
+pub record Strip-done (lows highs : List ℕ) (i least last above v : ℕ) (w : Span) (froms uptos froms′ uptos′ : List (List ℕ)) (short : ℕ) : Type 0 where
+  pub from-put : froms′ ≡ put froms i v (cell bias (entry lows) (entry highs) least last above (spans-of (row froms (i + 1)) (row uptos (i + 1))) w v .from)
+  pub upto-put : uptos′ ≡ put uptos i v (cell bias (entry lows) (entry highs) least last above (spans-of (row froms (i + 1)) (row uptos (i + 1))) w v .upto)
+  pub short-is : short ≡ cell-short bias bias (entry lows) (entry highs) least last above (spans-of (row froms (i + 1)) (row uptos (i + 1))) w v
+
+-- the lesser of a jump and a shortfall, if there is a shortfall
+abbrev pub jump-if : (none : Bool) → (jump short : ℕ) → ℕ
+jump-if true j s = j
+jump-if false j s = min j s
+
+-- the shortfall of strip j's span at the total u, with n + 1 channels above it
+abbrev pub short-of : Given → (j n u : ℕ) → ℕ
+short-of g j n u = short-at bias bias (window-of g j) (level-of g j) (levels g (suc j) n) u
+
+-- the sum of n counts from i on
+unfoldable pub sums : List ℕ → (i n : ℕ) → ℕ
+sums xs i zero = 0
+sums xs i (suc n) = entry xs i + sums xs (suc i) n
+
+-- for each strip from i on the sum of the counts above it
+pub record Sums-are (counts : List ℕ) (k i : ℕ) (r : List ℕ) : Type 0 where
+  pub size : length r ≡ strips-held
+  pub sums-are : (j n : ℕ) → i ≤ j → j + n ≡ k → entry r j ≡ sums counts j n
+  pub small : (j : ℕ) → i ≤ j → j ≤ k → entry r j + 32 * j ≤ 32 * k
+
+-- for each channel up to i its least open separation
+pub record Leasts-are (lows highs : List (List ℕ)) (counts : List ℕ) (i : ℕ) (r : List ℕ) : Type 0 where
+  pub size : length r ≡ channels-held
+  pub leasts-are : (j : ℕ) → j < i → entry r j ≡ first-open (entry (row lows j)) (entry (row highs j)) (entry counts j)
+
+-- the spans for totals below v, and at v for strips from i on; no such span is short by less than the jump, the bottom strip's included
+pub record Scanning (g : Given) (k v i : ℕ) (froms uptos : List (List ℕ)) (jump : ℕ) : Type 0 where
+  pub sized-froms : Sized froms
+  pub sized-uptos : Sized uptos
+  pub earlier : (j n u : ℕ) → j + n ≡ k → u < v → u ≤ most (levels g j n) → span-in froms uptos j u ≡ back bias (window-of g j) (levels g j n) u
+  pub here : (j n : ℕ) → i ≤ j → j + n ≡ k → v ≤ most (levels g j n) → span-in froms uptos j v ≡ back bias (window-of g j) (levels g j n) v
+  pub earlier-jump : (j n u : ℕ) → j + suc n ≡ k → u < v → u ≤ most (levels g j (suc n)) → 0 < short-of g j n u → jump ≤ short-of g j n u
+  pub here-jump : (j n : ℕ) → i ≤ j → j + suc n ≡ k → v ≤ most (levels g j (suc n)) → 0 < short-of g j n v → jump ≤ short-of g j n v
+
+-- THE SCAN for totals up to cap: the first that can be had, or cap + 1; the tables for totals up to it; no span for a total below it is short by less than the jump
+pub record Scan-is (g : Given) (k cap : ℕ) (froms uptos : List (List ℕ)) (r : Scan) : Type 0 where
+  pub table : Filled g k (min (r .total) cap) 0 froms uptos
+  pub total-is : r .total ≡ first-total (back bias (window-of g 0) (levels g 0 k)) cap
+  pub jump-is : (j n u : ℕ) → j + suc n ≡ k → u < r .total → u ≤ most (levels g j (suc n)) → 0 < short-of g j n u → r .jump ≤ short-of g j n u
+
+-- what the scan asks of one total
+pub record Total-asks (g : Given) (k v : ℕ) (ls ms : List ℕ) (froms uptos : List (List ℕ)) (jump : ℕ) : Type 0 where
+  pub stack : Stack-asks g k
+  pub total : v < totals-held
+  pub mosts : Sums-are (g .counts) k 0 ms
+  pub leasts : Leasts-are (g .lows) (g .highs) (g .counts) k ls
+  pub tables : Scanning g k v k froms uptos jump
+
+-- k channels whose counts are within the arrays
+pub record Counts-ask (counts : List ℕ) (k : ℕ) : Type 0 where
+  pub channels : k ≤ channels-held
+  pub listed : (i : ℕ) → i < k → entry counts i < separations-held
+
+-- what the scan asks: totals up to cap are of use and within the tables
+pub record Scan-asks (g : Given) (k cap : ℕ) (froms uptos : List (List ℕ)) : Type 0 where
+  pub stack : Stack-asks g k
+  pub total : cap < totals-held
+  pub of-use : cap ≤ most (levels g 0 k)
+  pub sized-froms : Sized froms
+  pub sized-uptos : Sized uptos
