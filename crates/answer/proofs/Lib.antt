@@ -1,3 +1,4 @@
 -- The solver's answer is the answer of Stack.antt.
 pub mod Legal
 pub mod Answers
+pub mod Standing

@@ -1,2 +1,3 @@
 -- The answer for a stack and a spread, by the solver.
 pub mod Solve
+pub mod Arrays

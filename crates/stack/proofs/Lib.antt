@@ -4,3 +4,4 @@ pub mod Found
 pub mod Rising
 pub mod Feasible
 pub mod OnStrips
+pub mod Within

@@ -1,0 +1,29 @@
+-- When the solver's arrays stand for a stack: the limits of its channels, and the windows of its strips in a spread. Assumes nothing: these are definitions.
+use mathlib.Core.Path.{_≡_}
+use mathlib.Core.List.{List, []}
+use Prim.Native.Nat.{ℕ, suc, _-_, _≤_, _<_}
+use lib.ListN.{length, getD}
+use Rattle.numbers.specs.Lists.{tabulate}
+use Rattle.stack.specs.Stack.{Pair, Stack}
+use Rattle.channel.specs.Limits.{low-limit, high-limit}
+use Rattle.solver.specs.Arrays.{bias, channels-held, strips-held, separations-held, entry, row}
+
+abbrev pub channel-in : Stack → (i : ℕ) → List Pair
+channel-in k i = getD (k .channels) i []
+
+abbrev pub strip-in : Stack → (i : ℕ) → ℕ
+strip-in k i = getD (k .strips) i 0
+
+-- the first n channels' limits and counts of pairs
+pub record Limits-in (k : Stack) (n : ℕ) (lows highs : List (List ℕ)) (counts : List ℕ) : Type 0 where
+  pub sized-lows : length lows ≡ channels-held
+  pub sized-highs : length highs ≡ channels-held
+  pub sized-counts : length counts ≡ channels-held
+  pub lows-are : (i : ℕ) → i < n → row lows i ≡ tabulate separations-held 0 (λ t. low-limit bias (channel-in k i) t)
+  pub highs-are : (i : ℕ) → i < n → row highs i ≡ tabulate separations-held 0 (λ t. high-limit bias (channel-in k i) t)
+  pub counts-are : (i : ℕ) → i < n → entry counts i ≡ length (channel-in k i)
+
+-- the ends of the first n strips' windows
+pub record Windows-in (k : Stack) (n s : ℕ) (uptos : List ℕ) : Type 0 where
+  pub sized : length uptos ≡ strips-held
+  pub ends-are : (i : ℕ) → i < n → entry uptos i ≡ suc s - strip-in k i

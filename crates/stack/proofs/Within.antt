@@ -1,0 +1,92 @@
+-- What a stack within the limits keeps, channel by channel and strip by strip, as lists and as a struct. By induction on the strips. Assumes nothing.
+use mathlib.Core.Path.{_≡_, refl, sym, ap, _∙_}
+use mathlib.Core.Bool.{true}
+use mathlib.Core.List.{List, [], _∷_}
+use Prim.Native.Nat.{ℕ, zero, suc, _+_, _≤_, _<_}
+use native.Mathlib.Omega.{arith}
+use lib.ListN.{length, getD}
+use borrow.Author.Tests.{leb-true}
+use Rattle.numbers.proofs.Bools.{ands, impossible}
+use Rattle.numbers.proofs.Lists.{length-tabulate, getD-tabulate}
+use Rattle.stack.specs.Stack.{Pair, Stack, stack}
+use Rattle.stack.specs.Limits.{rising, all-rising, channel-within, channels-within, strips-within, within-limits}
+use Rattle.stack.specs.Value.{strip, no-terminals, channel-of, length-at, channel-at, stack-of}
+use Rattle.stack.specs.declared.Stack.{Stack as Stack-struct}
+use Rattle.stack.proofs.Values.{channel-length}
+
+-- one strip more than channels
+pub strips-length : (ls : List ℕ) (cs : List (List Pair)) → channels-within ls cs ≡ true → length ls ≡ suc (length cs)
+unfolding channels-within
+strips-length [] cs e = impossible e
+strips-length (l ∷ []) [] e = refl
+strips-length (l ∷ []) (c ∷ cs) e = impossible e
+strips-length (l ∷ u ∷ ls) [] e = impossible e
+strips-length (l ∷ u ∷ ls) (c ∷ cs) e = ap suc (strips-length (u ∷ ls) cs (search ands))
+
+-- each channel is within the limits between its strips
+pub channel-in-limits : (ls : List ℕ) (cs : List (List Pair)) (i : ℕ) → channels-within ls cs ≡ true → i < length cs → channel-within (getD ls i 0) (getD ls (suc i) 0) (getD cs i []) ≡ true
+unfolding channels-within
+channel-in-limits [] cs i e h = impossible e
+channel-in-limits (l ∷ []) [] i e h = absurd (omega arith)
+channel-in-limits (l ∷ []) (c ∷ cs) i e h = impossible e
+channel-in-limits (l ∷ u ∷ ls) [] i e h = impossible e
+channel-in-limits (l ∷ u ∷ ls) (c ∷ cs) zero e h = search ands
+channel-in-limits (l ∷ u ∷ ls) (c ∷ cs) (suc i) e h = channel-in-limits (u ∷ ls) cs i (search ands) (omega arith)
+
+channels-rising : (ls : List ℕ) (cs : List (List Pair)) → channels-within ls cs ≡ true → all-rising cs ≡ true
+unfolding channels-within channel-within all-rising
+channels-rising [] cs e = impossible e
+channels-rising (l ∷ []) [] e = refl
+channels-rising (l ∷ []) (c ∷ cs) e = impossible e
+channels-rising (l ∷ u ∷ ls) [] e = refl
+channels-rising (l ∷ u ∷ ls) (c ∷ cs) e =
+    let here : rising c ≡ true = search ands in
+    rw here (channels-rising (u ∷ ls) cs (search ands))
+
+-- every channel of a stack within the limits rises
+pub within-rising : (k : Stack) → within-limits k ≡ true → all-rising (k .channels) ≡ true
+unfolding within-limits
+within-rising k e = channels-rising (k .strips) (k .channels) (search ands)
+
+strip-in-limits : (ls : List ℕ) (i : ℕ) → strips-within ls ≡ true → i < length ls → (1 ≤ getD ls i 0) × (getD ls i 0 ≤ 1000)
+unfolding strips-within
+strip-in-limits [] i e h = absurd (omega arith)
+strip-in-limits (l ∷ ls) zero e h = (leb-true 1 l (search ands), leb-true l 1000 (search ands))
+strip-in-limits (l ∷ ls) (suc i) e h = strip-in-limits ls i (search ands) (omega arith)
+
+-- a struct's list value, place by place
+pub stack-channels : (k : Stack-struct) → length (stack-of k .channels) ≡ k .count
+unfolding stack-of stack
+stack-channels k = length-tabulate (k .count) 0 (λ i. channel-at k i)
+
+pub stack-strips : (k : Stack-struct) → length (stack-of k .strips) ≡ suc (k .count)
+unfolding stack-of stack
+stack-strips k = length-tabulate (suc (k .count)) 0 (λ i. length-at k i)
+
+pub stack-channel : (k : Stack-struct) (i : ℕ) → i < k .count → getD (stack-of k .channels) i [] ≡ channel-of (getD (k .channels) i no-terminals)
+unfolding stack-of stack
+stack-channel k i h = getD-tabulate (k .count) i (λ i. channel-at k i) [] h
+
+pub stack-strip : (k : Stack-struct) (i : ℕ) → i < suc (k .count) → getD (stack-of k .strips) i 0 ≡ getD (k .strips) i (strip 0) .length .0
+unfolding stack-of stack
+stack-strip k i h = getD-tabulate (suc (k .count)) i (λ i. length-at k i) 0 h
+
+module _ (k : Stack-struct) (good : within-limits (stack-of k) ≡ true) where
+  pub some-channel : 1 ≤ k .count
+  unfolding within-limits
+  some-channel = omega (arith, stack-channels k, leb-true 1 (length (stack-of k .channels)) (search ands))
+
+  pub few-channels : k .count ≤ 8
+  unfolding within-limits
+  few-channels = omega (arith, stack-channels k, leb-true (length (stack-of k .channels)) 8 (search ands))
+
+  pub few-pairs : (i : ℕ) → i < k .count → getD (k .channels) i no-terminals .count ≤ 32
+  unfolding within-limits channel-within
+  few-pairs i h =
+      let w = channel-in-limits (stack-of k .strips) (stack-of k .channels) i (search ands) (omega (arith, stack-channels k)) in
+      let n = leb-true (length (getD (stack-of k .channels) i [])) 32 (search ands) in
+      omega (arith, ap length (stack-channel k i h), channel-length (getD (k .channels) i no-terminals))
+
+  pub strip-bounds : (i : ℕ) → i < suc (k .count) → (1 ≤ getD (k .strips) i (strip 0) .length .0) × (getD (k .strips) i (strip 0) .length .0 ≤ 1000)
+  unfolding within-limits
+  strip-bounds i h = omega (arith, strip-in-limits (stack-of k .strips) i (search ands) (omega (arith, stack-strips k)), stack-strip k i h)
