@@ -348,6 +348,17 @@ fn separations_for(
     ts
 }
 
+// The positions in the window (from, upto) that are within the limit (low, high) below some position in s.
+fn backward(s: Span, low: u64, high: u64, from: u64, upto: u64) -> Span
+    requires { ⌜ (s .from ≤ strips-held * bias) × (s .upto ≤ bias) ⌝ }
+    ensures { λ r. ⌜ span (r .from) (r .upto) ≡ cut (span from upto) (shift-back bias low high (span (s .from) (s .upto))) ⌝ }
+{
+    Span {
+        from: greater(from, difference(s.from + Stack::BIAS, high)),
+        upto: lesser(upto, difference(s.upto + Stack::BIAS, low)),
+    }
+}
+
 // The positions in the window (from, upto) of the strip below, for the strip above in s and separation q.
 fn pull_back(
     low: &[u64; SEPARATIONS],
@@ -362,10 +373,7 @@ fn pull_back(
     ensures { λ r. ⌜ span (r .from) (r .upto) ≡ cut (span from upto) (shift-back bias (entry (now (low .entry)) (min q last)) (entry (now (high .entry)) (min q last)) (span (s .from) (s .upto))) ⌝ }
 {
     let p = lesser(q as u64, last as u64) as usize;
-    Span {
-        from: greater(from, difference(s.from + Stack::BIAS, high[p])),
-        upto: lesser(upto, difference(s.upto + Stack::BIAS, low[p])),
-    }
+    backward(s, low[p], high[p], from, upto)
 }
 
 // The first position of each strip from which the strips above can be placed with these separations.
