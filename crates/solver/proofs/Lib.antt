@@ -18,3 +18,4 @@ pub mod Fixing
 pub mod Positioning
 pub mod Stored
 pub mod Placing
+pub mod TwoSpans
