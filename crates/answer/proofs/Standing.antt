@@ -29,7 +29,7 @@ limits-start k lows highs counts a b c =
       sized-counts = c;
       lows-are = λ i h. absurd (omega arith);
       highs-are = λ i h. absurd (omega arith);
-      counts-are = λ i h. absurd (omega arith)
+      counts-are = λ i h. absurd (omega arith);
     }
 
 -- one place more of a list, by a rule
@@ -50,7 +50,7 @@ limits-step k n lows highs counts r h few s l =
       sized-counts = length-set counts n _ ∙ s .sized-counts;
       lows-are = λ i m. next-place lows n i (r .low) [] _ (omega (arith, s .sized-lows)) (s .lows-are) (rw here (l .low)) m;
       highs-are = λ i m. next-place highs n i (r .high) [] _ (omega (arith, s .sized-highs)) (s .highs-are) (rw here (l .high)) m;
-      counts-are = λ i m. next-place counts n i _ 0 _ (omega (arith, s .sized-counts)) (s .counts-are) (sym (channel-length (getD (k .channels) n no-terminals)) ∙ ap length (sym here)) m
+      counts-are = λ i m. next-place counts n i _ 0 _ (omega (arith, s .sized-counts)) (s .counts-are) (sym (channel-length (getD (k .channels) n no-terminals)) ∙ ap length (sym here)) m;
     }
   where
     here : channel-in (stack-of k) n ≡ channel-of (getD (k .channels) n no-terminals)
@@ -64,5 +64,5 @@ pub windows-step : (k : Stack-struct) (n s x : ℕ) (uptos : List ℕ) → n < s
 windows-step k n s x uptos h few w e =
     record {
       sized = length-set uptos n x ∙ w .sized;
-      ends-are = λ i m. next-place uptos n i x 0 _ (omega (arith, w .sized)) (w .ends-are) (e ∙ ap (λ (l : ℕ). suc s - l) (sym (stack-strip k n h))) m
+      ends-are = λ i m. next-place uptos n i x 0 _ (omega (arith, w .sized)) (w .ends-are) (e ∙ ap (λ (l : ℕ). suc s - l) (sym (stack-strip k n h))) m;
     }

@@ -10,10 +10,8 @@ pub mod Positions
 pub mod Best
 pub mod Jump
 pub mod Loops
-pub mod Cells
 pub mod Tables
 pub mod Levels
-pub mod Filling
 pub mod Separating
 pub mod Fixing
 pub mod Positioning
@@ -21,3 +19,4 @@ pub mod Stored
 pub mod Placing
 pub mod Scanning
 pub mod Scans
+pub mod TwoSpans

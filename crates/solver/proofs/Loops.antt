@@ -7,9 +7,9 @@ use native.Mathlib.Numerals.{add-one}
 use native.Mathlib.Omega.{arith}
 use lib.Dec.{ltb}
 use borrow.Author.Tests.{lt-ltb, le-ltb}
-use Rattle.solver.specs.Spans.{Span, span, cut, shift-on, nonempty, join-if, gather}
+use Rattle.solver.specs.Spans.{Span, span, cut, shift-on, nonempty}
 use Rattle.solver.specs.Solver.{opens, first, first-open, first-total, stop, serves, first-serving}
-use Rattle.solver.specs.Loops.{Searching, Gathering}
+use Rattle.solver.specs.Loops.{Searching}
 use Rattle.solver.proofs.First.{first-hit, first-miss}
 
 pub one-left : (stop q : ℕ) → q < stop → suc (stop - suc q) ≡ stop - q
@@ -66,25 +66,3 @@ module _ (b : ℕ) (low high : ℕ → ℕ) (a : ℕ) (f : ℕ → Span) (s : Sp
     pub serves-empty : y ≤ x → serves b low high a f s v q ≡ false
     unfolding serves
     serves-empty h = ends-empty x y _ (rw e at k) h
-
--- one span joined, or left out
-module _ (b l h f u a e : ℕ) where
-  pub widened : (x y : ℕ) → f < u → x ≡ min a (f + b - h) → y ≡ max e (u + b - l) → span x y ≡ join-if (ltb f u) b l h (span f u) (span a e)
-  widened x y k p q = rw (lt-ltb f u k, p, q)
-
-  pub not-widened : u ≤ f → span a e ≡ join-if (ltb f u) b l h (span f u) (span a e)
-  not-widened k = rw (le-ltb f u k)
-
-module _ (b : ℕ) (low high : ℕ → ℕ) (f : ℕ → Span) (stop q : ℕ) (t : Span) where
-  pub gathering-start : Gathering b low high f stop q t (gather b low high f q (stop - q) t)
-  gathering-start = record { left = refl }
-
-  module _ (gathered : Span) (g : Gathering b low high f stop q t gathered) where
-    pub gathering-step : (u : Span) → q < stop → u ≡ join-if (nonempty (f q)) b (low q) (high q) (f q) t → Gathering b low high f stop (q + 1) u gathered
-    unfolding gather
-    gathering-step u h e =
-        rw (add-one, e) (record { left = ap (λ (n : ℕ). gather b low high f q n t) (one-left stop q h) ∙ g .left })
-
-    pub gathering-end : stop ≤ q → t ≡ gathered
-    unfolding gather
-    gathering-end h = ap (λ (n : ℕ). gather b low high f q n t) (none-left stop q h) ∙ g .left

@@ -7,7 +7,9 @@ use lib.ListN.{length, replicate, getD-replicate, length-replicate}
 use Rattle.solver.specs.Spans.{Span, span, nonempty}
 use Rattle.solver.specs.Solver.{Level, first, first-open, most, cell, back, first-total, least-total, forward, separations, lowest, positions-on, positions}
 use Rattle.solver.specs.Placed.{Placed, Exactly, Widening, Chosen}
-use Rattle.solver.specs.Arrays.{bias, channels-held, strips-held, totals-held, entry, spans-of, row, Sized, span-in, Cell, Given, low-of, high-of, count-of, window-of, level-of, levels, Stack-asks, Filled, Fill-asks, Fill-leaves, Separate-asks, store, taken, padded, Position-asks, least-total-of, separations-of, Place-asks, Placement-is, Found-is, tracks, columns}
+use Rattle.solver.specs.Arrays.{bias, channels-held, strips-held, totals-held, entry, spans-of, row, Sized, span-in, Given, low-of, high-of, count-of, window-of, level-of, levels, Stack-asks, Filled, Separate-asks, store, taken, padded, Position-asks, least-total-of, separations-of, Place-asks, Placement-is, tracks, columns}
+use Rattle.solver.specs.Scan.{Scan-asks, Scan-is}
+use Rattle.solver.specs.declared.Scan.{Scan}
 use Rattle.solver.specs.declared.Placement.{Placement}
 use Rattle.solver.proofs.Levels.{last-of, first-same, cell-back, back-ends}
 use Rattle.solver.proofs.Separating.{most-small}
@@ -27,19 +29,19 @@ zeros-cells m n i h = rw (getD-replicate m i (zeros n) [] h) (length-replicate {
 sized-zeros : Sized (replicate strips-held (replicate totals-held 0))
 sized-zeros = record { rows = zeros-rows strips-held totals-held; cells = zeros-cells strips-held totals-held }
 
-pub zeros-ask : (g : Given) (k cap : ℕ) → Stack-asks g k → cap < totals-held → Fill-asks g k cap (replicate strips-held (replicate totals-held 0)) (replicate strips-held (replicate totals-held 0))
-zeros-ask g k cap a h = record { stack = a; total = h; sized-froms = sized-zeros; sized-uptos = sized-zeros }
+pub zeros-ask : (g : Given) (k cap : ℕ) → Stack-asks g k → cap < totals-held → cap ≤ most (levels g 0 k) → Scan-asks g k cap (replicate strips-held (replicate totals-held 0)) (replicate strips-held (replicate totals-held 0))
+zeros-ask g k cap a h m = record { stack = a; total = h; of-use = m; sized-froms = sized-zeros; sized-uptos = sized-zeros }
 
--- the tables serve for a total if they are filled up to it, or for all totals
-pub separate-asks : (g : Given) (k cap total above : ℕ) (froms uptos : List (List ℕ)) → Stack-asks g k → Fill-leaves g k cap froms uptos above → min total (totals-held - 1) ≤ cap → total < 4294967296 → Separate-asks g k total above froms uptos
-separate-asks g k cap total above froms uptos a f h t =
+-- the tables that a scan leaves serve for the total that it found
+pub scan-separate-asks : (g : Given) (k cap : ℕ) (froms uptos : List (List ℕ)) (r : Scan) → Stack-asks g k → Scan-is g k cap froms uptos r → r .total ≤ cap → cap < totals-held → Separate-asks g k (r .total) (r .above) froms uptos
+scan-separate-asks g k cap froms uptos r a s h t =
     record {
       stack = a;
-      cap = cap;
-      table = f .table;
-      enough = omega (arith, most-small g k a 1 (k - 1) (omega (arith, a .some)), a .channels);
-      above-first = f .above-first;
-      fits = t;
+      cap = min (r .total) cap;
+      table = record { sized-froms = s .table .sized-froms; sized-uptos = s .table .sized-uptos; filled = λ j n v i e c m. s .table .filled j n v (omega arith) e c m };
+      enough = omega arith;
+      above-first = s .above-is;
+      fits = omega arith;
     }
 
 -- a separation for each channel, a position for each strip
@@ -87,46 +89,3 @@ module _ (g : Given) (k total : ℕ) (a : Place-asks g k total) where
         separations-are = stored (tracks (r .separations)) s;
         positions-are = (rw (read-back (tracks (r .separations)) s) at p) ∙ store-padded strips-held _ (omega (arith, positions-count, a .stack .channels));
       }
-
--- the search for the least total
-module _ (g : Given) (k : ℕ) (froms uptos : List (List ℕ)) (above : ℕ) (a : Stack-asks g k) (f : Fill-leaves g k (totals-held - 1) froms uptos above) where
-  whole : k ≡ suc (k - 1)
-  whole = omega (arith, a .some)
-
-  most-whole : most (levels g 0 k) ≡ count-of g 0 + above
-  unfolding most levels
-  most-whole = rw whole (omega (arith, last-of (low-of g 0) (high-of g 0) (count-of g 0), f .above-first))
-
-  total-small : count-of g 0 + above ≤ totals-held - 1
-  total-small = omega (arith, most-whole, most-small g k a 0 k (omega arith), a .channels)
-
-  row-is : (u : ℕ) → u ≤ above → spans-of (row froms 1) (row uptos 1) u ≡ back bias (window-of g 1) (levels g 1 (k - 1)) u
-  row-is u h = f .table .filled 1 (k - 1) u (omega arith) (omega (arith, a .some)) (omega (arith, total-small)) (omega (arith, f .above-first))
-
-  row-ends : (u : ℕ) → u ≤ above → (entry (row froms 1) u ≤ bias) × (entry (row uptos 1) u ≤ bias)
-  row-ends u h =
-      omega (arith, ap (λ (t : Span). t .from) (row-is u h), ap (λ (t : Span). t .upto) (row-is u h), back-ends bias (window-of g 1) (levels g 1 (k - 1)) u, a .starts 1 (a .some), a .ends 1 (a .some))
-
-  pub total-asks : Cell (count-of g 0 + above) (count-of g 0) above (row froms 1) (row uptos 1)
-  total-asks =
-      record {
-        total = omega (arith, total-small);
-        listed = a .listed 0 (a .some);
-        of-use = omega arith;
-        starts = λ u h m. row-ends u m .0;
-        ends = λ u h m. row-ends u m .1;
-      }
-
-  -- the code's spans of the bottom strip
-  abbrev spans-found : ℕ → Span
-  spans-found = cell bias (low-of g 0) (high-of g 0) (first-open (low-of g 0) (high-of g 0) (count-of g 0)) (count-of g 0) above (spans-of (row froms 1) (row uptos 1)) (window-of g 0)
-
-  spans-are : (v : ℕ) → v ≤ count-of g 0 + above → spans-found v ≡ back bias (window-of g 0) (levels g 0 k) v
-  spans-are v h =
-      rw (f .above-first)
-      (cell-back g 0 (k - 1) v (spans-of (row froms 1) (row uptos 1)) (omega (arith, f .above-first)) (λ u m n. row-is u (omega (arith, f .above-first))))
-      ∙ ap (λ (n : ℕ). back bias (window-of g 0) (levels g 0 n) v) (sym whole)
-
-  pub total-is : (t : ℕ) → t ≡ first-total spans-found (count-of g 0 + above) → t ≡ least-total-of g k
-  unfolding first-total least-total
-  total-is t e = e ∙ rw (← most-whole) (first-same _ _ 0 _ (λ v h m. ap nonempty (spans-are v (omega (arith, most-whole)))))

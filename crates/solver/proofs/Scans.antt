@@ -123,6 +123,9 @@ module _ (g : Given) (i n v : ℕ) (f : ℕ → Span) where
       in-use : (j : ℕ) → start o last above v ≤ j → j < start o last above v + (stop last v - start o last above v) → (j ≤ last) × (v - j ≤ v) × (v - j ≤ above)
       in-use j k m = use-within o last above v j h k m
 
+pub above-sum : (g : Given) (k : ℕ) (r : List ℕ) → Stack-asks g k → Sums-are (g .counts) k 0 r → entry r 1 ≡ most (levels g 1 (k - 1))
+above-sum g k r a s = s .sums-are 1 (k - 1) (omega arith) (omega (arith, a .some)) ∙ sym (most-sums g 1 (k - 1))
+
 pub none-yet : (g : Given) (k cap : ℕ) (froms uptos : List (List ℕ)) → Scan-asks g k cap froms uptos → Scan-asks g k 0 froms uptos
 none-yet g k cap froms uptos a =
     record { stack = a .stack; total = omega arith; of-use = omega arith; sized-froms = a .sized-froms; sized-uptos = a .sized-uptos }
@@ -315,18 +318,19 @@ module _ (g : Given) (k cap : ℕ) where
       totals-hit e =
           searching-hit (λ u. nonempty (bottom-span u)) (suc cap) v found q (omega arith) (ends-full (entry (row froms 0) v) (entry (row uptos 0) v) (bottom-span v) (bottom-is (omega arith)) e)
 
-      pub scan-found : (before : ℕ) (froms₀ uptos₀ : List (List ℕ)) → Scanning g k v k froms₀ uptos₀ before → found ≡ first-total bottom-span cap →
-          entry (row froms 0) v < entry (row uptos 0) v → Scan-is g k cap froms uptos (record { total = v; jump = before })
-      scan-found before froms₀ uptos₀ p t e =
+      pub scan-found : (before above : ℕ) (froms₀ uptos₀ : List (List ℕ)) → Scanning g k v k froms₀ uptos₀ before → found ≡ first-total bottom-span cap → above ≡ most (levels g 1 (k - 1)) →
+          entry (row froms 0) v < entry (row uptos 0) v → Scan-is g k cap froms uptos (record { total = v; above = above; jump = before })
+      scan-found before above froms₀ uptos₀ p t o e =
           let m : min v cap ≡ v = omega arith in
-          record { table = rw m table-to; total-is = totals-hit e ∙ t; jump-is = λ j n u i l o x. p .earlier-jump j n u i l o x }
+          record { table = rw m table-to; above-is = o; total-is = totals-hit e ∙ t; jump-is = λ j n u i l o x. p .earlier-jump j n u i l o x }
 
-  pub scan-none : (v jump : ℕ) (froms uptos : List (List ℕ)) → cap < v → v ≤ cap + 1 → Scanning g k v k froms uptos jump →
-      Searching (λ u. nonempty (bottom-span u)) (suc cap) v (first-total bottom-span cap) → Scan-is g k cap froms uptos (record { total = v; jump = jump })
-  scan-none v jump froms uptos h i s q =
+  pub scan-none : (v above jump : ℕ) (froms uptos : List (List ℕ)) → above ≡ most (levels g 1 (k - 1)) → cap < v → v ≤ cap + 1 → Scanning g k v k froms uptos jump →
+      Searching (λ u. nonempty (bottom-span u)) (suc cap) v (first-total bottom-span cap) → Scan-is g k cap froms uptos (record { total = v; above = above; jump = jump })
+  scan-none v above jump froms uptos o h i s q =
       let m : min v cap ≡ cap = omega arith in
       record {
         table = rw m (record { sized-froms = s .sized-froms; sized-uptos = s .sized-uptos; filled = λ j n u l e c o. s .earlier j n u e (omega arith) o });
+        above-is = o;
         total-is = searching-end (λ u. nonempty (bottom-span u)) (suc cap) v (first-total bottom-span cap) q (omega arith);
         jump-is = λ j n u e l o x. s .earlier-jump j n u e l o x;
       }

@@ -6,7 +6,6 @@ use lib.ListN.{length, getD, set, replicate}
 use Rattle.stack.specs.declared.Tracks.{Tracks}
 use Rattle.stack.specs.declared.Columns.{Columns}
 use Rattle.solver.specs.declared.Placement.{Placement}
-use Rattle.solver.specs.declared.Found.{Found}
 use Rattle.solver.specs.Spans.{Span, span, Limit, limit}
 use Rattle.solver.specs.Solver.{Level, level, most, back, least-total, separations, fixed, positions}
 use Rattle.solver.specs.Placed.{Placed, Exactly, Widening}
@@ -74,22 +73,6 @@ unfoldable pub levels : Given → (i n : ℕ) → List Level
 levels g i zero = []
 levels g i (suc n) = level-of g i ∷ levels g (suc i) n
 
--- what the loop over a channel's separations asks: indices within the arrays, and ends that leave room for the bias
-pub record Gathers (v start stop : ℕ) (froms uptos : List ℕ) : Type 0 where
-  pub total : v < totals-held
-  pub listed : stop ≤ separations-held
-  pub within : stop ≤ suc v
-  pub starts : (u : ℕ) → u + start ≤ v → entry froms u ≤ bias
-  pub ends : (u : ℕ) → u + start ≤ v → entry uptos u ≤ bias
-
--- what one cell of the tables of spans asks
-pub record Cell (v last above : ℕ) (froms uptos : List ℕ) : Type 0 where
-  pub total : v < totals-held
-  pub listed : last < separations-held
-  pub of-use : v ≤ last + above
-  pub starts : (u : ℕ) → u ≤ v → u ≤ above → entry froms u ≤ bias
-  pub ends : (u : ℕ) → u ≤ v → u ≤ above → entry uptos u ≤ bias
-
 -- a table: a row for each strip, a cell for each total
 pub record Sized (t : List (List ℕ)) : Type 0 where
   pub rows : length t ≡ strips-held
@@ -97,25 +80,6 @@ pub record Sized (t : List (List ℕ)) : Type 0 where
 
 abbrev pub span-in : (froms uptos : List (List ℕ)) → (i v : ℕ) → Span
 span-in froms uptos i v = span (entry (row froms i) v) (entry (row uptos i) v)
-
--- what a row's loop asks: indices within the arrays, and ends in the row above that leave room for the bias
-pub record Row-asks (i last above end : ℕ) (froms uptos : List (List ℕ)) : Type 0 where
-  pub channel : i < channels-held
-  pub listed : last < separations-held
-  pub total : end < totals-held
-  pub of-use : end ≤ last + above
-  pub sized-froms : Sized froms
-  pub sized-uptos : Sized uptos
-  pub starts : (u : ℕ) → u ≤ end → u ≤ above → entry (row froms (i + 1)) u ≤ bias
-  pub ends : (u : ℕ) → u ≤ end → u ≤ above → entry (row uptos (i + 1)) u ≤ bias
-
--- the first n cells of row i are f's, and every other row is as it was
-pub record Row-filled (i n : ℕ) (f : ℕ → Span) (froms₀ uptos₀ froms uptos : List (List ℕ)) : Type 0 where
-  pub sized-froms : Sized froms
-  pub sized-uptos : Sized uptos
-  pub filled : (v : ℕ) → v < n → span-in froms uptos i v ≡ f v
-  pub other-froms : (j : ℕ) → (j ≡ i → ⊥) → row froms j ≡ row froms₀ j
-  pub other-uptos : (j : ℕ) → (j ≡ i → ⊥) → row uptos j ≡ row uptos₀ j
 
 -- what all of it asks: k channels, counts within the arrays, ends and limits that leave room for the bias
 pub record Stack-asks (g : Given) (k : ℕ) : Type 0 where
@@ -132,16 +96,6 @@ pub record Filled (g : Given) (k cap i : ℕ) (froms uptos : List (List ℕ)) : 
   pub sized-froms : Sized froms
   pub sized-uptos : Sized uptos
   pub filled : (j n v : ℕ) → i ≤ j → j + n ≡ k → v ≤ cap → v ≤ most (levels g j n) → span-in froms uptos j v ≡ back bias (window-of g j) (levels g j n) v
-
-pub record Fill-asks (g : Given) (k cap : ℕ) (froms uptos : List (List ℕ)) : Type 0 where
-  pub stack : Stack-asks g k
-  pub total : cap < totals-held
-  pub sized-froms : Sized froms
-  pub sized-uptos : Sized uptos
-
-pub record Fill-leaves (g : Given) (k cap : ℕ) (froms uptos : List (List ℕ)) (above : ℕ) : Type 0 where
-  pub table : Filled g k cap 1 froms uptos
-  pub above-first : above ≡ most (levels g 1 (k - 1))
 
 -- what the search for a separation asks of a channel, for the strip below in the span (from, upto)
 pub record Serve-asks (lows highs : List ℕ) (last above from upto : ℕ) : Type 0 where
@@ -227,8 +181,3 @@ pub record Placement-is (g : Given) (k total : ℕ) (r : Placement) : Type 0 whe
   pub total-is : r .total .0 ≡ total
   pub separations-are : tracks (r .separations) ≡ padded channels-held (separations-of g k total)
   pub positions-are : columns (r .positions) ≡ padded strips-held (positions bias (window-of g 0) (levels g 0 k) (separations-of g k total))
-
--- the tables filled for all totals, with the least total and the sum of the last separations above channel 0
-pub record Found-is (g : Given) (k : ℕ) (froms uptos : List (List ℕ)) (r : Found) : Type 0 where
-  pub leaves : Fill-leaves g k (totals-held - 1) froms uptos (r .above)
-  pub total-is : r .total ≡ least-total-of g k

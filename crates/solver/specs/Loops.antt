@@ -4,7 +4,7 @@ use mathlib.Core.Bool.{Bool}
 use mathlib.Core.List.{List}
 use Prim.Native.Nat.{ℕ, suc, _+_, _-_, _*_, _≤_, _<_}
 use lib.ListN.{replicate}
-use Rattle.solver.specs.Spans.{Span, gather}
+use Rattle.solver.specs.Spans.{Span}
 use Rattle.solver.specs.Solver.{first, most, separations, positions-on, positions}
 use Rattle.solver.specs.Placed.{Placed}
 use Rattle.solver.specs.Arrays.{bias, channels-held, strips-held, Given, window-of, levels, Filled, store, taken, fixed-from, Starts-are}
@@ -12,18 +12,6 @@ use Rattle.solver.specs.Arrays.{bias, channels-held, strips-held, Given,
 -- a search for the first number below stop at which f is true, at q
 pub record Searching (f : ℕ → Bool) (stop q found : ℕ) : Type 0 where
   pub left : first f q (stop - q) ≡ found
-
--- spans gathered so far in t, at separation q
-pub record Gathering (b : ℕ) (low high : ℕ → ℕ) (f : ℕ → Span) (stop q : ℕ) (t gathered : Span) : Type 0 where
-  pub left : gather b low high f q (stop - q) t ≡ gathered
-
--- the tables filled down to row i, and the sum of the last separations of the channels from i on
-pub record Filling (g : Given) (k cap i : ℕ) (froms uptos : List (List ℕ)) (above : ℕ) : Type 0 where
-  pub table : Filled g k cap i froms uptos
-  pub from-one : 1 ≤ i
-  pub to-top : i ≤ k
-  pub above-is : (n : ℕ) → i + n ≡ k → above ≡ most (levels g i n)
-  pub above-small : above + 32 * i ≤ 32 * k
 
 -- the separations of the channels below i written, strip i in the span s, the total v left for the channels from i on
 pub record Separating (g : Given) (k total i v above : ℕ) (s : Span) (ts : List ℕ) : Type 0 where

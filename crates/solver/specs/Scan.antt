@@ -92,6 +92,7 @@ pub record Scanning (g : Given) (k v i : ℕ) (froms uptos : List (List ℕ)) (j
 -- THE SCAN for totals up to cap: the first that can be had, or cap + 1; the tables for totals up to it; no span for a total below it is short by less than the jump
 pub record Scan-is (g : Given) (k cap : ℕ) (froms uptos : List (List ℕ)) (r : Scan) : Type 0 where
   pub table : Filled g k (min (r .total) cap) 0 froms uptos
+  pub above-is : r .above ≡ most (levels g 1 (k - 1))
   pub total-is : r .total ≡ first-total (back bias (window-of g 0) (levels g 0 k)) cap
   pub jump-is : (j n u : ℕ) → j + suc n ≡ k → u < r .total → u ≤ most (levels g j (suc n)) → 0 < short-of g j n u → r .jump ≤ short-of g j n u
 

@@ -9,11 +9,11 @@ ghost use mathlib.Core.Path.{_≡_};
 ghost use Prim.Native.Nat.{_+_, _-_, _*_, _≤_, _<_, min, max};
 ghost use lib.ListN.{replicate};
 ghost use lib.Dec.{ltb, eqb};
-ghost use Rattle.solver.specs.Spans.{span, cut, shift-back, shift-on, join-if, gather};
+ghost use Rattle.solver.specs.Spans.{span, cut, shift-back, shift-on};
 ghost use Rattle.solver.specs.Jump.{min-if, max-if};
 ghost use Rattle.solver.specs.Scan.{Ends-ask, Ends-are, Strip-asks, Strip-done, Counts-ask, Sums-are, Leasts-are, jump-if, Total-asks, Scanning, Scan-asks, Scan-is};
-ghost use Rattle.solver.specs.Solver.{first-open, start, stop, cell, first-total, first-serving, separations, positions};
-ghost use Rattle.solver.specs.Arrays.{bias, channels-held, strips-held, separations-held, totals-held, entry, spans-of, Gathers, Cell, row, Row-asks, Row-filled, given, Fill-asks, Fill-leaves, Serve-asks, window-of, levels, tracks, store, Separate-asks, Stack-asks, Starts-are, Next-asks, Position-asks, columns, taken, least-total-of, Place-asks, Placement-is, Found-is};
+ghost use Rattle.solver.specs.Solver.{first-open, start, stop, first-serving, separations, positions};
+ghost use Rattle.solver.specs.Arrays.{bias, channels-held, strips-held, separations-held, entry, spans-of, given, Serve-asks, window-of, levels, tracks, store, Separate-asks, Stack-asks, Starts-are, Next-asks, Position-asks, columns, taken, Place-asks, Placement-is};
 
 const SEPARATIONS: usize = Stack::MAX_SEPARATION + 1;
 
@@ -36,12 +36,6 @@ pub struct Placement {
     pub positions: [Columns; STRIPS],
 }
 
-// The least total, and the sum of the last separations of the channels above channel 0.
-struct Found {
-    total: usize,
-    above: usize,
-}
-
 // The least separation whose limit is open, or one past the last.
 fn least_open(low: &[u64; SEPARATIONS], high: &[u64; SEPARATIONS], last: usize) -> usize
     requires { ⌜ last < separations-held ⌝ }
@@ -55,46 +49,6 @@ fn least_open(low: &[u64; SEPARATIONS], high: &[u64; SEPARATIONS], last: usize) 
         q += 1;
     }
     q
-}
-
-// The span s joined with the span of ends from, upto shifted back by the limit (low, high), if that span is not empty.
-fn widen(s: Span, from: u64, upto: u64, low: u64, high: u64) -> Span
-    requires { ⌜ (from ≤ bias) × (upto ≤ bias) ⌝ }
-    ensures { λ r. ⌜ span (r .from) (r .upto) ≡ join-if (ltb from upto) bias low high (span from upto) (span (s .from) (s .upto)) ⌝ }
-{
-    if from < upto {
-        Span {
-            from: lesser(s.from, difference(from + Stack::BIAS, high)),
-            upto: greater(s.upto, difference(upto + Stack::BIAS, low)),
-        }
-    } else {
-        s
-    }
-}
-
-// The spans of the strip above for what separations from start to below stop leave of total v, each shifted back by its limit, joined.
-fn gather(
-    low: &[u64; SEPARATIONS],
-    high: &[u64; SEPARATIONS],
-    from: &[u64; TOTALS],
-    upto: &[u64; TOTALS],
-    v: usize,
-    start: usize,
-    stop: usize,
-    top: u64,
-) -> Span
-    requires { ⌜ Gathers v start stop (now from) (now upto) ⌝ }
-    ensures { λ r. ⌜ span (r .from) (r .upto) ≡ gather bias (entry (now (low .entry))) (entry (now (high .entry))) (λ q. spans-of (now (from .entry)) (now (upto .entry)) (v - q)) start (stop - start) (span top 0) ⌝ }
-{
-    let mut s = Span { from: top, upto: 0 };
-    let mut q = start;
-    while q < stop {
-        let u = v - q;
-        let t = widen(s, from[u], upto[u], low[q], high[q]);
-        s = t;
-        q += 1;
-    }
-    s
 }
 
 // The first separation of use in a channel at total v: an open one that leaves no more than the levels above can use.
@@ -111,115 +65,6 @@ fn stop(last: usize, v: usize) -> usize
     ensures { λ r. ⌜ r ≡ stop last v ⌝ }
 {
     lesser(v as u64, last as u64) as usize + 1
-}
-
-// The positions of a strip, from its window (from, upto), from which the strips above can be placed with total v.
-fn cell(
-    low: &[u64; SEPARATIONS],
-    high: &[u64; SEPARATIONS],
-    froms: &[u64; TOTALS],
-    uptos: &[u64; TOTALS],
-    v: usize,
-    least: usize,
-    last: usize,
-    above: usize,
-    from: u64,
-    upto: u64,
-) -> Span
-    requires { ⌜ Cell v last above (now froms) (now uptos) ⌝ }
-    ensures { λ r. ⌜ span (r .from) (r .upto) ≡ cell bias (entry (now (low .entry))) (entry (now (high .entry))) least last above (spans-of (now (froms .entry)) (now (uptos .entry))) (span from upto) v ⌝ }
-{
-    let s = gather(
-        low,
-        high,
-        froms,
-        uptos,
-        v,
-        start(least, last, above, v),
-        stop(last, v),
-        upto,
-    );
-    Span {
-        from: greater(from, s.from),
-        upto: lesser(upto, s.upto),
-    }
-}
-
-// Row i of the tables of spans, for totals up to end, from row i + 1.
-fn fill_row(
-    low: &[u64; SEPARATIONS],
-    high: &[u64; SEPARATIONS],
-    i: usize,
-    last: usize,
-    above: usize,
-    from: u64,
-    upto: u64,
-    end: usize,
-    froms: &mut [[u64; TOTALS]; STRIPS],
-    uptos: &mut [[u64; TOTALS]; STRIPS],
-)
-    requires { ⌜ Row-asks i last above end (now froms) (now uptos) ⌝ }
-    ensures { λ _. ⌜ Row-filled i (end + 1) (cell bias (entry (now (low .entry))) (entry (now (high .entry))) (first-open (entry (now (low .entry))) (entry (now (high .entry))) last) last above (spans-of (row (now (froms .entry)) (i + 1)) (row (now (uptos .entry)) (i + 1))) (span from upto)) (now (froms .entry)) (now (uptos .entry)) (now (froms .exit)) (now (uptos .exit)) ⌝ }
-{
-    let least = least_open(low, high, last);
-    let mut v = 0;
-    while v <= end {
-        let s = cell(
-            low,
-            high,
-            &froms[i + 1],
-            &uptos[i + 1],
-            v,
-            least,
-            last,
-            above,
-            from,
-            upto,
-        );
-        froms[i][v] = s.from;
-        uptos[i][v] = s.upto;
-        v += 1;
-    }
-}
-
-// The tables of spans for strips k to 1, for totals up to cap; the sum of the last separations of the channels above channel 0.
-fn fill(
-    low: &[[u64; SEPARATIONS]; CHANNELS],
-    high: &[[u64; SEPARATIONS]; CHANNELS],
-    counts: &[usize; CHANNELS],
-    from: &[u64; STRIPS],
-    upto: &[u64; STRIPS],
-    k: usize,
-    cap: usize,
-    froms: &mut [[u64; TOTALS]; STRIPS],
-    uptos: &mut [[u64; TOTALS]; STRIPS],
-) -> usize
-    requires { ⌜ Fill-asks (given (now low) (now high) (now counts) (now from) (now upto)) k cap (now froms) (now uptos) ⌝ }
-    ensures { λ r. ⌜ Fill-leaves (given (now (low .entry)) (now (high .entry)) (now (counts .entry)) (now (from .entry)) (now (upto .entry))) k cap (now (froms .exit)) (now (uptos .exit)) r ⌝ }
-{
-    froms[k][0] = from[k];
-    uptos[k][0] = upto[k];
-    let mut above = 0;
-    let mut i = k;
-    while 1 < i {
-        i -= 1;
-        let last = counts[i];
-        let end = lesser(cap as u64, (last + above) as u64) as usize;
-        fill_row(
-            &low[i],
-            &high[i],
-            i,
-            last,
-            above,
-            from[i],
-            upto[i],
-            end,
-            froms,
-            uptos,
-        );
-        above += last;
-    }
-    above
 }
 
 // The positions in the window (from, upto) that are within the limit (low, high) of some position in s.
@@ -258,32 +103,6 @@ fn serving(
         q += 1;
     }
     q
-}
-
-// The least total with which the strip in the window (from, upto) can stand; one past the greatest of use if there is none.
-fn first_total(
-    low: &[u64; SEPARATIONS],
-    high: &[u64; SEPARATIONS],
-    froms: &[u64; TOTALS],
-    uptos: &[u64; TOTALS],
-    last: usize,
-    above: usize,
-    from: u64,
-    upto: u64,
-) -> usize
-    requires { ⌜ Cell (last + above) last above (now froms) (now uptos) ⌝ }
-    ensures { λ r. ⌜ r ≡ first-total (cell bias (entry (now (low .entry))) (entry (now (high .entry))) (first-open (entry (now (low .entry))) (entry (now (high .entry))) last) last above (spans-of (now (froms .entry)) (now (uptos .entry))) (span from upto)) (last + above) ⌝ }
-{
-    let least = least_open(low, high, last);
-    let mut v = 0;
-    while v <= last + above {
-        let s = cell(low, high, froms, uptos, v, least, last, above, from, upto);
-        if s.from < s.upto {
-            return v;
-        }
-        v += 1;
-    }
-    v
 }
 
 // The positions in the window (from, upto) of the strip above, for the strip below in s and separation q.
@@ -350,6 +169,17 @@ fn separations_for(
     ts
 }
 
+// The positions in the window (from, upto) that are within the limit (low, high) below some position in s.
+fn backward(s: Span, low: u64, high: u64, from: u64, upto: u64) -> Span
+    requires { ⌜ (s .from ≤ strips-held * bias) × (s .upto ≤ bias) ⌝ }
+    ensures { λ r. ⌜ span (r .from) (r .upto) ≡ cut (span from upto) (shift-back bias low high (span (s .from) (s .upto))) ⌝ }
+{
+    Span {
+        from: greater(from, difference(s.from + Stack::BIAS, high)),
+        upto: lesser(upto, difference(s.upto + Stack::BIAS, low)),
+    }
+}
+
 // The positions in the window (from, upto) of the strip below, for the strip above in s and separation q.
 fn pull_back(
     low: &[u64; SEPARATIONS],
@@ -364,10 +194,7 @@ fn pull_back(
     ensures { λ r. ⌜ span (r .from) (r .upto) ≡ cut (span from upto) (shift-back bias (entry (now (low .entry)) (min q last)) (entry (now (high .entry)) (min q last)) (span (s .from) (s .upto))) ⌝ }
 {
     let p = lesser(q as u64, last as u64) as usize;
-    Span {
-        from: greater(from, difference(s.from + Stack::BIAS, high[p])),
-        upto: lesser(upto, difference(s.upto + Stack::BIAS, low[p])),
-    }
+    backward(s, low[p], high[p], from, upto)
 }
 
 // The first position of each strip from which the strips above can be placed with these separations.
@@ -436,46 +263,8 @@ fn positions_for(
     xs
 }
 
-// The tables of spans for all totals, and the least total.
-fn find(
-    low: &[[u64; SEPARATIONS]; CHANNELS],
-    high: &[[u64; SEPARATIONS]; CHANNELS],
-    counts: &[usize; CHANNELS],
-    from: &[u64; STRIPS],
-    upto: &[u64; STRIPS],
-    k: usize,
-    froms: &mut [[u64; TOTALS]; STRIPS],
-    uptos: &mut [[u64; TOTALS]; STRIPS],
-) -> Found
-    requires { ⌜ Fill-asks (given (now low) (now high) (now counts) (now from) (now upto)) k (totals-held - 1) (now froms) (now uptos) ⌝ }
-    ensures { λ r. ⌜ Found-is (given (now (low .entry)) (now (high .entry)) (now (counts .entry)) (now (from .entry)) (now (upto .entry))) k (now (froms .exit)) (now (uptos .exit)) r ⌝ }
-{
-    let above = fill(
-        low,
-        high,
-        counts,
-        from,
-        upto,
-        k,
-        Stack::MAX_TOTAL,
-        froms,
-        uptos,
-    );
-    let total = first_total(
-        &low[0],
-        &high[0],
-        &froms[1],
-        &uptos[1],
-        counts[0],
-        above,
-        from[0],
-        upto[0],
-    );
-    Found { total, above }
-}
-
 // The placement for a total that can be had, from the tables of spans.
-fn place_in(
+pub fn place_in(
     low: &[[u64; SEPARATIONS]; CHANNELS],
     high: &[[u64; SEPARATIONS]; CHANNELS],
     counts: &[usize; CHANNELS],
@@ -499,105 +288,16 @@ fn place_in(
     }
 }
 
-// The least total of a stack; one past the greatest of use if nothing can be placed.
-pub fn least_total(
-    low: &[[u64; SEPARATIONS]; CHANNELS],
-    high: &[[u64; SEPARATIONS]; CHANNELS],
-    counts: &[usize; CHANNELS],
-    from: &[u64; STRIPS],
-    upto: &[u64; STRIPS],
-    k: usize,
-) -> usize
-    requires { ⌜ Stack-asks (given (now low) (now high) (now counts) (now from) (now upto)) k ⌝ }
-    ensures { λ r. ⌜ r ≡ least-total-of (given (now (low .entry)) (now (high .entry)) (now (counts .entry)) (now (from .entry)) (now (upto .entry))) k ⌝ }
-{
-    let mut froms = [[0u64; TOTALS]; STRIPS];
-    let mut uptos = [[0u64; TOTALS]; STRIPS];
-    let f = find(low, high, counts, from, upto, k, &mut froms, &mut uptos);
-    f.total
-}
-
-// The placement of a stack for a stated total that some placement has.
-pub fn place_for(
-    low: &[[u64; SEPARATIONS]; CHANNELS],
-    high: &[[u64; SEPARATIONS]; CHANNELS],
-    counts: &[usize; CHANNELS],
-    from: &[u64; STRIPS],
-    upto: &[u64; STRIPS],
-    k: usize,
-    total: usize,
-) -> Placement
-    requires { ⌜ Place-asks (given (now low) (now high) (now counts) (now from) (now upto)) k total ⌝ }
-    ensures { λ r. ⌜ Placement-is (given (now (low .entry)) (now (high .entry)) (now (counts .entry)) (now (from .entry)) (now (upto .entry))) k total r ⌝ }
-{
-    let mut froms = [[0u64; TOTALS]; STRIPS];
-    let mut uptos = [[0u64; TOTALS]; STRIPS];
-    let cap = lesser(total as u64, Stack::MAX_TOTAL as u64) as usize;
-    let above = fill(
-        low,
-        high,
-        counts,
-        from,
-        upto,
-        k,
-        cap,
-        &mut froms,
-        &mut uptos,
-    );
-    place_in(
-        low,
-        high,
-        counts,
-        from,
-        upto,
-        k,
-        total,
-        above,
-        &froms,
-        &uptos,
-    )
-}
-
-// The placement of a stack for its least total.
-pub fn place(
-    low: &[[u64; SEPARATIONS]; CHANNELS],
-    high: &[[u64; SEPARATIONS]; CHANNELS],
-    counts: &[usize; CHANNELS],
-    from: &[u64; STRIPS],
-    upto: &[u64; STRIPS],
-    k: usize,
-) -> Placement
-    requires { ⌜ Place-asks (given (now low) (now high) (now counts) (now from) (now upto)) k (least-total-of (given (now low) (now high) (now counts) (now from) (now upto)) k) ⌝ }
-    ensures { λ r. ⌜ Placement-is (given (now (low .entry)) (now (high .entry)) (now (counts .entry)) (now (from .entry)) (now (upto .entry))) k (least-total-of (given (now (low .entry)) (now (high .entry)) (now (counts .entry)) (now (from .entry)) (now (upto .entry))) k) r ⌝ }
-{
-    let mut froms = [[0u64; TOTALS]; STRIPS];
-    let mut uptos = [[0u64; TOTALS]; STRIPS];
-    let f = find(low, high, counts, from, upto, k, &mut froms, &mut uptos);
-    let total = f.total;
-    let above = f.above;
-    place_in(
-        low,
-        high,
-        counts,
-        from,
-        upto,
-        k,
-        total,
-        above,
-        &froms,
-        &uptos,
-    )
-}
-
 // Of spans shifted back: the nearest start, and the furthest end raised by the bias once more.
 struct Ends {
     near: u64,
     reach: u64,
 }
 
-// The first total that can be had, and how far the spread may grow before a smaller one can.
+// The first total that can be had, the sum of the counts of the channels above channel 0, and how far the spread may grow before a smaller total can be had.
 pub struct Scan {
     pub total: usize,
+    pub above: usize,
     pub jump: u64,
 }
 
@@ -777,6 +477,7 @@ pub fn scan_totals(
 {
     let sums = sums_above(counts, k);
     let leasts = least_opens(low, high, counts, k);
+    let above = sums[1];
     froms[k][0] = from[k];
     uptos[k][0] = upto[k];
     let mut jump = Stack::BIAS;
@@ -797,10 +498,18 @@ pub fn scan_totals(
             uptos,
         );
         if froms[0][v] < uptos[0][v] {
-            return Scan { total: v, jump };
+            return Scan {
+                total: v,
+                above,
+                jump,
+            };
         }
         jump = next;
         v += 1;
     }
-    Scan { total: v, jump }
+    Scan {
+        total: v,
+        above,
+        jump,
+    }
 }

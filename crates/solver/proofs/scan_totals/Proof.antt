@@ -8,22 +8,25 @@ use Rattle.solver.specs.Arrays.{bias, given, window-of, levels}
 use Rattle.solver.specs.Loops.{Searching}
 use Rattle.solver.specs.Scan.{Scanning}
 use Rattle.solver.proofs.Loops.{totalling-start}
-use Rattle.solver.proofs.Scans.{none-yet, scanning-start, scan-found, scanning-next, totals-miss, scan-none}
+use Rattle.solver.proofs.Scans.{none-yet, above-sum, scanning-start, scan-found, scanning-next, totals-miss, scan-none}
 use borrow.Author.Needs.{needs}
 use Rattle.solver.proofs.scan_totals.Statement.{statement}
 use Rattle.solver.proofs.scan_totals.Tie as tie
 
 abbrev Inv-loop : tie.InvT-loop
-Inv-loop low high counts from upto k cap froms₀ uptos₀ sums leasts jump₀ v₀ froms uptos jump v = (v ≤ cap + 1) × Scanning (given low high counts from upto) k v k froms uptos jump × Searching (λ u. nonempty (back bias (window-of (given low high counts from upto) 0) (levels (given low high counts from upto) 0 k) u)) (suc cap) v (first-total (back bias (window-of (given low high counts from upto) 0) (levels (given low high counts from upto) 0 k)) cap)
+Inv-loop low high counts from upto k cap froms₀ uptos₀ sums leasts above jump₀ v₀ froms uptos jump v = (v ≤ cap + 1) × Scanning (given low high counts from upto) k v k froms uptos jump × Searching (λ u. nonempty (back bias (window-of (given low high counts from upto) 0) (levels (given low high counts from upto) 0 k) u)) (suc cap) v (first-total (back bias (window-of (given low high counts from upto) 0) (levels (given low high counts from upto) 0 k)) cap)
 
 abbrev μ-loop : tie.MeasureT-loop
-μ-loop low high counts from upto k cap froms₀ uptos₀ sums leasts jump₀ v₀ froms uptos jump v = suc cap - v
+μ-loop low high counts from upto k cap froms₀ uptos₀ sums leasts above jump₀ v₀ froms uptos jump v = suc cap - v
 
 sums-above-requires : tie.Need-sums-above-requires Inv-loop μ-loop
 sums-above-requires c κs = record { channels = c .pre .stack .channels; listed = c .pre .stack .listed }
 
 least-opens-requires : tie.Need-least-opens-requires Inv-loop μ-loop
 least-opens-requires c κs = record { channels = c .before .pre .stack .channels; listed = c .before .pre .stack .listed }
+
+array-read-above : tie.Need-array-read-above Inv-loop μ-loop
+array-read-above c = search needs
 
 mul-froms : tie.Need-mul-froms Inv-loop μ-loop
 mul-froms c = search needs
@@ -80,7 +83,7 @@ index-2-if1-2 : tie.Need-index-2-if1-2 Inv-loop μ-loop
 index-2-if1-2 c = search needs
 
 returns : tie.Need-returns Inv-loop μ-loop
-returns c = scan-found (given (c .before .before .before .before .before .before .before .before .before .before .before .before .before .before .args .low .now) (c .before .before .before .before .before .before .before .before .before .before .before .before .before .before .args .high .now) (c .before .before .before .before .before .before .before .before .before .before .before .before .before .before .args .counts .now) (c .before .before .before .before .before .before .before .before .before .before .before .before .before .before .args .from .now) (c .before .before .before .before .before .before .before .before .before .before .before .before .before .before .args .upto .now)) (c .before .before .before .before .before .before .before .before .before .before .before .before .before .before .args .k) (c .before .before .before .before .before .before .before .before .before .before .before .before .before .before .args .cap) (c .before .before .before .before .before .before .before .before .before .loop .v) (c .before .before .before .scan-total .result) _ _ (c .before .before .before .scan-total .ensures) (c .before .before .before .before .before .before .before .before .before .before .before .before .before .before .pre .of-use) (c .before .before .before .before .before .before .before .before .loop-test .taken) _ (c .before .before .before .before .before .before .before .before .before .loop .inv .2) (c .before .before .before .before .before .before .before .before .before .loop .jump) _ _ (c .before .before .before .before .before .before .before .before .before .loop .inv .1) refl (c .if1 .taken)
+returns c = scan-found (given (c .before .before .before .before .before .before .before .before .before .before .before .before .before .before .args .low .now) (c .before .before .before .before .before .before .before .before .before .before .before .before .before .before .args .high .now) (c .before .before .before .before .before .before .before .before .before .before .before .before .before .before .args .counts .now) (c .before .before .before .before .before .before .before .before .before .before .before .before .before .before .args .from .now) (c .before .before .before .before .before .before .before .before .before .before .before .before .before .before .args .upto .now)) (c .before .before .before .before .before .before .before .before .before .before .before .before .before .before .args .k) (c .before .before .before .before .before .before .before .before .before .before .before .before .before .before .args .cap) (c .before .before .before .before .before .before .before .before .before .loop .v) (c .before .before .before .scan-total .result) _ _ (c .before .before .before .scan-total .ensures) (c .before .before .before .before .before .before .before .before .before .before .before .before .before .before .pre .of-use) (c .before .before .before .before .before .before .before .before .loop-test .taken) _ (c .before .before .before .before .before .before .before .before .before .loop .inv .2) (c .before .before .before .before .before .before .before .before .before .loop .jump) _ _ _ (c .before .before .before .before .before .before .before .before .before .loop .inv .1) refl (above-sum (given (c .before .before .before .before .before .before .before .before .before .before .before .before .before .before .args .low .now) (c .before .before .before .before .before .before .before .before .before .before .before .before .before .before .args .high .now) (c .before .before .before .before .before .before .before .before .before .before .before .before .before .before .args .counts .now) (c .before .before .before .before .before .before .before .before .before .before .before .before .before .before .args .from .now) (c .before .before .before .before .before .before .before .before .before .before .before .before .before .before .args .upto .now)) (c .before .before .before .before .before .before .before .before .before .before .before .before .before .before .args .k) _ (c .before .before .before .before .before .before .before .before .before .before .before .before .before .before .pre .stack) (c .before .before .before .before .before .before .before .before .before .before .before .before .before .sums-above .ensures)) (c .if1 .taken)
 
 add-v : tie.Need-add-v Inv-loop μ-loop
 add-v c = search needs
@@ -92,7 +95,7 @@ loop-again : tie.Need-loop-again Inv-loop μ-loop
 loop-again c = (omega arith, scanning-next (given (c .before .before .before .before .before .before .before .before .before .before .before .before .before .before .args .low .now) (c .before .before .before .before .before .before .before .before .before .before .before .before .before .before .args .high .now) (c .before .before .before .before .before .before .before .before .before .before .before .before .before .before .args .counts .now) (c .before .before .before .before .before .before .before .before .before .before .before .before .before .before .args .from .now) (c .before .before .before .before .before .before .before .before .before .before .before .before .before .before .args .upto .now)) (c .before .before .before .before .before .before .before .before .before .before .before .before .before .before .args .k) (c .before .before .before .before .before .before .before .before .before .before .before .before .before .before .args .cap) (c .before .before .before .before .before .before .before .before .before .loop .v) (c .before .before .before .scan-total .result) _ _ (c .before .before .before .scan-total .ensures), totals-miss (given (c .before .before .before .before .before .before .before .before .before .before .before .before .before .before .args .low .now) (c .before .before .before .before .before .before .before .before .before .before .before .before .before .before .args .high .now) (c .before .before .before .before .before .before .before .before .before .before .before .before .before .before .args .counts .now) (c .before .before .before .before .before .before .before .before .before .before .before .before .before .before .args .from .now) (c .before .before .before .before .before .before .before .before .before .before .before .before .before .before .args .upto .now)) (c .before .before .before .before .before .before .before .before .before .before .before .before .before .before .args .k) (c .before .before .before .before .before .before .before .before .before .before .before .before .before .before .args .cap) (c .before .before .before .before .before .before .before .before .before .loop .v) (c .before .before .before .scan-total .result) _ _ (c .before .before .before .scan-total .ensures) (c .before .before .before .before .before .before .before .before .before .before .before .before .before .before .pre .of-use) (c .before .before .before .before .before .before .before .before .loop-test .taken) _ (c .before .before .before .before .before .before .before .before .before .loop .inv .2) (c .if1 .left))
 
 returns-2 : tie.Need-returns-2 Inv-loop μ-loop
-returns-2 c = scan-none (given (c .before .before .before .before .before .before .args .low .now) (c .before .before .before .before .before .before .args .high .now) (c .before .before .before .before .before .before .args .counts .now) (c .before .before .before .before .before .before .args .from .now) (c .before .before .before .before .before .before .args .upto .now)) (c .before .before .before .before .before .before .args .k) (c .before .before .before .before .before .before .args .cap) (c .before .loop .v) (c .before .loop .jump) _ _ (c .loop-test .left) (c .before .loop .inv .0) (c .before .loop .inv .1) (c .before .loop .inv .2)
+returns-2 c = scan-none (given (c .before .before .before .before .before .before .args .low .now) (c .before .before .before .before .before .before .args .high .now) (c .before .before .before .before .before .before .args .counts .now) (c .before .before .before .before .before .before .args .from .now) (c .before .before .before .before .before .before .args .upto .now)) (c .before .before .before .before .before .before .args .k) (c .before .before .before .before .before .before .args .cap) (c .before .loop .v) _ (c .before .loop .jump) _ _ (above-sum (given (c .before .before .before .before .before .before .args .low .now) (c .before .before .before .before .before .before .args .high .now) (c .before .before .before .before .before .before .args .counts .now) (c .before .before .before .before .before .before .args .from .now) (c .before .before .before .before .before .before .args .upto .now)) (c .before .before .before .before .before .before .args .k) _ (c .before .before .before .before .before .before .pre .stack) (c .before .before .before .before .before .sums-above .ensures)) (c .loop-test .left) (c .before .loop .inv .0) (c .before .loop .inv .1) (c .before .loop .inv .2)
 
 pub scan-totals-spec : {M : Type 1} → statement M
 scan-totals-spec =
@@ -102,6 +105,7 @@ scan-totals-spec =
     μ-loop
     sums-above-requires
     least-opens-requires
+    array-read-above
     mul-froms
     element-copy-out-froms
     mul-froms-2
