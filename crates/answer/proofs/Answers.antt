@@ -14,8 +14,8 @@ use Rattle.stack.specs.Limits.{channels-within, within-limits}
 use Rattle.channel.specs.Limits.{low-limit, high-limit}
 use Rattle.channel.proofs.Between.{low-open, high-open}
 use Rattle.solver.specs.Spans.{Span, In, Fits}
-use Rattle.solver.specs.Solver.{Level, separations, lowest, positions-on, least-total}
-use Rattle.solver.specs.Placed.{Placed, alone, under, Widening, Best}
+use Rattle.solver.specs.Solver.{Level, most, separations, positions, least-total}
+use Rattle.solver.specs.Placed.{Placed, alone, under, Widening, Exactly, Best}
 use Rattle.solver.proofs.Total.{least-total-at-most, least-total-reached}
 use Rattle.solver.proofs.Best.{best, chosen}
 use Rattle.solver.proofs.Order.{not-later-both}
@@ -78,7 +78,7 @@ module _ (b s : ℕ) (wide : s + 32 ≤ b) where
 
   answer-of : (ls : List ℕ) (cs : List (List Pair)) → channels-within ls cs ≡ true → longest ls ≤ s →
       Answer (stack ls cs) s (separations-with b (stack ls cs) s (total-with b (stack ls cs) s)) (positions-with b (stack ls cs) s (separations-with b (stack ls cs) s (total-with b (stack ls cs) s)))
-  unfolding channels-within separations-with total-with positions-with bottom levels-of stack
+  unfolding channels-within separations-with total-with positions-with positions bottom levels-of stack
   answer-of [] cs e h = impossible e
   answer-of (l ∷ ls) cs e h =
       let n = longest-bounds l ls s h in
@@ -91,22 +91,47 @@ module _ (b s : ℕ) (wide : s + 32 ≤ b) where
   unfolding within-limits stack
   answer-with k e h = answer-of (k .strips) (k .channels) (search ands) h
 
-  sum-of : (ls : List ℕ) (cs : List (List Pair)) → channels-within ls cs ≡ true → longest ls ≤ s →
-      sum (separations-with b (stack ls cs) s (total-with b (stack ls cs) s)) ≡ total-with b (stack ls cs) s
-  unfolding channels-within separations-with total-with bottom levels-of stack
-  sum-of [] cs e h = impossible e
-  sum-of (l ∷ ls) cs e h =
+  widening-of : (ls : List ℕ) (cs : List (List Pair)) → channels-within ls cs ≡ true → Widening (levels-of b (stack ls cs) s)
+  unfolding channels-within levels-of stack
+  widening-of [] cs e = impossible e
+  widening-of (l ∷ ls) cs e = stack-widening b s wide l ls cs e
+
+  most-of : (ls : List ℕ) (cs : List (List Pair)) → channels-within ls cs ≡ true → longest ls ≤ s → total-with b (stack ls cs) s ≤ most (levels-of b (stack ls cs) s)
+  unfolding channels-within total-with bottom levels-of stack
+  most-of [] cs e h = impossible e
+  most-of (l ∷ ls) cs e h =
+      let n = longest-bounds l ls s h in
+      least-total-at-most b (window s l) (stack-levels b s ls cs) (stack-widening b s wide l ls cs e) (counts-of cs) 0 (zeros-of cs) (some-placed l ls cs e (n .0) (n .1))
+
+  exactly-of : (ls : List ℕ) (cs : List (List Pair)) → channels-within ls cs ≡ true → longest ls ≤ s →
+      Exactly b (bottom (stack ls cs) s) (levels-of b (stack ls cs) s) (total-with b (stack ls cs) s)
+  unfolding channels-within total-with bottom levels-of stack
+  exactly-of [] cs e h = impossible e
+  exactly-of (l ∷ ls) cs e h =
       let n = longest-bounds l ls s h in
       let w = window s l in
       let up = stack-levels b s ls cs in
       let wide-levels = stack-widening b s wide l ls cs e in
-      let any = some-placed l ls cs e (n .0) (n .1) in
-      chosen b w up (least-total b w up) wide-levels (least-total-reached b w up wide-levels (least-total-at-most b w up wide-levels (counts-of cs) 0 (zeros-of cs) any)) .total
+      least-total-reached b w up wide-levels (most-of (l ∷ ls) cs e h)
+
+  -- the least total is one of use
+  pub total-most : (k : Stack) → within-limits k ≡ true → longest (k .strips) ≤ s → total-with b k s ≤ most (levels-of b k s)
+  unfolding within-limits stack
+  total-most k e h = most-of (k .strips) (k .channels) (search ands) h
+
+  pub widening-with : (k : Stack) → within-limits k ≡ true → Widening (levels-of b k s)
+  unfolding within-limits stack
+  widening-with k e = widening-of (k .strips) (k .channels) (search ands)
+
+  -- some placement has the least total
+  pub exactly-with : (k : Stack) → within-limits k ≡ true → longest (k .strips) ≤ s → Exactly b (bottom k s) (levels-of b k s) (total-with b k s)
+  unfolding within-limits stack
+  exactly-with k e h = exactly-of (k .strips) (k .channels) (search ands) h
 
   -- the separations sum to the least total
   pub sum-with : (k : Stack) → within-limits k ≡ true → longest (k .strips) ≤ s → sum (separations-with b k s (total-with b k s)) ≡ total-with b k s
-  unfolding within-limits stack
-  sum-with k e h = sum-of (k .strips) (k .channels) (search ands) h
+  unfolding separations-with
+  sum-with k e h = chosen b (bottom k s) (levels-of b k s) (total-with b k s) (widening-with k e) (exactly-with k e h) .total
 
 -- a placement's lengths
 good-length : (cs : List (List Pair)) (ts xs : List ℕ) → channels-good cs ts xs ≡ true → length ts ≡ length cs
@@ -147,3 +172,9 @@ answer-there k s e h = answer-with (s + 32) s (omega arith) k e h
 pub answer-sum : (k : Stack) (s : ℕ) → within-limits k ≡ true → longest (k .strips) ≤ s → sum (answer-separations k s) ≡ answer-total k s
 unfolding answer-separations answer-total
 answer-sum k s e h = sum-with (s + 32) s (omega arith) k e h
+
+-- the least total is the same with every bias that serves
+pub total-any-bias : (b : ℕ) (k : Stack) (s : ℕ) → s + 32 ≤ b → within-limits k ≡ true → longest (k .strips) ≤ s → total-with b k s ≡ answer-total k s
+total-any-bias b k s w e h =
+    let one = answer-alone k s _ _ _ _ (answer-with b s w k e h) (answer-there k s e h) in
+    sym (sum-with b s w k e h) ∙ (ap sum (one .0) ∙ answer-sum k s e h)

@@ -14,8 +14,8 @@ use Rattle.numbers.proofs.Orders.{le-or-lt}
 use Rattle.stack.specs.Stack.{Pair, Stack, q-at, feasible, in-spread, channels-good, legal}
 use Rattle.stack.specs.Limits.{rising, on-strips, channel-within, channels-within, strips-within, within-limits}
 use Rattle.stack.proofs.OnStrips.{terminals-on}
-use Rattle.channel.specs.Limits.{low-limit, high-limit, Between}
-use Rattle.channel.proofs.Between.{Biased, feasible-between, between-feasible, low-widens, high-widens, low-open, high-open}
+use Rattle.channel.specs.Limits.{low-limit, low-term, high-limit, Between}
+use Rattle.channel.proofs.Between.{Biased, greatest-at-most, feasible-between, between-feasible, low-widens, high-widens, low-open, high-open}
 use Rattle.solver.specs.Spans.{Span, span, In, Fits, Limit, last, low-at, high-at}
 use Rattle.solver.specs.Solver.{Level, level}
 use Rattle.solver.specs.Placed.{Placed, alone, under, Widens, Widening, none, more}
@@ -48,6 +48,13 @@ channel-high b c t = go (le-or-lt t (length c))
     go (inr h) =
         sym (high-capped (channel-limits b c) t)
         ∙ rw (past b c t h, high-open b c t (omega arith), high-at-of (low-limit b c) (high-limit b c) (length c) (length c) (omega arith)) (high-open b c (length c) (omega arith))
+
+-- a lower limit is at most twice the bias
+pub low-bounded : (b s l u t : ℕ) (c : List Pair) → s + 32 ≤ b → l ≤ s → channel-within l u c ≡ true → low-limit b c t ≤ 2 * b
+unfolding low-limit low-term channel-within
+low-bounded b s l u t c w h e =
+    let few : length c ≤ 32 = leb-true (length c) 32 (search ands) in
+    greatest-at-most b c t (length c - t) (2 * b) (λ i j. omega (arith, terminals-on l u c (search ands) i (omega arith)))
 
 joined : (a i f g : Bool) → a ≡ true → f ≡ true → (i && g) ≡ true → ((a && i) && (f && g)) ≡ true
 joined true i true g ha hf h = h

@@ -1,4 +1,4 @@
--- When the solver's arrays stand for a stack: the limits of its channels, and the windows of its strips in a spread. Assumes nothing: these are definitions.
+-- When the solver's arrays stand for a stack: the limits of its channels, and the windows of its strips in a spread; the answer as the code gives it. Assumes nothing: these are definitions.
 use mathlib.Core.Path.{_≡_}
 use mathlib.Core.List.{List, []}
 use Prim.Native.Nat.{ℕ, suc, _-_, _≤_, _<_}
@@ -6,7 +6,9 @@ use lib.ListN.{length, getD}
 use Rattle.numbers.specs.Lists.{tabulate}
 use Rattle.stack.specs.Stack.{Pair, Stack}
 use Rattle.channel.specs.Limits.{low-limit, high-limit}
-use Rattle.solver.specs.Arrays.{bias, channels-held, strips-held, separations-held, entry, row}
+use Rattle.solver.specs.Arrays.{bias, channels-held, strips-held, separations-held, entry, row, tracks, columns, padded}
+use Rattle.solver.specs.declared.Placement.{Placement}
+use Rattle.answer.specs.Solve.{answer-total, answer-separations, answer-positions}
 
 abbrev pub channel-in : Stack → (i : ℕ) → List Pair
 channel-in k i = getD (k .channels) i []
@@ -27,3 +29,9 @@ pub record Limits-in (k : Stack) (n : ℕ) (lows highs : List (List ℕ)) (count
 pub record Windows-in (k : Stack) (n s : ℕ) (uptos : List ℕ) : Type 0 where
   pub sized : length uptos ≡ strips-held
   pub ends-are : (i : ℕ) → i < n → entry uptos i ≡ suc s - strip-in k i
+
+-- THE ANSWER as the code gives it, with zeros in unused places
+pub record Answer-is (k : Stack) (s : ℕ) (r : Placement) : Type 0 where
+  pub total-is : r .total .0 ≡ answer-total k s
+  pub separations-are : tracks (r .separations) ≡ padded channels-held (answer-separations k s)
+  pub positions-are : columns (r .positions) ≡ padded strips-held (answer-positions k s)

@@ -6,7 +6,7 @@ use lib.ListN.{length, getD, drop}
 use Rattle.stack.specs.Stack.{Pair, Stack}
 use Rattle.channel.specs.Limits.{low-limit, high-limit}
 use Rattle.solver.specs.Spans.{Span, span, Limit}
-use Rattle.solver.specs.Solver.{Level, level, least-total, separations, lowest, positions-on}
+use Rattle.solver.specs.Solver.{Level, level, least-total, separations, positions}
 use Rattle.solver.specs.Arrays.{limits-from}
 
 -- the WINDOW of a strip: its positions within the spread
@@ -37,9 +37,7 @@ unfoldable pub separations-with : (b : ℕ) → Stack → (s v : ℕ) → List �
 separations-with b k s v = separations b (bottom k s) (levels-of b k s) v
 
 unfoldable pub positions-with : (b : ℕ) → Stack → (s : ℕ) → (ts : List ℕ) → List ℕ
-positions-with b k s ts =
-    let x = lowest b (bottom k s) (levels-of b k s) ts in
-    x ∷ positions-on b x (levels-of b k s) ts
+positions-with b k s ts = positions b (bottom k s) (levels-of b k s) ts
 
 -- THE ANSWER: least total, separations, positions
 unfoldable pub answer-total : Stack → (s : ℕ) → ℕ

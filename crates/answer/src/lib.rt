@@ -2,13 +2,17 @@
 ghost use mathlib.Core.Path.{_≡_};
 ghost use mathlib.Core.Bool.{true};
 ghost use Prim.Native.Nat.{suc, _≤_};
-ghost use lib.ListN.{length};
 ghost use Rattle.stack.specs.Limits.{within-limits};
 ghost use Rattle.stack.specs.Value.{stack-of};
-ghost use Rattle.answer.specs.Arrays.{Limits-in, Windows-in};
+ghost use Rattle.stack.specs.Stack.{longest};
+ghost use Rattle.answer.specs.Arrays.{Limits-in, Windows-in, Answer-is};
 use channel::SEPARATIONS;
 use channel::channel_limits;
 use numbers::difference;
+use solver::Placement;
+use solver::most_total;
+use solver::place_in;
+use solver::scan_totals;
 use stack::Columns;
 use stack::Stack;
 
@@ -52,4 +56,46 @@ pub fn fill_windows(stack: Stack, spread: u32, upto: &mut [u64; Stack::MAX_CHANN
         let strip = stack.strips[i];
         upto[i] = difference(spread as u64 + 1, wide(strip.length));
     }
+}
+
+// The answer for a spread from the longest strip upward.
+pub fn answer(stack: Stack, spread: u32) -> Placement
+    requires { ⌜ within-limits (stack-of stack) ≡ true ⌝ }
+    requires { ⌜ longest (stack-of stack .strips) ≤ spread ⌝ }
+    ensures { λ r. ⌜ Answer-is (stack-of stack) spread r ⌝ }
+{
+    let k = stack.count;
+    let mut low = [[0u64; SEPARATIONS]; Stack::MAX_CHANNELS];
+    let mut high = [[0u64; SEPARATIONS]; Stack::MAX_CHANNELS];
+    let mut counts = [0usize; Stack::MAX_CHANNELS];
+    fill_limits(stack, &mut low, &mut high, &mut counts);
+    let from = [0u64; Stack::MAX_CHANNELS + 1];
+    let mut upto = [0u64; Stack::MAX_CHANNELS + 1];
+    fill_windows(stack, spread, &mut upto);
+    let mut froms = [[0u64; Stack::MAX_TOTAL + 1]; Stack::MAX_CHANNELS + 1];
+    let mut uptos = [[0u64; Stack::MAX_TOTAL + 1]; Stack::MAX_CHANNELS + 1];
+    let cap = most_total(&counts, k);
+    let scan = scan_totals(
+        &low,
+        &high,
+        &counts,
+        &from,
+        &upto,
+        k,
+        cap,
+        &mut froms,
+        &mut uptos,
+    );
+    place_in(
+        &low,
+        &high,
+        &counts,
+        &from,
+        &upto,
+        k,
+        scan.total,
+        scan.above,
+        &froms,
+        &uptos,
+    )
 }

@@ -122,3 +122,7 @@ high-open b c t h = let e : length c - t ≡ 0 = omega arith in rw e
 
 pub open-between : (b : ℕ) (c : List Pair) (t x y : ℕ) → length c ≤ t → x ≤ b → y ≤ b → Between b c t x y
 open-between b c t x y h k l = record { left = omega (arith, low-open b c t h); right = omega (arith, high-open b c t h) }
+
+pub high-bounded : (b : ℕ) (c : List Pair) (t : ℕ) → high-limit b c t ≤ 2 * b
+unfolding high-limit
+high-bounded b c t = least-at-most b c t (length c - t)

@@ -14,9 +14,6 @@ use Rattle.numbers.proofs.Bools.{ands, impossible}
 use Rattle.numbers.proofs.Orders.{le-or-lt}
 use Rattle.stack.specs.Stack.{Pair, Stack, stack, Row, sum, longest, in-spread, legal, p-at, Answer}
 use Rattle.stack.specs.Limits.{channel-within, channels-within, within-limits}
-use Rattle.stack.proofs.OnStrips.{terminals-on}
-use Rattle.channel.specs.Limits.{low-limit, low-term, greatest}
-use Rattle.channel.proofs.Between.{greatest-at-most}
 use Rattle.solver.specs.Spans.{Span, span, In, low-at, nonempty}
 use Rattle.solver.specs.Solver.{Level, level, most, back, first, first-total, least-total}
 use Rattle.solver.specs.Placed.{Placed}
@@ -26,16 +23,10 @@ use Rattle.solver.proofs.Total.{least-total-at-most}
 use Rattle.solver.proofs.Back.{back-complete}
 use Rattle.solver.proofs.Jump.{back-grows}
 use Rattle.answer.specs.Solve.{window, channel-limits, stack-levels, bottom, levels-of, total-with, separations-with, positions-with, answer-total, answer-separations, answer-positions}
-use Rattle.answer.proofs.Legal.{channel-low, legal-placed, stack-widening}
-use Rattle.answer.proofs.Answers.{longest-bounds, counts-of, zeros-of, some-placed, answer-with, sum-with, answer-alone, answer-there, answer-sum}
+use Rattle.answer.proofs.Legal.{channel-low, low-bounded, legal-placed, stack-widening}
+use Rattle.answer.proofs.Answers.{longest-bounds, counts-of, zeros-of, some-placed, answer-with, sum-with, answer-alone, answer-there, answer-sum, total-any-bias}
 use Rattle.rows.specs.Walk.{row-at, rows-walk}
 use Rattle.rows.proofs.Settled.{legal-wider}
-
--- the least total is the same with every bias that serves
-pub total-any-bias : (b : ℕ) (k : Stack) (s : ℕ) → s + 32 ≤ b → within-limits k ≡ true → longest (k .strips) ≤ s → total-with b k s ≡ answer-total k s
-total-any-bias b k s w e h =
-    let one = answer-alone k s _ _ _ _ (answer-with b s w k e h) (answer-there k s e h) in
-    sym (sum-with b s w k e h) ∙ (ap sum (one .0) ∙ answer-sum k s e h)
 
 -- windows in a spread wider by d
 window-wider : (s d l : ℕ) → l ≤ s → window (s + d) l ≡ widened d (window s l)
@@ -49,13 +40,6 @@ levels-wider b s d (l ∷ ls) [] h = refl
 levels-wider b s d (l ∷ ls) (c ∷ cs) h =
     let n = longest-bounds l ls s h in
     rw (window-wider s d l (n .0), levels-wider b s d ls cs (n .1))
-
--- a lower limit is at most twice the bias
-low-bounded : (b s l u t : ℕ) (c : List Pair) → s + 32 ≤ b → l ≤ s → channel-within l u c ≡ true → low-limit b c t ≤ 2 * b
-unfolding low-limit low-term channel-within
-low-bounded b s l u t c w h e =
-    let few : length c ≤ 32 = leb-true (length c) 32 (search ands) in
-    greatest-at-most b c t (length c - t) (2 * b) (λ i j. omega (arith, terminals-on l u c (search ands) i (omega arith)))
 
 roomy : (b s d l : ℕ) (ls : List ℕ) (cs : List (List Pair)) → s + d + 32 ≤ b → l ≤ s → longest ls ≤ s → channels-within (l ∷ ls) cs ≡ true →
     Roomy b b d (window s l) (stack-levels b s ls cs)

@@ -26,7 +26,7 @@ zeros-rows m n = length-replicate m (zeros n)
 zeros-cells : (m n i : ℕ) → i < m → length (row (replicate m (zeros n)) i) ≡ n
 zeros-cells m n i h = rw (getD-replicate m i (zeros n) [] h) (length-replicate {A = ℕ} n 0)
 
-sized-zeros : Sized (replicate strips-held (replicate totals-held 0))
+pub sized-zeros : Sized (replicate strips-held (replicate totals-held 0))
 sized-zeros = record { rows = zeros-rows strips-held totals-held; cells = zeros-cells strips-held totals-held }
 
 pub zeros-ask : (g : Given) (k cap : ℕ) → Stack-asks g k → cap < totals-held → cap ≤ most (levels g 0 k) → Scan-asks g k cap (replicate strips-held (replicate totals-held 0)) (replicate strips-held (replicate totals-held 0))

@@ -11,7 +11,7 @@ ghost use lib.ListN.{replicate};
 ghost use lib.Dec.{ltb, eqb};
 ghost use Rattle.solver.specs.Spans.{span, cut, shift-back, shift-on};
 ghost use Rattle.solver.specs.Jump.{min-if, max-if};
-ghost use Rattle.solver.specs.Scan.{Ends-ask, Ends-are, Strip-asks, Strip-done, Counts-ask, Sums-are, Leasts-are, jump-if, Total-asks, Scanning, Scan-asks, Scan-is};
+ghost use Rattle.solver.specs.Scan.{Ends-ask, Ends-are, Strip-asks, Strip-done, Counts-ask, sums, Sums-are, Leasts-are, jump-if, Total-asks, Scanning, Scan-asks, Scan-is};
 ghost use Rattle.solver.specs.Solver.{first-open, start, stop, first-serving, separations, positions};
 ghost use Rattle.solver.specs.Arrays.{bias, channels-held, strips-held, separations-held, entry, spans-of, given, Serve-asks, window-of, levels, tracks, store, Separate-asks, Stack-asks, Starts-are, Next-asks, Position-asks, columns, taken, Place-asks, Placement-is};
 
@@ -389,6 +389,15 @@ fn sums_above(counts: &[usize; CHANNELS], k: usize) -> [usize; STRIPS]
         sums[i] = counts[i] + sums[i + 1];
     }
     sums
+}
+
+// The sum of all counts: no greater total is of use.
+pub fn most_total(counts: &[usize; CHANNELS], k: usize) -> usize
+    requires { ⌜ Counts-ask (now counts) k ⌝ }
+    ensures { λ r. ⌜ r ≡ sums (now (counts .entry)) 0 k ⌝ }
+{
+    let sums = sums_above(counts, k);
+    sums[0]
 }
 
 // The least open separation of each channel.
