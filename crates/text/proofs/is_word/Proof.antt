@@ -1,0 +1,57 @@
+-- is_word meets its contract: the loop keeps Matching. Assumes nothing.
+use Prim.Native.Nat.{_-_}
+use native.Mathlib.Omega.{arith}
+use Rattle.text.specs.Numbers.{Matching}
+use Rattle.text.proofs.Digits.{other-lengths, matching-starts, matching-steps, matching-refuses, matching-ends}
+use borrow.Author.Needs.{needs}
+use Rattle.text.proofs.is_word.Statement.{statement}
+use Rattle.text.proofs.is_word.Tie as tie
+
+abbrev Inv-loop : tie.InvT-loop
+Inv-loop field word i₀ i-end i = Matching field word i
+
+abbrev μ-loop : tie.MeasureT-loop
+μ-loop field word i₀ i-end i = i-end - i
+
+returns : tie.Need-returns Inv-loop μ-loop
+returns c = other-lengths (c .before .args .field .now) (c .before .args .word .now) (c .if1 .taken)
+
+loop-holds : tie.Need-loop-holds Inv-loop μ-loop
+loop-holds c = matching-starts (c .before .args .field .now) (c .before .args .word .now) (c .if1 .left)
+
+shared-slice-read-if2 : tie.Need-shared-slice-read-if2 Inv-loop μ-loop
+shared-slice-read-if2 c = search needs
+
+shared-slice-read-if2-2 : tie.Need-shared-slice-read-if2-2 Inv-loop μ-loop
+shared-slice-read-if2-2 c = omega (arith, c .before .before .before .loop .inv .long)
+
+returns-2 : tie.Need-returns-2 Inv-loop μ-loop
+returns-2 c = matching-refuses (c .before .before .before .before .before .before .args .field .now) (c .before .before .before .before .before .before .args .word .now) (c .before .before .before .before .loop .i) (c .before .before .before .before .loop .inv) (c .before .before .before .loop-test .taken) (c .if2 .taken)
+
+add-i : tie.Need-add-i Inv-loop μ-loop
+add-i c = search needs
+
+loop-less : tie.Need-loop-less Inv-loop μ-loop
+loop-less c = search needs
+
+loop-again : tie.Need-loop-again Inv-loop μ-loop
+loop-again c = matching-steps (c .before .before .before .before .before .before .args .field .now) (c .before .before .before .before .before .before .args .word .now) (c .before .before .before .before .loop .i) (c .before .before .before .before .loop .inv) (c .before .before .before .loop-test .taken) (c .if2 .left)
+
+returns-3 : tie.Need-returns-3 Inv-loop μ-loop
+returns-3 c = matching-ends (c .before .before .before .args .field .now) (c .before .before .before .args .word .now) (c .before .loop .i) (c .before .loop .inv) (c .loop-test .left)
+
+pub is-word-spec : {M : Type 1} → statement M
+is-word-spec =
+    tie.close
+    (tie.spec
+    Inv-loop
+    μ-loop
+    returns
+    loop-holds
+    shared-slice-read-if2
+    shared-slice-read-if2-2
+    returns-2
+    add-i
+    loop-less
+    loop-again
+    returns-3)
