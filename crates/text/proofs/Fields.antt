@@ -5,11 +5,12 @@ use mathlib.Core.Bool.{Bool, true, false, _&&_, not, cond}
 use mathlib.Core.List.{List, [], _∷_, _++_, append-assoc, append-nil}
 use Prim.Native.Nat.{ℕ, zero, suc, _+_, _-_, _≤_, _<_}
 use native.Mathlib.Nat.{zero-add}
+use native.Mathlib.Numerals.{add-one}
 use native.Mathlib.Omega.{arith}
 use lib.Dec.{leb, eqb}
 use lib.ListN.{length, getD, set, take, drop, length-append, length-drop}
 use lib.Seq.{take-all}
-use borrow.Author.Tests.{le-leb, lt-leb}
+use borrow.Author.Tests.{le-leb, lt-leb, eq-eqb, ne-eqb}
 use Rattle.numbers.proofs.Bools.{ands}
 use Rattle.text.specs.Text.{Line, line, fields, is-number, value, all-numbers, values, same-bytes, numbers-of, shape}
 use Rattle.text.specs.Cut.{run}
@@ -108,3 +109,81 @@ unfolding fields-from
 taking-ends xs from at n h t =
     let none : fields-from at xs ≡ [] = rw (lt-leb at (length xs) h) in
     rw (t .rest, none, append-nil (t .seen)) (t .read)
+
+pub numbers-are : (fs : List (List ℕ)) → all-numbers fs ≡ true → numbers-in fs ≡ values fs
+unfolding all-numbers numbers-in number-in values
+numbers-are [] h = refl
+numbers-are (f ∷ fs) h =
+    let first : is-number f ≡ true = search ands in
+    rw (first, numbers-are fs (search ands))
+
+values-length : (fs : List (List ℕ)) → length (values fs) ≡ length fs
+unfolding values
+values-length [] = refl
+values-length (f ∷ fs) = ap suc (values-length fs)
+
+-- A LINE whose word ends at r
+module _ (xs w : List ℕ) (r : ℕ) (n : Numbers) (e : r ≡ run 9 xs) (m : Numbers-read (fields-from (r + 1) xs) n) where
+  first-field : getD (fields xs) 0 [] ≡ take r xs
+  first-field = rw (fields-cut xs, e)
+
+  other-fields : drop 1 (fields xs) ≡ fields-from (r + 1) xs
+  other-fields = rw (fields-cut xs, e, add-one (run 9 xs))
+
+  line-reads : (b v : Bool) → v ≡ worded (line xs b) w → Line-read (line xs b) w (record { good = v; count = n .count; values = n .values })
+  unfolding line numbers-of
+  line-reads b v g = record {
+    good = g;
+    count = m .count ∙ sym (rw other-fields (values-length (fields-from (r + 1) xs)));
+    values = m .values ∙ rw other-fields;
+  }
+
+  pub line-unended : (b : Bool) → b ≡ false → Line-read (line xs b) w (record { good = false; count = n .count; values = n .values })
+  unfolding worded line
+  line-unended b h = line-reads b false (rw h)
+
+  pub line-other-word : (b s : Bool) → b ≡ true → s ≡ same-bytes (take r xs) w → s ≡ false →
+      Line-read (line xs b) w (record { good = false; count = n .count; values = n .values })
+  unfolding worded line
+  line-other-word b s h q d = line-reads b false (rw (h, first-field, sym q ∙ d))
+
+  pub line-worded : (b s : Bool) → b ≡ true → s ≡ same-bytes (take r xs) w → s ≡ true → Line-read (line xs b) w n
+  unfolding worded line
+  line-worded b s h q d = line-reads b (n .good) (rw (h, first-field, sym q ∙ d, other-fields) (m .good))
+
+regroup : (a b c d : Bool) → (a && (b && (c && d))) ≡ ((a && (b && c)) && d)
+regroup true true c d = refl
+regroup true false c d = refl
+regroup false b c d = refl
+
+-- the layout is the word, the numbers and their count
+pub shape-by : (l : Line) (w : List ℕ) (f : ℕ → Bool) → shape l w f ≡ (worded l w && f (length (numbers-of l)))
+unfolding shape worded numbers-of
+shape-by l w f =
+    let fs = fields (l .bytes) in
+    rw (values-length (drop 1 fs), length-drop 1 fs) (regroup (l .ended) (same-bytes (getD fs 0 []) w) (all-numbers (drop 1 fs)) (f (length fs - 1)))
+
+-- A LINE of a word and one number
+module _ (l : Line) (w : List ℕ) (n : Numbers) (m : Line-read l w n) where
+  pub single-ill : n .good ≡ false → Single-read l w (record { good = false; value = 0 })
+  single-ill h =
+      let ill : single l w ≡ false = shape-by l w (λ n. eqb n 1) ∙ rw (sym (m .good) ∙ h) in
+      record { good = sym ill; value = rw ill }
+
+  pub single-more : n .good ≡ true → (n .count ≡ 1 → ⊥) → Single-read l w (record { good = false; value = 0 })
+  single-more h d =
+      let other : length (numbers-of l) ≡ 1 → ⊥ = λ o. d (m .count ∙ o) in
+      let ill : single l w ≡ false = shape-by l w (λ n. eqb n 1) ∙ rw (sym (m .good) ∙ h, ne-eqb (length (numbers-of l)) 1 other) in
+      record { good = sym ill; value = rw ill }
+
+  pub single-one : n .good ≡ true → n .count ≡ 1 → Single-read l w (record { good = true; value = getD (n .values) 0 0 })
+  unfolding worded numbers-of
+  single-one h c =
+      let worded-there : worded l w ≡ true = sym (m .good) ∙ h in
+      let good : single l w ≡ true = shape-by l w (λ n. eqb n 1) ∙ rw (worded-there, eq-eqb (length (numbers-of l)) 1 (sym (m .count) ∙ c)) in
+      let fs = drop 1 (fields (l .bytes)) in
+      let numbers : all-numbers fs ≡ true = search ands in
+      record {
+        good = sym good;
+        value = rw (good, m .values, getD-in-places 64 0 (numbers-in fs) (omega arith), numbers-are fs numbers);
+      }
