@@ -2,3 +2,4 @@
 pub mod Cutting
 pub mod Digits
 pub mod Fields
+pub mod Singles

@@ -3,3 +3,4 @@ pub mod Text
 pub mod Outcome
 pub mod Cut
 pub mod Numbers
+pub mod Kinds

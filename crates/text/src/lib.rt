@@ -4,7 +4,7 @@ ghost use mathlib.Core.List.{[]};
 ghost use Prim.Native.Nat.{suc, _^_, _≤_, _<_};
 ghost use lib.ListN.{length, set};
 ghost use Rattle.text.specs.Text.{line, is-digit, same-bytes};
-ghost use Rattle.text.specs.Outcome.{number-of, is-accepted, refused};
+ghost use Rattle.text.specs.Outcome.{number-of, refusal-of, is-accepted, refused};
 ghost use Rattle.text.specs.Cut.{run};
 ghost use Rattle.text.specs.Numbers.{
   sized,
@@ -16,6 +16,7 @@ ghost use Rattle.text.specs.Numbers.{
   Line-read,
   Single-read,
 };
+ghost use Rattle.text.specs.Kinds.{Head-read, Part-read, place, found-refusal, Nets-read};
 use stack::Columns;
 use stack::Stack;
 use stack::StackFound;
@@ -286,5 +287,118 @@ fn read_single(bytes: &[u8], ended: bool, word: &[u8]) -> FieldRead
     FieldRead {
         good: true,
         value: values[0],
+    }
+}
+
+// STACK: k channels without pairs, or why not.
+fn read_head(bytes: &[u8], ended: bool) -> Reading
+    ensures { λ r. ⌜ Head-read (line (now (bytes .entry)) ended) r ⌝ }
+{
+    let number = read_single(bytes, ended, b"STACK");
+    let k = number.value as usize;
+    let made = Stack::new(k);
+    let found = made.found;
+    let stack = made.stack;
+    if !number.good {
+        let outcome = Outcome::refused(Refusal::Layout, 1, 0);
+        return Reading { outcome, stack };
+    }
+    match found {
+        StackFound::Sized => Reading {
+            outcome: Outcome::Accepted,
+            stack,
+        },
+        StackFound::Oversized => {
+            let outcome = Outcome::refused(Refusal::Crowd, 1, 2);
+            Reading { outcome, stack }
+        }
+    }
+}
+
+// What a PART line is found to be, and its strip; on a refusal the shortest.
+struct PartRead {
+    outcome: Outcome,
+    strip: Strip,
+}
+
+// PART behind i other lines: its strip, or why not.
+fn read_part(bytes: &[u8], ended: bool, i: u32) -> PartRead
+    requires { ⌜ i < 100 ⌝ }
+    ensures { λ r. ⌜ Part-read i (line (now (bytes .entry)) ended) r ⌝ }
+{
+    let number = read_single(bytes, ended, b"PART");
+    let shortest = Strip {
+        length: Columns(Strip::MIN_LENGTH),
+    };
+    if !number.good {
+        let outcome = Outcome::refused(Refusal::Layout, i + 1, 0);
+        return PartRead {
+            outcome,
+            strip: shortest,
+        };
+    }
+    match Strip::new(number.value) {
+        StripMade::Made(strip) => PartRead {
+            outcome: Outcome::Accepted,
+            strip,
+        },
+        StripMade::Length => {
+            let outcome = Outcome::refused(Refusal::Length, i + 1, 2);
+            PartRead {
+                outcome,
+                strip: shortest,
+            }
+        }
+    }
+}
+
+// What a NETS line is found to be, and its channel's terminals; on a refusal none.
+struct NetsRead {
+    outcome: Outcome,
+    terminals: Terminals,
+}
+
+// The refusal for a fault of terminals on a line behind i others: place n in p(0), q(0), p(1), q(1) and so on is field n + 2.
+fn found_outcome(found: TerminalsFound, i: u32) -> Outcome
+    requires { ⌜ (place found < 64) × (i < 100) ⌝ }
+    ensures { λ r. ⌜ refusal-of r ≡ found-refusal i found ⌝ }
+{
+    match found {
+        TerminalsFound::Good => Outcome::Accepted,
+        TerminalsFound::Crowd => Outcome::refused(Refusal::Crowd, i + 1, 66),
+        TerminalsFound::Overhang(n) => Outcome::refused(Refusal::Overhang, i + 1, n as u32 + 2),
+        TerminalsFound::Crossing(n) => Outcome::refused(Refusal::Crossing, i + 1, n as u32 + 2),
+    }
+}
+
+// NETS behind i other lines, between two strips: the channel's terminals, or why not.
+fn read_nets(bytes: &[u8], ended: bool, i: u32, lower: Strip, upper: Strip) -> NetsRead
+    requires { ⌜ i < 100 ⌝ }
+    ensures { λ r. ⌜ Nets-read (lower .length .0) (upper .length .0) i (line (now (bytes .entry)) ended) r ⌝ }
+{
+    let numbers = read_line(bytes, ended, b"NETS");
+    let none = Terminals::none();
+    let count = numbers.count;
+    if !numbers.good {
+        let outcome = Outcome::refused(Refusal::Layout, i + 1, 0);
+        return NetsRead {
+            outcome,
+            terminals: none,
+        };
+    }
+    if count % 2 != 0 {
+        let outcome = Outcome::refused(Refusal::Layout, i + 1, 0);
+        return NetsRead {
+            outcome,
+            terminals: none,
+        };
+    }
+    let values = numbers.values;
+    let made = Terminals::new(&values, count / 2, lower, upper);
+    let found = made.found;
+    let outcome = found_outcome(found, i);
+    NetsRead {
+        outcome,
+        terminals: made.terminals,
     }
 }
