@@ -3,3 +3,4 @@ pub mod Cutting
 pub mod Digits
 pub mod Fields
 pub mod Singles
+pub mod Nets

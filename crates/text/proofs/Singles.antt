@@ -25,7 +25,7 @@ use Rattle.text.specs.declared.Outcome.the-variants.{Accepted}
 use Rattle.text.specs.declared.PartRead.{PartRead}
 
 -- a refusal is not nothing
-not-fine : (n l f : ℕ) (r : Refusal) → r ≡ refusal (suc n) l f → r .number ≡ 0 → ⊥
+pub not-fine : (n l f : ℕ) (r : Refusal) → r ≡ refusal (suc n) l f → r .number ≡ 0 → ⊥
 unfolding refusal
 not-fine n l f r e z =
     let s : r .number ≡ suc n = ap (λ (x : Refusal). x .number) e in

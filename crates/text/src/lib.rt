@@ -396,9 +396,7 @@ fn read_nets(bytes: &[u8], ended: bool, i: u32, lower: Strip, upper: Strip) -> N
     let values = numbers.values;
     let made = Terminals::new(&values, count / 2, lower, upper);
     let found = made.found;
+    let terminals = made.terminals;
     let outcome = found_outcome(found, i);
-    NetsRead {
-        outcome,
-        terminals: made.terminals,
-    }
+    NetsRead { outcome, terminals }
 }
