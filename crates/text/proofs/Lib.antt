@@ -4,3 +4,4 @@ pub mod Digits
 pub mod Fields
 pub mod Singles
 pub mod Nets
+pub mod Within

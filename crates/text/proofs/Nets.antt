@@ -147,7 +147,7 @@ faults-refused i c lo hi (x ∷ y ∷ vs) h =
     rw (pair-tests c lo hi x y (omega arith)) (step-cases i n (ltb lo x) left (ltb hi y) right (pairs-found d lo hi (pairs-of vs)) _ rest)
 
 -- THE PAIRS of a line's numbers
-pairs-length : (vs : List ℕ) → length (pairs-of vs) ≡ length vs / 2
+pub pairs-length : (vs : List ℕ) → length (pairs-of vs) ≡ length vs / 2
 unfolding pairs-of
 pairs-length [] = refl
 pairs-length (x ∷ []) = refl

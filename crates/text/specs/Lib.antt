@@ -4,3 +4,4 @@ pub mod Outcome
 pub mod Cut
 pub mod Numbers
 pub mod Kinds
+pub mod Driver

@@ -3,7 +3,9 @@ ghost use mathlib.Core.Path.{_≡_};
 ghost use mathlib.Core.List.{[]};
 ghost use Prim.Native.Nat.{suc, _^_, _≤_, _<_};
 ghost use lib.ListN.{length, set};
-ghost use Rattle.text.specs.Text.{line, is-digit, same-bytes};
+ghost use Rattle.stack.specs.Value.{stack-of};
+ghost use Rattle.stack.specs.Made.{bare};
+ghost use Rattle.text.specs.Text.{line, lines, k-of, is-digit, same-bytes};
 ghost use Rattle.text.specs.Outcome.{number-of, refusal-of, is-accepted, refused};
 ghost use Rattle.text.specs.Cut.{run};
 ghost use Rattle.text.specs.Numbers.{
@@ -17,6 +19,17 @@ ghost use Rattle.text.specs.Numbers.{
   Single-read,
 };
 ghost use Rattle.text.specs.Kinds.{Head-read, Part-read, place, found-refusal, Nets-read};
+ghost use Rattle.text.specs.Driver.{
+  Line-from,
+  Head-taken,
+  Part-taken,
+  Parts-due,
+  Parts-taken,
+  Nets-taken,
+  Nets-due,
+  All-nets-taken,
+  Stack-read,
+};
 use stack::Columns;
 use stack::Stack;
 use stack::StackFound;
@@ -399,4 +412,168 @@ fn read_nets(bytes: &[u8], ended: bool, i: u32, lower: Strip, upper: Strip) -> N
     let terminals = made.terminals;
     let outcome = found_outcome(found, i);
     NetsRead { outcome, terminals }
+}
+
+// Where a line ends, and whether by a line feed.
+struct LineEnd {
+    end: usize,
+    ended: bool,
+}
+
+// The end of the line that begins at a place.
+fn line_end(text: &[u8], at: usize) -> LineEnd
+    requires { ⌜ at ≤ length (now text) ⌝ }
+    ensures { λ r. ⌜ Line-from (now (text .entry)) at r ⌝ }
+{
+    let end = at + run(&text[at..], LINE_FEED);
+    LineEnd {
+        end,
+        ended: end < text.len(),
+    }
+}
+
+// How far a text has been read: what was found, where the next line begins, and the stack so far.
+struct Progress {
+    outcome: Outcome,
+    at: usize,
+    stack: Stack,
+}
+
+// The first line.
+fn take_head(text: &[u8]) -> Progress
+    ensures { λ r. ⌜ Head-taken (now (text .entry)) r ⌝ }
+{
+    let line = line_end(text, 0);
+    let end = line.end;
+    let head = read_head(&text[0..end], line.ended);
+    let outcome = head.outcome;
+    let stack = head.stack;
+    Progress {
+        outcome,
+        at: end + 1,
+        stack,
+    }
+}
+
+// The PART line of strip i.
+fn take_part(text: &[u8], p: Progress, i: usize) -> Progress
+    requires { ⌜ (p .at ≤ length (now text)) × (i ≤ p .stack .count) × (p .stack .count ≤ 8) ⌝ }
+    ensures { λ r. ⌜ Part-taken (now (text .entry)) p i r ⌝ }
+{
+    let at = p.at;
+    let line = line_end(text, at);
+    let end = line.end;
+    let part = read_part(&text[at..end], line.ended, i as u32 + 1);
+    let outcome = part.outcome;
+    let strip = part.strip;
+    let old = p.stack;
+    let stack = old.with_strip(i, strip);
+    Progress {
+        outcome,
+        at: end + 1,
+        stack,
+    }
+}
+
+// All PART lines.
+fn take_parts(text: &[u8], head: Progress) -> Progress
+    requires { ⌜ Parts-due (now text) head ⌝ }
+    ensures { λ r. ⌜ Parts-taken (now (text .entry)) (k-of (lines (now (text .entry)))) r ⌝ }
+{
+    let mut p = head;
+    let strips = head.stack.count + 1;
+    for i in 0..strips {
+        p = take_part(text, p, i);
+        let outcome = p.outcome;
+        if !outcome.is_accepted() {
+            return p;
+        }
+    }
+    p
+}
+
+// The NETS line of the channel between strips c and c + 1.
+fn take_nets(text: &[u8], p: Progress, c: usize) -> Progress
+    requires { ⌜ (p .at ≤ length (now text)) × (c < p .stack .count) × (p .stack .count ≤ 8) ⌝ }
+    ensures { λ r. ⌜ Nets-taken (now (text .entry)) p c r ⌝ }
+{
+    let at = p.at;
+    let line = line_end(text, at);
+    let end = line.end;
+    let old = p.stack;
+    let i = old.count + 2 + c;
+    let lower = old.strips[c];
+    let upper = old.strips[c + 1];
+    let nets = read_nets(&text[at..end], line.ended, i as u32, lower, upper);
+    let outcome = nets.outcome;
+    let terminals = nets.terminals;
+    let stack = old.with_channel(c, terminals);
+    Progress {
+        outcome,
+        at: end + 1,
+        stack,
+    }
+}
+
+// All NETS lines.
+fn take_all_nets(text: &[u8], parts: Progress) -> Progress
+    requires { ⌜ Nets-due (now text) parts ⌝ }
+    ensures { λ r. ⌜ All-nets-taken (now (text .entry)) (k-of (lines (now (text .entry)))) r ⌝ }
+{
+    let mut p = parts;
+    let channels = parts.stack.count;
+    for c in 0..channels {
+        p = take_nets(text, p, c);
+        let outcome = p.outcome;
+        if !outcome.is_accepted() {
+            return p;
+        }
+    }
+    p
+}
+
+impl Reading {
+    pub const MAX_BYTES: usize = 8192;
+
+    // A refused text, with a stack of one channel without pairs.
+    fn refused(outcome: Outcome) -> Reading
+        ensures { λ r. ⌜ (r .outcome ≡ outcome) × (stack-of (r .stack) ≡ bare 1) ⌝ }
+    {
+        let made = Stack::new(Stack::MIN_CHANNELS);
+        let stack = made.stack;
+        Reading { outcome, stack }
+    }
+}
+
+// Document 01, "Lines and tabs" and "Sent back at the counter": the stack in a text, or the first refusal of 1 to 6 that applies.
+pub fn read_stack(text: &[u8]) -> Reading
+    ensures { λ r. ⌜ Stack-read (now (text .entry)) r ⌝ }
+{
+    if Reading::MAX_BYTES < text.len() {
+        return Reading::refused(Outcome::refused(Refusal::Overlong, 0, 0));
+    }
+    let head = take_head(text);
+    let head_outcome = head.outcome;
+    if !head_outcome.is_accepted() {
+        return Reading::refused(head_outcome);
+    }
+    let parts = take_parts(text, head);
+    let parts_outcome = parts.outcome;
+    if !parts_outcome.is_accepted() {
+        return Reading::refused(parts_outcome);
+    }
+    let nets = take_all_nets(text, parts);
+    let nets_outcome = nets.outcome;
+    if !nets_outcome.is_accepted() {
+        return Reading::refused(nets_outcome);
+    }
+    let stack = nets.stack;
+    if nets.at < text.len() {
+        let extra = 2 * stack.count as u32 + 3;
+        return Reading::refused(Outcome::refused(Refusal::Layout, extra, 0));
+    }
+    Reading {
+        outcome: Outcome::Accepted,
+        stack,
+    }
 }
