@@ -5,3 +5,6 @@ pub mod Fields
 pub mod Singles
 pub mod Nets
 pub mod Within
+pub mod Places
+pub mod Stages
+pub mod Whole

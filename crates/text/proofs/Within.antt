@@ -97,9 +97,10 @@ module _ (lo hi n : ℕ) where
   rises-fine f u v (x ∷ []) h = (refl, refl)
   rises-fine f u v (x ∷ y ∷ vs) h =
       let s = pair-says f false u v x y vs h in
-      let r = rises-fine (f + 2) x y vs (s .rest) in
-      (rw (le-leb x lo (s .p-on), le-leb y hi (s .q-on)) (r .0),
-       rw (lt-ltb u x (leb-false x u (s .p-above)), lt-ltb v y (leb-false y v (s .q-above))) (r .1))
+      let r = rises-fine (f + 2) x y vs (s .rest) in (
+        rw (le-leb x lo (s .p-on), le-leb y hi (s .q-on)) (r .0),
+        rw (lt-ltb u x (leb-false x u (s .p-above)), lt-ltb v y (leb-false y v (s .q-above))) (r .1),
+      )
 
   terminals-fine : (f u v : ℕ) (vs : List ℕ) → terminals-refusal f true u v lo hi n vs .number ≡ 0 →
       (on-strips lo hi (pairs-of vs) ≡ true) × (rising (pairs-of vs) ≡ true)

@@ -1,51 +1,47 @@
+-- take_parts meets its contract: the loop keeps Parting. Assumes nothing.
+use mathlib.Core.Path.{sym, _∙_}
+use Prim.Native.Nat.{_-_}
+use native.Mathlib.Omega.{arith}
+use borrow.Author.Tests.{not-true, not-false}
+use Rattle.text.specs.Text.{lines, k-of}
+use Rattle.text.specs.Driver.{Parting}
+use Rattle.text.proofs.Stages.{parting-starts, parting-steps, parting-refuses, parting-ends}
+use borrow.Author.Needs.{needs}
 use Rattle.text.proofs.take_parts.Statement.{statement}
 use Rattle.text.proofs.take_parts.Tie as tie
-use Rattle.text.proofs.take_parts.Reads as reads
-use Rattle.text.proofs.take_parts.Lts as lts
-use Rattle.text.proofs.Outcome.is_accepted.Reads as is-accepted-reads
-use Rattle.text.proofs.take_part.Reads as take-part-reads
 
 abbrev Inv-loop : tie.InvT-loop
-Inv-loop text p₀ strips i₀ p i = Parting text (Rattle.text.specs.Text.k-of (Rattle.text.specs.Text.lines text)) i p
+Inv-loop text p₀ strips i₀ p i = Parting text (k-of (lines text)) i p
 
 abbrev μ-loop : tie.MeasureT-loop
 μ-loop text p₀ strips i₀ p i = strips - i
 
--- src/lib.rt:484:18
 add-strips : tie.Need-add-strips Inv-loop μ-loop
-add-strips c = ?
+add-strips c = omega (arith, c .before .before .pre .few, c .before .before .pre .going .count)
 
--- src/lib.rt:485:5
 loop-holds : tie.Need-loop-holds Inv-loop μ-loop
-loop-holds c = ?
+loop-holds c = parting-starts (c .before .before .args .text .now) (c .before .before .args .head) (c .before .before .pre)
 
--- src/lib.rt:486:9
 take-part-requires : tie.Need-take-part-requires Inv-loop μ-loop
-take-part-requires c κs = ?
+take-part-requires c κs = omega (arith, c .before .loop .inv .going .within, c .before .loop .inv .going .count, c .loop-test .taken, c .before .before .before .before .pre .few, c .before .before .before .before .pre .going .count)
 
--- src/lib.rt:488:13
 is-accepted-requires : tie.Need-is-accepted-requires Inv-loop μ-loop
-is-accepted-requires c κs = ?
+is-accepted-requires c κs = search needs
 
--- src/lib.rt:489:13
 returns : tie.Need-returns Inv-loop μ-loop
-returns c = ?
+returns c = parting-refuses (c .before .before .before .before .before .before .before .args .text .now) (k-of (lines (c .before .before .before .before .before .before .before .args .text .now))) (c .before .before .before .before .loop .i) (c .before .before .before .before .loop .p) (c .before .before .take-part .result) (omega (arith, c .before .before .before .loop-test .taken, c .before .before .before .before .before .before .before .pre .going .count)) (c .before .before .before .before .loop .inv) (c .before .before .take-part .ensures) (sym (c .before .is-accepted .ensures) ∙ not-true _ (c .if1 .taken))
 
--- src/lib.rt:485:9
 add-i : tie.Need-add-i Inv-loop μ-loop
-add-i c = ?
+add-i c = search needs
 
--- src/lib.rt:485:5
 loop-less : tie.Need-loop-less Inv-loop μ-loop
-loop-less c = ?
+loop-less c = search needs
 
--- src/lib.rt:485:5
 loop-again : tie.Need-loop-again Inv-loop μ-loop
-loop-again c = ?
+loop-again c = parting-steps (c .before .before .before .before .before .before .before .args .text .now) (k-of (lines (c .before .before .before .before .before .before .before .args .text .now))) (c .before .before .before .before .loop .i) (c .before .before .before .before .loop .p) (c .before .before .take-part .result) (omega (arith, c .before .before .before .loop-test .taken, c .before .before .before .before .before .before .before .pre .going .count)) (c .before .before .before .before .loop .inv) (c .before .before .take-part .ensures) (sym (c .before .is-accepted .ensures) ∙ not-false _ (c .if1 .left))
 
--- src/lib.rt:479:1
 returns-2 : tie.Need-returns-2 Inv-loop μ-loop
-returns-2 c = ?
+returns-2 c = parting-ends (c .before .before .before .before .args .text .now) (k-of (lines (c .before .before .before .before .args .text .now))) (c .before .loop .i) (c .before .loop .p) (omega (arith, c .loop-test .left, c .before .before .before .before .pre .going .count)) (c .before .loop .inv)
 
 pub take-parts-spec : {M : Type 1} → statement M
 take-parts-spec =
