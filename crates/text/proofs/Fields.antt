@@ -1,21 +1,20 @@
 -- The numbers of a line: the numbers kept grow with each field, and the loop over the fields has its start, step and end; then a line that begins with a word.
 -- By the law that the first field goes up to the first tab. Assumes nothing.
 use mathlib.Core.Path.{_≡_, refl, ap, sym, _∙_}
-use mathlib.Core.Bool.{Bool, true, false, _&&_, not, cond}
+use mathlib.Core.Bool.{Bool, true, false, _&&_}
 use mathlib.Core.List.{List, [], _∷_, _++_, append-assoc, append-nil}
 use Prim.Native.Nat.{ℕ, zero, suc, _+_, _-_, _≤_, _<_}
 use native.Mathlib.Nat.{zero-add}
 use native.Mathlib.Numerals.{add-one}
 use native.Mathlib.Omega.{arith}
-use lib.Dec.{leb, eqb}
+use lib.Dec.{eqb}
 use lib.ListN.{length, getD, set, take, drop, length-append, length-drop}
 use lib.Seq.{take-all}
 use borrow.Author.Tests.{le-leb, lt-leb, eq-eqb, ne-eqb}
 use Rattle.numbers.proofs.Bools.{ands}
 use Rattle.text.specs.Text.{Line, line, fields, is-number, value, all-numbers, values, same-bytes, numbers-of, shape}
 use Rattle.text.specs.Cut.{run}
-use Rattle.text.specs.Numbers.{number-in, numbers-in, Field-read, in-places, Numbers-read, Field-added, fields-from, Taking, worded, Line-read, single, Single-read}
-use Rattle.text.specs.declared.FieldRead.{FieldRead}
+use Rattle.text.specs.Numbers.{number-in, numbers-in, in-places, Numbers-read, Field-added, fields-from, Taking, worded, Line-read, single, Single-read}
 use Rattle.text.specs.declared.Numbers.{Numbers}
 use Rattle.text.proofs.Cutting.{run-below, fields-cut, fields-behind}
 use Rattle.text.proofs.Digits.{and-yes}

@@ -1,6 +1,6 @@
 -- NETS: the first fault that the constructor of terminals finds is document 01's refusal of the line, place n in p(0), q(0), p(1), q(1), .. being field n + 2.
 -- By induction on the pairs, with the pairs before them as the constructor keeps them. Assumes nothing.
-use mathlib.Core.Path.{_≡_, refl, ap, ap₂, sym, _∙_}
+use mathlib.Core.Path.{_≡_, refl, ap, sym, _∙_}
 use mathlib.Core.Bool.{Bool, true, false, _&&_, not, cond}
 use mathlib.Core.List.{List, [], _∷_, _++_}
 use Prim.Native.Nat.{ℕ, zero, suc, _+_, _*_, _-_, _/_, _%_, _≤_, _<_}
@@ -10,7 +10,6 @@ use lib.Dec.{ltb, leb, eqb}
 use lib.ListN.{length, getD, drop, length-append}
 use lib.Seq.{ext-getD, getD-append-seam}
 use borrow.Author.Tests.{leb-false, lt-ltb, le-ltb, ltb-true, ltb-false, le-leb, lt-leb, eq-eqb, ne-eqb}
-use Rattle.numbers.specs.Lists.{tabulate}
 use Rattle.numbers.proofs.Bools.{ands}
 use Rattle.numbers.proofs.Lists.{getD-tabulate}
 use Rattle.stack.specs.Stack.{Pair, pair, p-at, q-at}
@@ -23,11 +22,10 @@ use Rattle.stack.specs.declared.TerminalsFound.the-variants.{Good, Crowd, Overh
 use Rattle.stack.specs.declared.TerminalsMade.{TerminalsMade}
 use Rattle.text.specs.Text.{Refusal, refusal, fine, Line, fields, all-numbers, values, nets-word, numbers-of, shape, terminals-refusal, pairs-of}
 use Rattle.text.specs.Outcome.{refusal-of, refused}
-use Rattle.text.specs.Numbers.{numbers-in, in-places, worded, Line-read}
+use Rattle.text.specs.Numbers.{in-places, worded, Line-read}
 use Rattle.text.specs.Kinds.{place, found-refusal, channel-refusal, Nets-read}
 use Rattle.text.specs.declared.Refusal.the-variants as why
 use Rattle.text.specs.declared.Numbers.{Numbers}
-use Rattle.text.specs.declared.NetsRead.{NetsRead}
 use Rattle.text.specs.declared.Outcome.{Outcome}
 use Rattle.text.proofs.Fields.{getD-in-places, numbers-are, shape-by}
 use Rattle.text.proofs.Singles.{not-fine}

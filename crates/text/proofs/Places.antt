@@ -1,7 +1,7 @@
 -- The line that begins at a place, and the place of the next: by the laws that the first line goes up to the first line feed and the other lines are those behind
 -- it. Then what reading the first line, or one line of a kind, adds to what has been read. Assumes nothing.
 use mathlib.Core.Path.{_≡_, refl, ap, sym, _∙_}
-use mathlib.Core.Bool.{Bool, true, false, _&&_}
+use mathlib.Core.Bool.{Bool, true, false}
 use mathlib.Core.List.{List, [], _∷_}
 use Prim.Native.Nat.{ℕ, suc, _+_, _-_, _%_, _≤_, _<_}
 use native.Mathlib.Numerals.{add-one}
@@ -16,11 +16,11 @@ use Rattle.stack.specs.Stack.{stack}
 use Rattle.stack.specs.Value.{strip, channel-of, length-at, stack-of}
 use Rattle.stack.specs.Made.{bare, Strip-set, Channel-set}
 use Rattle.stack.specs.declared.Stack.{Stack as Stack-struct}
-use Rattle.text.specs.Text.{Refusal, refusal, fine, Line, line, lines, line-at, shape, nets-word, numbers-of, head-refusal, k-of, part-refusal, pairs-of}
+use Rattle.text.specs.Text.{refusal, fine, Line, line, lines, line-at, shape, nets-word, head-refusal, k-of}
 use Rattle.text.specs.Outcome.{number-of, refusal-of, is-accepted}
 use Rattle.text.specs.Cut.{run}
 use Rattle.text.specs.Kinds.{Head-read, Part-read, channel-refusal, Nets-read}
-use Rattle.text.specs.Driver.{Line-from, line-from, Next, Going, Head-taken, Part-taken, Nets-taken}
+use Rattle.text.specs.Driver.{Line-from, line-from, Next, Head-taken, Part-taken, Nets-taken}
 use Rattle.text.specs.declared.Refusal.{Refusal as Why}
 use Rattle.text.specs.declared.Refusal.the-variants.{Overlong, Layout, Crowd, Length, Overhang, Crossing, Narrow, ShortSpace}
 use Rattle.text.specs.declared.Outcome.{Outcome}

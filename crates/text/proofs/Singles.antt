@@ -1,6 +1,6 @@
 -- STACK and PART: what the readers answer is what document 01 says of the line, case by case of the tests that the code makes. Assumes nothing.
 use mathlib.Core.Path.{_≡_, refl, ap, sym, _∙_}
-use mathlib.Core.Bool.{Bool, true, false, _&&_, not, cond}
+use mathlib.Core.Bool.{Bool, true, false, _&&_, cond}
 use mathlib.Core.List.{[], _∷_}
 use Prim.Native.Nat.{ℕ, suc, _+_}
 use native.Mathlib.Numerals.{add-one}
@@ -10,19 +10,17 @@ use lib.ListN.{getD}
 use Rattle.stack.specs.Value.{strip}
 use Rattle.stack.specs.Made.{strip-made, stack-found, channels-made, Stack-made}
 use Rattle.stack.specs.declared.Strip.{Strip}
-use Rattle.stack.specs.declared.StripMade.{StripMade}
 use Rattle.stack.specs.declared.StripMade.the-variants.{Made, Length}
 use Rattle.stack.specs.declared.StackFound.the-variants.{Sized, Oversized}
 use Rattle.stack.specs.declared.StackMade.{StackMade}
-use Rattle.text.specs.Text.{Refusal, refusal, fine, Line, line-at, stack-word, part-word, numbers-of, head-refusal, k-of, part-refusal}
-use Rattle.text.specs.Outcome.{refusal-of, refused}
-use Rattle.text.specs.Numbers.{single, Single-read}
+use Rattle.text.specs.Text.{Refusal, refusal, Line, line-at, stack-word, part-word, numbers-of, head-refusal, k-of, part-refusal}
+use Rattle.text.specs.Outcome.{refused}
+use Rattle.text.specs.Numbers.{Single-read}
 use Rattle.text.specs.Kinds.{Head-read, Part-read}
 use Rattle.text.specs.declared.Refusal.the-variants as why
 use Rattle.text.specs.declared.FieldRead.{FieldRead}
 use Rattle.text.specs.declared.Outcome.{Outcome}
 use Rattle.text.specs.declared.Outcome.the-variants.{Accepted}
-use Rattle.text.specs.declared.PartRead.{PartRead}
 
 -- a refusal is not nothing
 pub not-fine : (n l f : ℕ) (r : Refusal) → r ≡ refusal (suc n) l f → r .number ≡ 0 → ⊥

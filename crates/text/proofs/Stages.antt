@@ -1,26 +1,24 @@
 -- The loops over the PART lines and over the NETS lines: start, step, refusal and end. What is refused of all the lines is what is refused from the present line on.
 -- Assumes nothing.
-use mathlib.Core.Path.{_≡_, refl, ap, ap₂, sym, _∙_}
-use mathlib.Core.Bool.{Bool, true, false, cond}
+use mathlib.Core.Path.{_≡_, refl, ap, sym, _∙_}
+use mathlib.Core.Bool.{true, false}
 use mathlib.Core.List.{List, [], _∷_, append-nil}
 use Prim.Native.Nat.{ℕ, zero, suc, _+_, _-_, _≤_, _<_}
 use native.Mathlib.Nat.{add-zero, sub-zero}
 use native.Mathlib.Numerals.{add-one}
 use native.Mathlib.Omega.{arith}
-use lib.Dec.{eqb}
-use lib.ListN.{length, getD, set, drop, replicate}
+use lib.ListN.{getD, drop, replicate}
 use lib.Seq.{getD-drop, drop-drop}
-use borrow.Author.Tests.{eq-eqb, ne-eqb}
+use borrow.Author.Tests.{ne-eqb}
 use Rattle.numbers.specs.Lists.{tabulate, filled}
 use Rattle.numbers.proofs.Lists.{getD-tabulate, filled-starts, filled-steps}
-use Rattle.stack.specs.Stack.{Pair, Stack, stack}
+use Rattle.stack.specs.Stack.{stack}
 use Rattle.stack.specs.Value.{stack-of}
-use Rattle.stack.specs.Made.{bare, Strip-set, Channel-set}
-use Rattle.text.specs.Text.{Refusal, refusal, fine, or-else, Line, lines, no-line, line-at, numbers-of, k-of, part-refusal, parts-refusal, length-at, nets-refusal, all-nets-refusal, strips-in, pairs-of, channels-in}
+use Rattle.stack.specs.Made.{bare}
+use Rattle.text.specs.Text.{Refusal, refusal, fine, or-else, Line, lines, no-line, line-at, numbers-of, k-of, parts-refusal, length-at, nets-refusal, all-nets-refusal, strips-in, pairs-of, channels-in}
 use Rattle.text.specs.Outcome.{refusal-of, is-accepted}
 use Rattle.text.specs.Kinds.{channel-refusal}
 use Rattle.text.specs.Driver.{line-from, Next, Going, Parts-due, Part-taken, strips-read, Parting, Parts-taken, Nets-due, Nets-taken, channels-read, Wiring, All-nets-taken}
-use Rattle.text.specs.declared.Outcome.{Outcome}
 use Rattle.text.specs.declared.Progress.{Progress}
 use Rattle.text.proofs.Places.{refused-number, accepted-fine}
 

@@ -1,20 +1,19 @@
 -- The reading of a whole text: each way out of it gives the first refusal that applies, and the last the stack in the text, which is within the limits.
 -- Assumes nothing.
-use mathlib.Core.Path.{_≡_, refl, ap, sym, _∙_}
-use mathlib.Core.Bool.{Bool, true, false, cond}
+use mathlib.Core.Path.{_≡_, refl, sym, _∙_}
+use mathlib.Core.Bool.{true, false, cond}
 use mathlib.Core.List.{List, []}
 use Prim.Native.Nat.{ℕ, suc, _+_, _*_, _-_, _≤_, _<_}
 use native.Mathlib.Omega.{arith}
-use lib.Dec.{ltb, leb}
+use lib.Dec.{ltb}
 use lib.ListN.{length, drop, length-drop, drop-of-length-le}
 use borrow.Author.Tests.{leb-true, lt-ltb, le-ltb}
-use Rattle.stack.specs.Limits.{rises-above, rising, on-strips, channel-within, channels-within, strips-within, within-limits}
+use Rattle.stack.specs.Limits.{rising, on-strips, channel-within, channels-within, strips-within, within-limits}
 use Rattle.stack.specs.Stack.{stack}
 use Rattle.stack.specs.Value.{stack-of}
 use Rattle.stack.specs.Made.{bare, stack-found, channels-made, Stack-made}
-use Rattle.stack.specs.declared.Stack.{Stack as Stack-struct}
 use Rattle.stack.specs.declared.StackMade.{StackMade}
-use Rattle.text.specs.Text.{Refusal, refusal, fine, or-else, lines, head-refusal, k-of, parts-refusal, all-nets-refusal, text-refusal, strips-in, channels-in, stack-in}
+use Rattle.text.specs.Text.{refusal, fine, or-else, lines, head-refusal, k-of, parts-refusal, all-nets-refusal, text-refusal, strips-in, channels-in, stack-in}
 use Rattle.text.specs.Outcome.{refusal-of, is-accepted, refused}
 use Rattle.text.specs.Driver.{Going, Head-taken, Parts-due, Parts-taken, Nets-due, All-nets-taken, Stack-read}
 use Rattle.text.specs.declared.Refusal.the-variants as why

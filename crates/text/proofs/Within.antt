@@ -3,13 +3,13 @@
 use mathlib.Core.Path.{_≡_, refl, ap}
 use mathlib.Core.Bool.{Bool, true, false, _&&_, not, cond}
 use mathlib.Core.List.{List, [], _∷_}
-use Prim.Native.Nat.{ℕ, zero, suc, _+_, _*_, _/_, _%_, _≤_, _<_}
+use Prim.Native.Nat.{ℕ, zero, suc, _+_, _*_, _%_, _≤_}
 use native.Mathlib.Omega.{arith}
 use lib.Dec.{ltb, leb, eqb}
 use lib.ListN.{length, getD}
 use borrow.Author.Tests.{leb-false, ltb-false, eqb-true, eqb-false, le-leb, lt-ltb}
 use Rattle.numbers.proofs.Bools.{ands}
-use Rattle.stack.specs.Stack.{Pair, pair, Stack, stack}
+use Rattle.stack.specs.Stack.{pair, stack}
 use Rattle.stack.specs.Limits.{rises-above, rising, on-strips, channel-within, channels-within, strips-within, within-limits}
 use Rattle.text.specs.Text.{Refusal, refusal, fine, or-else, Line, lines, line-at, shape, stack-word, part-word, nets-word, numbers-of, head-refusal, k-of, part-refusal, parts-refusal, terminals-refusal, length-at, nets-refusal, all-nets-refusal, text-refusal, strips-in, pairs-of, channels-in, stack-in}
 use Rattle.text.proofs.Nets.{pairs-length}

@@ -1,6 +1,6 @@
 -- How far a text has been read: what holds after its first lines, and what reading the next line, or all lines of a kind, adds. Assumes nothing: these are definitions.
 use mathlib.Core.Path.{_≡_}
-use mathlib.Core.Bool.{Bool, true}
+use mathlib.Core.Bool.{true}
 use mathlib.Core.List.{List, []}
 use Prim.Native.Nat.{ℕ, suc, _+_, _-_, _≤_}
 use lib.Dec.{ltb}
@@ -10,7 +10,7 @@ use Rattle.stack.specs.Stack.{Pair, Stack, stack}
 use Rattle.stack.specs.Limits.{within-limits}
 use Rattle.stack.specs.Value.{stack-of}
 use Rattle.stack.specs.Made.{bare, Strip-set, Channel-set}
-use Rattle.text.specs.Text.{Refusal, fine, Line, line, lines, line-at, numbers-of, head-refusal, k-of, part-refusal, parts-refusal, length-at, all-nets-refusal, text-refusal, strips-in, pairs-of, channels-in, stack-in}
+use Rattle.text.specs.Text.{fine, Line, lines, line-at, numbers-of, head-refusal, k-of, part-refusal, parts-refusal, length-at, all-nets-refusal, text-refusal, strips-in, pairs-of, channels-in, stack-in}
 use Rattle.text.specs.Outcome.{refusal-of}
 use Rattle.text.specs.Cut.{run}
 use Rattle.text.specs.Kinds.{channel-refusal}

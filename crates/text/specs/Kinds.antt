@@ -2,7 +2,7 @@
 use mathlib.Core.Path.{_≡_}
 use mathlib.Core.Bool.{true, not, cond}
 use mathlib.Core.List.{[], _∷_}
-use Prim.Native.Nat.{ℕ, zero, suc, _+_, _%_}
+use Prim.Native.Nat.{ℕ, suc, _+_, _%_}
 use lib.Dec.{ltb, eqb}
 use lib.ListN.{length, getD}
 use Rattle.stack.specs.Value.{channel-of, stack-of}

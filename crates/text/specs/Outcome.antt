@@ -4,7 +4,6 @@ use Prim.Native.Nat.{ℕ}
 use Rattle.text.specs.Text.{Refusal, refusal, fine}
 use Rattle.text.specs.declared.Refusal.{Refusal as Why}
 use Rattle.text.specs.declared.Refusal.the-variants.{Overlong, Layout, Crowd, Length, Overhang, Crossing, Narrow, ShortSpace}
-use Rattle.text.specs.declared.Refused.{Refused as Refused-at}
 use Rattle.text.specs.declared.Outcome.{Outcome}
 use Rattle.text.specs.declared.Outcome.the-variants.{Accepted, Refused}
 

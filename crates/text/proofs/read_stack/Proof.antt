@@ -6,8 +6,6 @@ use Rattle.text.proofs.Whole.{overlong-read, head-refused, parts-due, p
 use borrow.Author.Needs.{needs}
 use Rattle.text.proofs.read_stack.Statement.{statement}
 use Rattle.text.proofs.read_stack.Tie as tie
-use Rattle.text.proofs.Outcome.refused.Reads as Outcome-refused-reads
-use Rattle.text.proofs.Reading.refused.Reads as Reading-refused-reads
 
 refused-requires : tie.Need-refused-requires
 refused-requires c κs = search needs
