@@ -17,7 +17,12 @@ shared-slice-read-result : tie.Need-shared-slice-read-result
 shared-slice-read-result c = search needs
 
 returns-4 : tie.Need-returns-4
-returns-4 c = some-digits (c .before .before .before .before .args .field .now) (c .before .before .before .if1 .left) (c .before .before .if2 .left) (c .before .if3 .left)
+returns-4 c =
+    let start = c .before .before .before .before in
+    let if1 = c .before .before .before .if1 in
+    let if2 = c .before .before .if2 in
+    let if3 = c .before .if3 in
+    some-digits (start .args .field .now) (if1 .left) (if2 .left) (if3 .left)
 
 pub is-sized-spec : {M : Type 1} → statement M
 is-sized-spec = tie.close (tie.spec returns returns-2 returns-3 shared-slice-read-result returns-4)

@@ -18,10 +18,16 @@ run-requires : tie.Need-run-requires
 run-requires c κs = search needs
 
 add-end : tie.Need-add-end
-add-end c = omega (arith, line-ends (c .before .before .before .args .text .now) (c .before .before .before .args .at) (c .run .result) (c .before .before .before .pre) (c .run .ensures) .within, c .before .before .before .good .0)
+add-end c =
+    let start = c .before .before .before in
+    let run = c .run in
+    omega (arith, line-ends (start .args .text .now) (start .args .at) (run .result) (start .pre) (run .ensures) .within, start .good .0)
 
 returns : tie.Need-returns
-returns c = line-ends (c .before .before .before .args .text .now) (c .before .before .before .args .at) (c .run .result) (c .before .before .before .pre) (c .run .ensures)
+returns c =
+    let start = c .before .before .before in
+    let run = c .run in
+    line-ends (start .args .text .now) (start .args .at) (run .result) (start .pre) (run .ensures)
 
 pub line-end-spec : {M : Type 1} → statement M
 line-end-spec =

@@ -18,7 +18,10 @@ none-requires : tie.Need-none-requires Inv-loop μ-loop
 none-requires c κs = search needs
 
 loop-holds : tie.Need-loop-holds Inv-loop μ-loop
-loop-holds c = taking-starts (c .before .before .args .line .now) (c .before .before .args .from) (c .none .result) (c .before .before .pre) (c .none .ensures)
+loop-holds c =
+    let start = c .before .before in
+    let none = c .none in
+    taking-starts (start .args .line .now) (start .args .from) (none .result) (start .pre) (none .ensures)
 
 sub-run : tie.Need-sub-run Inv-loop μ-loop
 sub-run c = search needs
@@ -33,7 +36,12 @@ run-requires : tie.Need-run-requires Inv-loop μ-loop
 run-requires c κs = search needs
 
 add-end : tie.Need-add-end Inv-loop μ-loop
-add-end c = omega (arith, field-end (c .before .before .before .before .before .before .args .line .now) (c .before .before .before .loop .at) (c .run .result) (c .before .before .loop-test .taken) (c .run .ensures))
+add-end c =
+    let start = c .before .before .before .before .before .before in
+    let loop = c .before .before .before .loop in
+    let loop-test = c .before .before .loop-test in
+    let run = c .run in
+    omega (arith, field-end (start .args .line .now) (loop .at) (run .result) (loop-test .taken) (run .ensures))
 
 sub-with-field : tie.Need-sub-with-field Inv-loop μ-loop
 sub-with-field c = search needs
@@ -42,22 +50,50 @@ part-with-field-start : tie.Need-part-with-field-start Inv-loop μ-loop
 part-with-field-start c = search needs
 
 part-with-field-end : tie.Need-part-with-field-end Inv-loop μ-loop
-part-with-field-end c = omega (arith, field-end (c .before .before .before .before .before .before .args .line .now) (c .before .before .before .loop .at) (c .run .result) (c .before .before .loop-test .taken) (c .run .ensures))
+part-with-field-end c =
+    let start = c .before .before .before .before .before .before in
+    let loop = c .before .before .before .loop in
+    let loop-test = c .before .before .loop-test in
+    let run = c .run in
+    omega (arith, field-end (start .args .line .now) (loop .at) (run .result) (loop-test .taken) (run .ensures))
 
 with-field-requires : tie.Need-with-field-requires Inv-loop μ-loop
-with-field-requires c κs = omega (arith, c .before .before .before .before .loop .inv .few, c .before .before .before .before .loop .inv .read .count, c .before .before .before .before .before .before .before .good .0)
+with-field-requires c κs =
+    let start = c .before .before .before .before .before .before .before in
+    let loop = c .before .before .before .before .loop in
+    omega (arith, loop .inv .few, loop .inv .read .count, start .good .0)
 
 add-at : tie.Need-add-at Inv-loop μ-loop
-add-at c = omega (arith, field-end (c .before .before .before .before .before .before .before .before .args .line .now) (c .before .before .before .before .before .loop .at) (c .before .before .run .result) (c .before .before .before .before .loop-test .taken) (c .before .before .run .ensures), c .before .before .before .before .before .before .before .before .good .0)
+add-at c =
+    let start = c .before .before .before .before .before .before .before .before in
+    let loop = c .before .before .before .before .before .loop in
+    let loop-test = c .before .before .before .before .loop-test in
+    let run = c .before .before .run in
+    omega (arith, field-end (start .args .line .now) (loop .at) (run .result) (loop-test .taken) (run .ensures), start .good .0)
 
 loop-less : tie.Need-loop-less Inv-loop μ-loop
-loop-less c = omega (arith, field-end (c .before .before .before .before .before .before .before .before .args .line .now) (c .before .before .before .before .before .loop .at) (c .before .before .run .result) (c .before .before .before .before .loop-test .taken) (c .before .before .run .ensures))
+loop-less c =
+    let start = c .before .before .before .before .before .before .before .before in
+    let loop = c .before .before .before .before .before .loop in
+    let loop-test = c .before .before .before .before .loop-test in
+    let run = c .before .before .run in
+    omega (arith, field-end (start .args .line .now) (loop .at) (run .result) (loop-test .taken) (run .ensures))
 
 loop-again : tie.Need-loop-again Inv-loop μ-loop
-loop-again c = taking-steps (c .before .before .before .before .before .before .before .before .args .line .now) (c .before .before .before .before .before .loop .at) (c .before .before .run .result) (c .before .before .before .before .loop-test .taken) (c .before .before .run .ensures) (c .before .before .before .before .before .before .before .before .args .from) (c .before .before .before .before .before .loop .numbers) (c .with-field .result) (c .before .before .before .before .before .loop .inv) (c .with-field .ensures)
+loop-again c =
+    let start = c .before .before .before .before .before .before .before .before in
+    let loop = c .before .before .before .before .before .loop in
+    let loop-test = c .before .before .before .before .loop-test in
+    let run = c .before .before .run in
+    let with-field = c .with-field in
+    taking-steps (start .args .line .now) (loop .at) (run .result) (loop-test .taken) (run .ensures) (start .args .from) (loop .numbers) (with-field .result) (loop .inv) (with-field .ensures)
 
 returns : tie.Need-returns Inv-loop μ-loop
-returns c = taking-ends (c .before .before .before .before .args .line .now) (c .before .before .before .before .args .from) (c .before .loop .at) (c .before .loop .numbers) (c .loop-test .left) (c .before .loop .inv)
+returns c =
+    let start = c .before .before .before .before in
+    let loop = c .before .loop in
+    let loop-test = c .loop-test in
+    taking-ends (start .args .line .now) (start .args .from) (loop .at) (loop .numbers) (loop-test .left) (loop .inv)
 
 pub numbers-from-spec : {M : Type 1} → statement M
 numbers-from-spec =

@@ -1,4 +1,5 @@
 -- read_digits meets its contract: the loop keeps Counting. Assumes nothing.
+use Rattle.text.proofs.Digits.{digit-says, counting-starts, counted-small, counting-steps, counting-refuses, counting-ends}
 use mathlib.Core.Path.{sym, _∙_}
 use lib.ListN.{getD}
 use borrow.Author.Tests.{not-true, not-false}
@@ -26,22 +27,46 @@ is-digit-requires : tie.Need-is-digit-requires Inv-loop μ-loop
 is-digit-requires c κs = search needs
 
 returns : tie.Need-returns Inv-loop μ-loop
-returns c = counting-refuses (c .before .before .before .before .before .before .args .field .now) (c .before .before .before .before .loop .i) (c .before .before .before .before .loop .value) (c .before .before .before .before .loop .inv) (c .before .before .before .loop-test .taken) (sym (c .before .is-digit .ensures) ∙ not-true _ (c .if1 .taken))
+returns c =
+    let start = c .before .before .before .before .before .before in
+    let loop = c .before .before .before .before .loop in
+    let loop-test = c .before .before .before .loop-test in
+    let is-digit = c .before .is-digit in
+    let if1 = c .if1 in
+    counting-refuses (start .args .field .now) (loop .i) (loop .value) (loop .inv) (loop-test .taken) (sym (is-digit .ensures) ∙ not-true _ (if1 .taken))
 
 mul-value : tie.Need-mul-value Inv-loop μ-loop
-mul-value c = omega (arith, counted-small (c .before .before .before .before .before .before .args .field .now) (c .before .before .before .before .loop .i) (c .before .before .before .before .loop .value) (c .before .before .before .before .loop .inv) (omega arith))
+mul-value c =
+    let start = c .before .before .before .before .before .before in
+    let loop = c .before .before .before .before .loop in
+    omega (arith, counted-small (start .args .field .now) (loop .i) (loop .value) (loop .inv) (omega arith))
 
 cast-value : tie.Need-cast-value Inv-loop μ-loop
-cast-value c = omega (arith, digit-says (getD (c .before .before .before .before .before .before .args .field .now) (c .before .before .before .before .loop .i) 0) (sym (c .before .is-digit .ensures) ∙ not-false _ (c .if1 .left)))
+cast-value c =
+    let start = c .before .before .before .before .before .before in
+    let loop = c .before .before .before .before .loop in
+    let is-digit = c .before .is-digit in
+    let if1 = c .if1 in
+    omega (arith, digit-says (getD (start .args .field .now) (loop .i) 0) (sym (is-digit .ensures) ∙ not-false _ (if1 .left)))
 
 cast-value-2 : tie.Need-cast-value-2 Inv-loop μ-loop
 cast-value-2 c = search needs
 
 sub-value : tie.Need-sub-value Inv-loop μ-loop
-sub-value c = omega (arith, digit-says (getD (c .before .before .before .before .before .before .args .field .now) (c .before .before .before .before .loop .i) 0) (sym (c .before .is-digit .ensures) ∙ not-false _ (c .if1 .left)))
+sub-value c =
+    let start = c .before .before .before .before .before .before in
+    let loop = c .before .before .before .before .loop in
+    let is-digit = c .before .is-digit in
+    let if1 = c .if1 in
+    omega (arith, digit-says (getD (start .args .field .now) (loop .i) 0) (sym (is-digit .ensures) ∙ not-false _ (if1 .left)))
 
 add-value : tie.Need-add-value Inv-loop μ-loop
-add-value c = omega (arith, counted-small (c .before .before .before .before .before .before .args .field .now) (c .before .before .before .before .loop .i) (c .before .before .before .before .loop .value) (c .before .before .before .before .loop .inv) (omega arith), digit-says (getD (c .before .before .before .before .before .before .args .field .now) (c .before .before .before .before .loop .i) 0) (sym (c .before .is-digit .ensures) ∙ not-false _ (c .if1 .left)))
+add-value c =
+    let start = c .before .before .before .before .before .before in
+    let loop = c .before .before .before .before .loop in
+    let is-digit = c .before .is-digit in
+    let if1 = c .if1 in
+    omega (arith, counted-small (start .args .field .now) (loop .i) (loop .value) (loop .inv) (omega arith), digit-says (getD (start .args .field .now) (loop .i) 0) (sym (is-digit .ensures) ∙ not-false _ (if1 .left)))
 
 add-i : tie.Need-add-i Inv-loop μ-loop
 add-i c = search needs
@@ -50,10 +75,20 @@ loop-less : tie.Need-loop-less Inv-loop μ-loop
 loop-less c = search needs
 
 loop-again : tie.Need-loop-again Inv-loop μ-loop
-loop-again c = counting-steps (c .before .before .before .before .before .before .args .field .now) (c .before .before .before .before .loop .i) (c .before .before .before .before .loop .value) (c .before .before .before .before .loop .inv) (c .before .before .before .loop-test .taken) (sym (c .before .is-digit .ensures) ∙ not-false _ (c .if1 .left))
+loop-again c =
+    let start = c .before .before .before .before .before .before in
+    let loop = c .before .before .before .before .loop in
+    let loop-test = c .before .before .before .loop-test in
+    let is-digit = c .before .is-digit in
+    let if1 = c .if1 in
+    counting-steps (start .args .field .now) (loop .i) (loop .value) (loop .inv) (loop-test .taken) (sym (is-digit .ensures) ∙ not-false _ (if1 .left))
 
 returns-2 : tie.Need-returns-2 Inv-loop μ-loop
-returns-2 c = counting-ends (c .before .before .before .args .field .now) (c .before .loop .i) (c .before .loop .value) (c .before .loop .inv) (c .loop-test .left)
+returns-2 c =
+    let start = c .before .before .before in
+    let loop = c .before .loop in
+    let loop-test = c .loop-test in
+    counting-ends (start .args .field .now) (loop .i) (loop .value) (loop .inv) (loop-test .left)
 
 pub read-digits-spec : {M : Type 1} → statement M
 read-digits-spec =

@@ -23,7 +23,13 @@ refused-requires c κs = search needs
 
 returns : tie.Need-returns
 unfolding stack-word
-returns c = head-ill (line (c .before .before .before .before .before .before .before .before .before .args .bytes .now) (c .before .before .before .before .before .before .before .before .before .args .ended)) (c .before .before .before .before .before .before .read-single .result) (c .before .before .before .before .before .before .read-single .ensures) (c .before .before .before .before .new .result) (c .before .before .before .before .new .ensures) (c .refused .result) (not-true _ (c .before .if1 .taken)) (c .refused .ensures)
+returns c =
+    let start = c .before .before .before .before .before .before .before .before .before in
+    let read-single = c .before .before .before .before .before .before .read-single in
+    let new = c .before .before .before .before .new in
+    let if1 = c .before .if1 in
+    let refused = c .refused in
+    head-ill (line (start .args .bytes .now) (start .args .ended)) (read-single .result) (read-single .ensures) (new .result) (new .ensures) (refused .result) (not-true _ (if1 .taken)) (refused .ensures)
 
 enum-told : tie.Need-enum-told
 enum-told c = search needs
@@ -36,11 +42,24 @@ refused-requires-2 c κs = search needs
 
 returns-2 : tie.Need-returns-2
 unfolding stack-word
-returns-2 c = head-sized (line (c .before .before .before .before .before .before .before .before .before .before .args .bytes .now) (c .before .before .before .before .before .before .before .before .before .before .args .ended)) (c .before .before .before .before .before .before .before .read-single .result) (c .before .before .before .before .before .before .before .read-single .ensures) (c .before .before .before .before .before .new .result) (c .before .before .before .before .before .new .ensures) (not-false _ (c .before .before .if1 .left)) (c .enum-told .given .1)
+returns-2 c =
+    let start = c .before .before .before .before .before .before .before .before .before .before in
+    let read-single = c .before .before .before .before .before .before .before .read-single in
+    let new = c .before .before .before .before .before .new in
+    let if1 = c .before .before .if1 in
+    let enum-told = c .enum-told in
+    head-sized (line (start .args .bytes .now) (start .args .ended)) (read-single .result) (read-single .ensures) (new .result) (new .ensures) (not-false _ (if1 .left)) (enum-told .given .1)
 
 returns-3 : tie.Need-returns-3
 unfolding stack-word
-returns-3 c = head-oversized (line (c .before .before .before .before .before .before .before .before .before .before .before .args .bytes .now) (c .before .before .before .before .before .before .before .before .before .before .before .args .ended)) (c .before .before .before .before .before .before .before .before .read-single .result) (c .before .before .before .before .before .before .before .before .read-single .ensures) (c .before .before .before .before .before .before .new .result) (c .before .before .before .before .before .before .new .ensures) (c .refused2 .result) (not-false _ (c .before .before .before .if1 .left)) (c .before .enum-told2 .given .1) (c .refused2 .ensures)
+returns-3 c =
+    let start = c .before .before .before .before .before .before .before .before .before .before .before in
+    let read-single = c .before .before .before .before .before .before .before .before .read-single in
+    let new = c .before .before .before .before .before .before .new in
+    let if1 = c .before .before .before .if1 in
+    let enum-told2 = c .before .enum-told2 in
+    let refused2 = c .refused2 in
+    head-oversized (line (start .args .bytes .now) (start .args .ended)) (read-single .result) (read-single .ensures) (new .result) (new .ensures) (refused2 .result) (not-false _ (if1 .left)) (enum-told2 .given .1) (refused2 .ensures)
 
 pub read-head-spec : {M : Type 1} → statement M
 read-head-spec =

@@ -23,7 +23,13 @@ refused-requires c κs = search needs
 
 returns : tie.Need-returns
 unfolding nets-word
-returns c = nets-ill (c .before .before .before .before .before .before .before .args .lower .length .0) (c .before .before .before .before .before .before .before .args .upper .length .0) (c .before .before .before .before .before .before .before .args .i) (line (c .before .before .before .before .before .before .before .args .bytes .now) (c .before .before .before .before .before .before .before .args .ended)) (c .before .before .before .before .read-line .result) (c .before .before .before .before .read-line .ensures) (c .refused .result) (c .before .before .before .none .result) (not-true _ (c .before .if1 .taken)) (c .refused .ensures)
+returns c =
+    let start = c .before .before .before .before .before .before .before in
+    let read-line = c .before .before .before .before .read-line in
+    let none = c .before .before .before .none in
+    let if1 = c .before .if1 in
+    let refused = c .refused in
+    nets-ill (start .args .lower .length .0) (start .args .upper .length .0) (start .args .i) (line (start .args .bytes .now) (start .args .ended)) (read-line .result) (read-line .ensures) (refused .result) (none .result) (not-true _ (if1 .taken)) (refused .ensures)
 
 add-refused-2 : tie.Need-add-refused-2
 add-refused-2 c = search needs
@@ -33,7 +39,14 @@ refused-requires-2 c κs = search needs
 
 returns-2 : tie.Need-returns-2
 unfolding nets-word
-returns-2 c = nets-odd (c .before .before .before .before .before .before .before .before .args .lower .length .0) (c .before .before .before .before .before .before .before .before .args .upper .length .0) (c .before .before .before .before .before .before .before .before .args .i) (line (c .before .before .before .before .before .before .before .before .args .bytes .now) (c .before .before .before .before .before .before .before .before .args .ended)) (c .before .before .before .before .before .read-line .result) (c .before .before .before .before .before .read-line .ensures) (c .refused2 .result) (c .before .before .before .before .none .result) (not-false _ (c .before .before .if1 .left)) (c .before .if2 .taken) (c .refused2 .ensures)
+returns-2 c =
+    let start = c .before .before .before .before .before .before .before .before in
+    let read-line = c .before .before .before .before .before .read-line in
+    let none = c .before .before .before .before .none in
+    let if1 = c .before .before .if1 in
+    let if2 = c .before .if2 in
+    let refused2 = c .refused2 in
+    nets-odd (start .args .lower .length .0) (start .args .upper .length .0) (start .args .i) (line (start .args .bytes .now) (start .args .ended)) (read-line .result) (read-line .ensures) (refused2 .result) (none .result) (not-false _ (if1 .left)) (if2 .taken) (refused2 .ensures)
 
 new-requires : tie.Need-new-requires
 new-requires c κs = search needs
@@ -43,7 +56,14 @@ found-outcome-requires c κs = (rw (c .before .new .ensures .found) (place-found
 
 returns-3 : tie.Need-returns-3
 unfolding nets-word
-returns-3 c = nets-found (c .before .before .before .before .before .before .before .before .before .before .before .before .args .lower .length .0) (c .before .before .before .before .before .before .before .before .before .before .before .before .args .upper .length .0) (c .before .before .before .before .before .before .before .before .before .before .before .before .args .i) (line (c .before .before .before .before .before .before .before .before .before .before .before .before .args .bytes .now) (c .before .before .before .before .before .before .before .before .before .before .before .before .args .ended)) (c .before .before .before .before .before .before .before .before .before .read-line .result) (c .before .before .before .before .before .before .before .before .before .read-line .ensures) (not-false _ (c .before .before .before .before .before .before .if1 .left)) (c .before .before .before .before .before .if2 .left) (c .found-outcome .result) (c .before .before .new .result) (c .before .before .new .ensures) (c .found-outcome .ensures)
+returns-3 c =
+    let start = c .before .before .before .before .before .before .before .before .before .before .before .before in
+    let read-line = c .before .before .before .before .before .before .before .before .before .read-line in
+    let if1 = c .before .before .before .before .before .before .if1 in
+    let if2 = c .before .before .before .before .before .if2 in
+    let new = c .before .before .new in
+    let found-outcome = c .found-outcome in
+    nets-found (start .args .lower .length .0) (start .args .upper .length .0) (start .args .i) (line (start .args .bytes .now) (start .args .ended)) (read-line .result) (read-line .ensures) (not-false _ (if1 .left)) (if2 .left) (found-outcome .result) (new .result) (new .ensures) (found-outcome .ensures)
 
 pub read-nets-spec : {M : Type 1} → statement M
 read-nets-spec =

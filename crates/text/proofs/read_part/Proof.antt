@@ -22,7 +22,12 @@ refused-requires c κs = search needs
 
 returns : tie.Need-returns
 unfolding part-word
-returns c = part-ill (c .before .before .before .before .before .before .args .i) (line (c .before .before .before .before .before .before .args .bytes .now) (c .before .before .before .before .before .before .args .ended)) (c .before .before .before .read-single .result) (c .before .before .before .read-single .ensures) (c .refused .result) (strip 1) (not-true _ (c .before .if1 .taken)) (c .refused .ensures)
+returns c =
+    let start = c .before .before .before .before .before .before in
+    let read-single = c .before .before .before .read-single in
+    let if1 = c .before .if1 in
+    let refused = c .refused in
+    part-ill (start .args .i) (line (start .args .bytes .now) (start .args .ended)) (read-single .result) (read-single .ensures) (refused .result) (strip 1) (not-true _ (if1 .taken)) (refused .ensures)
 
 new-requires : tie.Need-new-requires
 new-requires c κs = search needs
@@ -41,11 +46,24 @@ refused-requires-2 c κs = search needs
 
 returns-2 : tie.Need-returns-2
 unfolding part-word
-returns-2 c = part-made (c .before .before .before .before .before .before .before .before .before .args .i) (line (c .before .before .before .before .before .before .before .before .before .args .bytes .now) (c .before .before .before .before .before .before .before .before .before .args .ended)) (c .before .before .before .before .before .before .read-single .result) (c .before .before .before .before .before .before .read-single .ensures) (c .before .strip .given .0 .0) (not-false _ (c .before .before .before .before .if1 .left)) (sym (c .before .before .before .new .ensures) ∙ c .before .strip .given .1)
+returns-2 c =
+    let start = c .before .before .before .before .before .before .before .before .before in
+    let read-single = c .before .before .before .before .before .before .read-single in
+    let if1 = c .before .before .before .before .if1 in
+    let new = c .before .before .before .new in
+    let strip = c .before .strip in
+    part-made (start .args .i) (line (start .args .bytes .now) (start .args .ended)) (read-single .result) (read-single .ensures) (strip .given .0 .0) (not-false _ (if1 .left)) (sym (new .ensures) ∙ strip .given .1)
 
 returns-3 : tie.Need-returns-3
 unfolding part-word
-returns-3 c = part-length (c .before .before .before .before .before .before .before .before .before .args .i) (line (c .before .before .before .before .before .before .before .before .before .args .bytes .now) (c .before .before .before .before .before .before .before .before .before .args .ended)) (c .before .before .before .before .before .before .read-single .result) (c .before .before .before .before .before .before .read-single .ensures) (c .refused2 .result) (strip 1) (not-false _ (c .before .before .before .before .if1 .left)) (sym (c .before .before .before .new .ensures) ∙ c .before .enum-told .given .1) (c .refused2 .ensures)
+returns-3 c =
+    let start = c .before .before .before .before .before .before .before .before .before in
+    let read-single = c .before .before .before .before .before .before .read-single in
+    let if1 = c .before .before .before .before .if1 in
+    let new = c .before .before .before .new in
+    let enum-told = c .before .enum-told in
+    let refused2 = c .refused2 in
+    part-length (start .args .i) (line (start .args .bytes .now) (start .args .ended)) (read-single .result) (read-single .ensures) (refused2 .result) (strip 1) (not-false _ (if1 .left)) (sym (new .ensures) ∙ enum-told .given .1) (refused2 .ensures)
 
 pub read-part-spec : {M : Type 1} → statement M
 read-part-spec =

@@ -10,16 +10,30 @@ read-line-requires : tie.Need-read-line-requires
 read-line-requires c κs = search needs
 
 returns : tie.Need-returns
-returns c = single-ill (line (c .before .before .before .before .before .before .args .bytes .now) (c .before .before .before .before .before .before .args .ended)) (c .before .before .before .before .before .before .args .word .now) (c .before .before .before .read-line .result) (c .before .before .before .read-line .ensures) (not-true _ (c .if1 .taken))
+returns c =
+    let start = c .before .before .before .before .before .before in
+    let read-line = c .before .before .before .read-line in
+    let if1 = c .if1 in
+    single-ill (line (start .args .bytes .now) (start .args .ended)) (start .args .word .now) (read-line .result) (read-line .ensures) (not-true _ (if1 .taken))
 
 returns-2 : tie.Need-returns-2
-returns-2 c = single-more (line (c .before .before .before .before .before .before .before .before .args .bytes .now) (c .before .before .before .before .before .before .before .before .args .ended)) (c .before .before .before .before .before .before .before .before .args .word .now) (c .before .before .before .before .before .read-line .result) (c .before .before .before .before .before .read-line .ensures) (not-false _ (c .before .before .if1 .left)) (c .if2 .taken)
+returns-2 c =
+    let start = c .before .before .before .before .before .before .before .before in
+    let read-line = c .before .before .before .before .before .read-line in
+    let if1 = c .before .before .if1 in
+    let if2 = c .if2 in
+    single-more (line (start .args .bytes .now) (start .args .ended)) (start .args .word .now) (read-line .result) (read-line .ensures) (not-false _ (if1 .left)) (if2 .taken)
 
 array-read-t9 : tie.Need-array-read-t9
 array-read-t9 c = search needs
 
 returns-3 : tie.Need-returns-3
-returns-3 c = single-one (line (c .before .before .before .before .before .before .before .before .args .bytes .now) (c .before .before .before .before .before .before .before .before .args .ended)) (c .before .before .before .before .before .before .before .before .args .word .now) (c .before .before .before .before .before .read-line .result) (c .before .before .before .before .before .read-line .ensures) (not-false _ (c .before .before .if1 .left)) (c .if2 .left)
+returns-3 c =
+    let start = c .before .before .before .before .before .before .before .before in
+    let read-line = c .before .before .before .before .before .read-line in
+    let if1 = c .before .before .if1 in
+    let if2 = c .if2 in
+    single-one (line (start .args .bytes .now) (start .args .ended)) (start .args .word .now) (read-line .result) (read-line .ensures) (not-false _ (if1 .left)) (if2 .left)
 
 pub read-single-spec : {M : Type 1} → statement M
 read-single-spec =

@@ -19,7 +19,12 @@ shared-slice-read-if1 : tie.Need-shared-slice-read-if1 Inv-loop μ-loop
 shared-slice-read-if1 c = search needs
 
 returns : tie.Need-returns Inv-loop μ-loop
-returns c = seeking-finds (c .before .before .before .before .args .b) (c .before .before .before .before .args .bytes .now) (c .before .before .before .loop .i) (c .before .before .before .loop .inv) (c .before .before .loop-test .taken) (c .if1 .taken)
+returns c =
+    let start = c .before .before .before .before in
+    let loop = c .before .before .before .loop in
+    let loop-test = c .before .before .loop-test in
+    let if1 = c .if1 in
+    seeking-finds (start .args .b) (start .args .bytes .now) (loop .i) (loop .inv) (loop-test .taken) (if1 .taken)
 
 add-i : tie.Need-add-i Inv-loop μ-loop
 add-i c = search needs
@@ -28,10 +33,19 @@ loop-less : tie.Need-loop-less Inv-loop μ-loop
 loop-less c = search needs
 
 loop-again : tie.Need-loop-again Inv-loop μ-loop
-loop-again c = seeking-steps (c .before .before .before .before .args .b) (c .before .before .before .before .args .bytes .now) (c .before .before .before .loop .i) (c .before .before .before .loop .inv) (c .before .before .loop-test .taken) (c .if1 .left)
+loop-again c =
+    let start = c .before .before .before .before in
+    let loop = c .before .before .before .loop in
+    let loop-test = c .before .before .loop-test in
+    let if1 = c .if1 in
+    seeking-steps (start .args .b) (start .args .bytes .now) (loop .i) (loop .inv) (loop-test .taken) (if1 .left)
 
 returns-2 : tie.Need-returns-2 Inv-loop μ-loop
-returns-2 c = seeking-ends (c .before .before .args .b) (c .before .before .args .bytes .now) (c .before .loop .i) (c .before .loop .inv) (c .loop-test .left)
+returns-2 c =
+    let start = c .before .before in
+    let loop = c .before .loop in
+    let loop-test = c .loop-test in
+    seeking-ends (start .args .b) (start .args .bytes .now) (loop .i) (loop .inv) (loop-test .left)
 
 pub run-spec : {M : Type 1} → statement M
 run-spec =

@@ -17,16 +17,29 @@ abbrev μ-loop : tie.MeasureT-loop
 μ-loop text p₀ channels c₀ p c = channels - c
 
 loop-holds : tie.Need-loop-holds Inv-loop μ-loop
-loop-holds c = wiring-starts (c .before .args .text .now) (c .before .args .parts) (c .before .pre)
+loop-holds c =
+    let start = c .before in
+    wiring-starts (start .args .text .now) (start .args .parts) (start .pre)
 
 take-nets-requires : tie.Need-take-nets-requires Inv-loop μ-loop
-take-nets-requires c κs = omega (arith, c .before .loop .inv .going .within, c .before .loop .inv .going .count, c .loop-test .taken, c .before .before .before .pre .few, c .before .before .before .pre .going .count)
+take-nets-requires c κs =
+    let start = c .before .before .before in
+    let loop = c .before .loop in
+    let loop-test = c .loop-test in
+    omega (arith, loop .inv .going .within, loop .inv .going .count, loop-test .taken, start .pre .few, start .pre .going .count)
 
 is-accepted-requires : tie.Need-is-accepted-requires Inv-loop μ-loop
 is-accepted-requires c κs = search needs
 
 returns : tie.Need-returns Inv-loop μ-loop
-returns c = wiring-refuses (c .before .before .before .before .before .before .args .text .now) (k-of (lines (c .before .before .before .before .before .before .args .text .now))) (c .before .before .before .before .loop .c) (c .before .before .before .before .loop .p) (c .before .before .take-nets .result) (omega (arith, c .before .before .before .loop-test .taken, c .before .before .before .before .before .before .pre .going .count)) (c .before .before .before .before .loop .inv) (c .before .before .take-nets .ensures) (sym (c .before .is-accepted .ensures) ∙ not-true _ (c .if1 .taken))
+returns c =
+    let start = c .before .before .before .before .before .before in
+    let loop = c .before .before .before .before .loop in
+    let loop-test = c .before .before .before .loop-test in
+    let take-nets = c .before .before .take-nets in
+    let is-accepted = c .before .is-accepted in
+    let if1 = c .if1 in
+    wiring-refuses (start .args .text .now) (k-of (lines (start .args .text .now))) (loop .c) (loop .p) (take-nets .result) (omega (arith, loop-test .taken, start .pre .going .count)) (loop .inv) (take-nets .ensures) (sym (is-accepted .ensures) ∙ not-true _ (if1 .taken))
 
 add-c : tie.Need-add-c Inv-loop μ-loop
 add-c c = search needs
@@ -35,10 +48,21 @@ loop-less : tie.Need-loop-less Inv-loop μ-loop
 loop-less c = search needs
 
 loop-again : tie.Need-loop-again Inv-loop μ-loop
-loop-again c = wiring-steps (c .before .before .before .before .before .before .args .text .now) (k-of (lines (c .before .before .before .before .before .before .args .text .now))) (c .before .before .before .before .loop .c) (c .before .before .before .before .loop .p) (c .before .before .take-nets .result) (omega (arith, c .before .before .before .loop-test .taken, c .before .before .before .before .before .before .pre .going .count)) (c .before .before .before .before .loop .inv) (c .before .before .take-nets .ensures) (sym (c .before .is-accepted .ensures) ∙ not-false _ (c .if1 .left))
+loop-again c =
+    let start = c .before .before .before .before .before .before in
+    let loop = c .before .before .before .before .loop in
+    let loop-test = c .before .before .before .loop-test in
+    let take-nets = c .before .before .take-nets in
+    let is-accepted = c .before .is-accepted in
+    let if1 = c .if1 in
+    wiring-steps (start .args .text .now) (k-of (lines (start .args .text .now))) (loop .c) (loop .p) (take-nets .result) (omega (arith, loop-test .taken, start .pre .going .count)) (loop .inv) (take-nets .ensures) (sym (is-accepted .ensures) ∙ not-false _ (if1 .left))
 
 returns-2 : tie.Need-returns-2 Inv-loop μ-loop
-returns-2 c = wiring-ends (c .before .before .before .args .text .now) (k-of (lines (c .before .before .before .args .text .now))) (c .before .loop .c) (c .before .loop .p) (omega (arith, c .loop-test .left, c .before .before .before .pre .going .count)) (c .before .loop .inv)
+returns-2 c =
+    let start = c .before .before .before in
+    let loop = c .before .loop in
+    let loop-test = c .loop-test in
+    wiring-ends (start .args .text .now) (k-of (lines (start .args .text .now))) (loop .c) (loop .p) (omega (arith, loop-test .left, start .pre .going .count)) (loop .inv)
 
 pub take-all-nets-spec : {M : Type 1} → statement M
 take-all-nets-spec =

@@ -23,7 +23,11 @@ add-t8 : tie.Need-add-t8
 add-t8 c = search needs
 
 returns : tie.Need-returns
-returns c = head-taken (c .before .before .before .before .before .args .text .now) (c .before .before .before .line-end .result) (c .before .before .before .line-end .ensures) (c .before .read-head .result) (c .before .read-head .ensures)
+returns c =
+    let start = c .before .before .before .before .before in
+    let line-end = c .before .before .before .line-end in
+    let read-head = c .before .read-head in
+    head-taken (start .args .text .now) (line-end .result) (line-end .ensures) (read-head .result) (read-head .ensures)
 
 pub take-head-spec : {M : Type 1} → statement M
 take-head-spec =

@@ -50,7 +50,12 @@ add-t15 : tie.Need-add-t15
 add-t15 c = search needs
 
 returns : tie.Need-returns
-returns c = nets-taken (c .before .before .before .before .before .before .before .before .before .args .text .now) (c .before .before .before .before .before .before .before .before .before .args .p) (c .before .before .before .before .before .before .before .before .before .args .c) (c .before .before .before .before .before .before .before .line-end .result) (c .before .before .before .before .before .before .before .before .before .pre .0) (c .before .before .before .before .before .before .before .line-end .ensures) (c .before .before .read-nets .result) (c .with-channel .result) (c .before .before .before .before .before .before .before .before .before .pre .1) (c .before .before .read-nets .ensures) (c .with-channel .ensures)
+returns c =
+    let start = c .before .before .before .before .before .before .before .before .before in
+    let line-end = c .before .before .before .before .before .before .before .line-end in
+    let read-nets = c .before .before .read-nets in
+    let with-channel = c .with-channel in
+    nets-taken (start .args .text .now) (start .args .p) (start .args .c) (line-end .result) (start .pre .0) (line-end .ensures) (read-nets .result) (with-channel .result) (start .pre .1) (read-nets .ensures) (with-channel .ensures)
 
 pub take-nets-spec : {M : Type 1} → statement M
 take-nets-spec =

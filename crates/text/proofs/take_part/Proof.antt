@@ -32,7 +32,12 @@ add-t13 : tie.Need-add-t13
 add-t13 c = search needs
 
 returns : tie.Need-returns
-returns c = part-taken (c .before .before .before .before .before .before .before .args .text .now) (c .before .before .before .before .before .before .before .args .p) (c .before .before .before .before .before .before .before .args .i) (c .before .before .before .before .before .line-end .result) (c .before .before .before .before .before .before .before .pre .0) (c .before .before .before .before .before .line-end .ensures) (c .before .before .before .read-part .result) (c .with-strip .result) (c .before .before .before .read-part .ensures) (c .with-strip .ensures)
+returns c =
+    let start = c .before .before .before .before .before .before .before in
+    let line-end = c .before .before .before .before .before .line-end in
+    let read-part = c .before .before .before .read-part in
+    let with-strip = c .with-strip in
+    part-taken (start .args .text .now) (start .args .p) (start .args .i) (line-end .result) (start .pre .0) (line-end .ensures) (read-part .result) (with-strip .result) (read-part .ensures) (with-strip .ensures)
 
 pub take-part-spec : {M : Type 1} → statement M
 take-part-spec =

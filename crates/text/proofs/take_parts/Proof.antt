@@ -20,16 +20,29 @@ add-strips : tie.Need-add-strips Inv-loop μ-loop
 add-strips c = omega (arith, c .before .before .pre .few, c .before .before .pre .going .count)
 
 loop-holds : tie.Need-loop-holds Inv-loop μ-loop
-loop-holds c = parting-starts (c .before .before .args .text .now) (c .before .before .args .head) (c .before .before .pre)
+loop-holds c =
+    let start = c .before .before in
+    parting-starts (start .args .text .now) (start .args .head) (start .pre)
 
 take-part-requires : tie.Need-take-part-requires Inv-loop μ-loop
-take-part-requires c κs = omega (arith, c .before .loop .inv .going .within, c .before .loop .inv .going .count, c .loop-test .taken, c .before .before .before .before .pre .few, c .before .before .before .before .pre .going .count)
+take-part-requires c κs =
+    let start = c .before .before .before .before in
+    let loop = c .before .loop in
+    let loop-test = c .loop-test in
+    omega (arith, loop .inv .going .within, loop .inv .going .count, loop-test .taken, start .pre .few, start .pre .going .count)
 
 is-accepted-requires : tie.Need-is-accepted-requires Inv-loop μ-loop
 is-accepted-requires c κs = search needs
 
 returns : tie.Need-returns Inv-loop μ-loop
-returns c = parting-refuses (c .before .before .before .before .before .before .before .args .text .now) (k-of (lines (c .before .before .before .before .before .before .before .args .text .now))) (c .before .before .before .before .loop .i) (c .before .before .before .before .loop .p) (c .before .before .take-part .result) (omega (arith, c .before .before .before .loop-test .taken, c .before .before .before .before .before .before .before .pre .going .count)) (c .before .before .before .before .loop .inv) (c .before .before .take-part .ensures) (sym (c .before .is-accepted .ensures) ∙ not-true _ (c .if1 .taken))
+returns c =
+    let start = c .before .before .before .before .before .before .before in
+    let loop = c .before .before .before .before .loop in
+    let loop-test = c .before .before .before .loop-test in
+    let take-part = c .before .before .take-part in
+    let is-accepted = c .before .is-accepted in
+    let if1 = c .if1 in
+    parting-refuses (start .args .text .now) (k-of (lines (start .args .text .now))) (loop .i) (loop .p) (take-part .result) (omega (arith, loop-test .taken, start .pre .going .count)) (loop .inv) (take-part .ensures) (sym (is-accepted .ensures) ∙ not-true _ (if1 .taken))
 
 add-i : tie.Need-add-i Inv-loop μ-loop
 add-i c = search needs
@@ -38,10 +51,21 @@ loop-less : tie.Need-loop-less Inv-loop μ-loop
 loop-less c = search needs
 
 loop-again : tie.Need-loop-again Inv-loop μ-loop
-loop-again c = parting-steps (c .before .before .before .before .before .before .before .args .text .now) (k-of (lines (c .before .before .before .before .before .before .before .args .text .now))) (c .before .before .before .before .loop .i) (c .before .before .before .before .loop .p) (c .before .before .take-part .result) (omega (arith, c .before .before .before .loop-test .taken, c .before .before .before .before .before .before .before .pre .going .count)) (c .before .before .before .before .loop .inv) (c .before .before .take-part .ensures) (sym (c .before .is-accepted .ensures) ∙ not-false _ (c .if1 .left))
+loop-again c =
+    let start = c .before .before .before .before .before .before .before in
+    let loop = c .before .before .before .before .loop in
+    let loop-test = c .before .before .before .loop-test in
+    let take-part = c .before .before .take-part in
+    let is-accepted = c .before .is-accepted in
+    let if1 = c .if1 in
+    parting-steps (start .args .text .now) (k-of (lines (start .args .text .now))) (loop .i) (loop .p) (take-part .result) (omega (arith, loop-test .taken, start .pre .going .count)) (loop .inv) (take-part .ensures) (sym (is-accepted .ensures) ∙ not-false _ (if1 .left))
 
 returns-2 : tie.Need-returns-2 Inv-loop μ-loop
-returns-2 c = parting-ends (c .before .before .before .before .args .text .now) (k-of (lines (c .before .before .before .before .args .text .now))) (c .before .loop .i) (c .before .loop .p) (omega (arith, c .loop-test .left, c .before .before .before .before .pre .going .count)) (c .before .loop .inv)
+returns-2 c =
+    let start = c .before .before .before .before in
+    let loop = c .before .loop in
+    let loop-test = c .loop-test in
+    parting-ends (start .args .text .now) (k-of (lines (start .args .text .now))) (loop .i) (loop .p) (omega (arith, loop-test .left, start .pre .going .count)) (loop .inv)
 
 pub take-parts-spec : {M : Type 1} → statement M
 take-parts-spec =
