@@ -9,7 +9,7 @@ use native.Mathlib.Omega.{arith}
 use lib.Dec.{ltb, eqb}
 use lib.ListN.{length, getD, take, drop, length-drop}
 use lib.Seq.{drop-drop}
-use borrow.Author.Tests.{ltb-true, ltb-false, lt-ltb, le-ltb}
+use borrow.Author.Tests.{leb-true, ltb-true, ltb-false, lt-ltb, le-ltb}
 use Rattle.numbers.proofs.Bools.{ands}
 use Rattle.numbers.proofs.Lists.{getD-tabulate}
 use Rattle.stack.specs.Stack.{stack}
@@ -125,6 +125,7 @@ module _ (bs : List ℕ) (e : LineEnd) (m : Line-from bs 0 e) where
               accepted = number-fine (r .outcome) (rw says z);
               within = next .within;
               rest = next .rest;
+              few = leb-true (k-of (lines bs)) 8 (head-says (lines bs) z .upto);
               count = count;
               stands = there .bare ∙ rw count;
             };

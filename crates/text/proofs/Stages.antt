@@ -12,13 +12,13 @@ use lib.Seq.{getD-drop, drop-drop}
 use borrow.Author.Tests.{ne-eqb}
 use Rattle.numbers.specs.Lists.{tabulate, filled}
 use Rattle.numbers.proofs.Lists.{getD-tabulate, filled-starts, filled-steps}
-use Rattle.stack.specs.Stack.{stack}
+use Rattle.stack.specs.Stack.{Stack, stack}
 use Rattle.stack.specs.Value.{stack-of}
 use Rattle.stack.specs.Made.{bare}
-use Rattle.text.specs.Text.{Refusal, refusal, fine, or-else, Line, lines, no-line, line-at, numbers-of, k-of, parts-refusal, length-at, nets-refusal, all-nets-refusal, strips-in, pairs-of, channels-in}
+use Rattle.text.specs.Text.{Refusal, refusal, fine, or-else, Line, lines, no-line, line-at, numbers-of, parts-refusal, length-at, nets-refusal, all-nets-refusal, strips-in, pairs-of, channels-in}
 use Rattle.text.specs.Outcome.{refusal-of, is-accepted}
 use Rattle.text.specs.Kinds.{channel-refusal}
-use Rattle.text.specs.Driver.{line-from, Next, Going, Parts-due, Part-taken, strips-read, Parting, Parts-taken, Nets-due, Nets-taken, channels-read, Wiring, All-nets-taken}
+use Rattle.text.specs.Driver.{line-from, Next, Going, Read-to, parts-stack, Part-taken, strips-read, Parting, Nets-taken, channels-read, Wiring}
 use Rattle.text.specs.declared.Progress.{Progress}
 use Rattle.text.proofs.Places.{refused-number, accepted-fine}
 
@@ -30,6 +30,25 @@ or-else-refused a b h = rw (ne-eqb (a .number) 0 h)
 pub or-else-next : (a b : Refusal) → a ≡ fine → or-else a b ≡ b
 unfolding or-else fine refusal
 or-else-next a b h = rw h
+
+-- A STAGE hands on what is refused, and else adds what it refuses itself
+module _ (bs : List ℕ) (n : ℕ) (f : Refusal) (i : ℕ) (k : Stack) (p : Progress) (t : Read-to bs n f i k p) where
+  pub stays-refused : (g : Refusal) (j : ℕ) (l : Stack) → is-accepted (p .outcome) ≡ false → Read-to bs n (or-else f g) j l p
+  stays-refused g j l a =
+      let none = refused-number (p .outcome) a in
+      let says = or-else-refused f g (rw (t .outcome) at none) in
+      record { outcome = t .outcome ∙ sym says; going = λ z. absurd (none (rw (t .outcome, ← says) z)) }
+
+  module _ (a : is-accepted (p .outcome) ≡ true) where
+    pub nothing-refused : f ≡ fine
+    nothing-refused = sym (t .outcome) ∙ accepted-fine (p .outcome) a
+
+    pub goes-on : Going bs i n k p
+    unfolding fine refusal
+    goes-on = t .going (rw nothing-refused)
+
+    pub then-read : (g : Refusal) (j : ℕ) (l : Stack) (r : Progress) → Read-to bs n g j l r → Read-to bs n (or-else f g) j l r
+    then-read g j l r u = rw (or-else-next f g nothing-refused) u
 
 -- the next line due is line i
 line-due : (bs : List ℕ) (at i : ℕ) → lines (drop at bs) ≡ drop i (lines bs) → line-from bs at ≡ line-at (lines bs) i
@@ -57,22 +76,11 @@ channels-tabulated (suc n) i j ls =
     ap (λ r. pairs-of (numbers-of (line-at ls (i + j))) ∷ r) (rw e at (channels-tabulated n i (suc j) ls))
 
 -- PART LINES
-pub parting-starts : (bs : List ℕ) (p : Progress) → Parts-due bs p → Parting bs (k-of (lines bs)) 0 p
+pub parting-starts : (bs : List ℕ) (n : ℕ) (p : Progress) → Going bs 1 n (bare n) p → Parting bs n 0 p
 unfolding bare
-parting-starts bs p d =
-    let n = k-of (lines bs) in
-    let g = d .going in
-    record {
-      below = omega arith;
-      going = record {
-        accepted = g .accepted;
-        within = g .within;
-        rest = g .rest;
-        count = g .count;
-        stands = g .stands ∙ rw (filled-starts (suc n) (λ i. length-at (lines bs) i) 1);
-      };
-      rest = rw (sub-zero (suc n));
-    }
+parting-starts bs n p g =
+    let none = filled-starts (suc n) (λ i. length-at (lines bs) i) 1 in
+    record { below = omega arith; going = rw none g; rest = rw (sub-zero (suc n)) }
 
 module _ (bs : List ℕ) (n j : ℕ) (p r : Progress) (less : j < suc n) (m : Parting bs n j p) (t : Part-taken bs p j r) where
   part-due : line-from bs (p .at) ≡ line-at (lines bs) (suc j)
@@ -95,6 +103,7 @@ module _ (bs : List ℕ) (n j : ℕ) (p r : Progress) (less : j < suc n) (m : Pa
         accepted = f;
         within = t .next z .within;
         rest = rw (add-one j) (lines-due bs (p .at) (r .at) (suc j) (g .rest) (t .next z));
+        few = g .few;
         count = s .count ∙ g .count;
         stands = s .value ∙ rw (g .stands, part-due, ← filled-steps (suc n) j (λ i. length-at (lines bs) i) 1 less);
       }
@@ -109,15 +118,17 @@ module _ (bs : List ℕ) (n j : ℕ) (p r : Progress) (less : j < suc n) (m : Pa
         rest = from-part ∙ rw (or-else-next (refusal-of (r .outcome)) (parts-refusal (n - j) (suc (suc j)) (lines bs)) f, e, add-one j);
       }
 
-  pub parting-refuses : is-accepted (r .outcome) ≡ false → Parts-taken bs n r
+  pub parting-refuses : is-accepted (r .outcome) ≡ false → Read-to bs n (parts-refusal (suc n) 1 (lines bs)) (n + 2) (parts-stack n (lines bs)) r
   parting-refuses a =
       let none = refused-number (r .outcome) a in
+      let says = from-part ∙ or-else-refused (refusal-of (r .outcome)) (parts-refusal (n - j) (suc (suc j)) (lines bs)) none in
       record {
-        outcome = sym (from-part ∙ or-else-refused (refusal-of (r .outcome)) (parts-refusal (n - j) (suc (suc j)) (lines bs)) none);
-        going = λ z. absurd (none z);
+        outcome = sym says;
+        going = λ z. absurd (none (rw says at z));
       }
 
-pub parting-ends : (bs : List ℕ) (n j : ℕ) (p : Progress) → suc n ≤ j → Parting bs n j p → Parts-taken bs n p
+pub parting-ends : (bs : List ℕ) (n j : ℕ) (p : Progress) → suc n ≤ j → Parting bs n j p →
+    Read-to bs n (parts-refusal (suc n) 1 (lines bs)) (n + 2) (parts-stack n (lines bs)) p
 unfolding parts-refusal
 parting-ends bs n j p past m =
     let e : j ≡ suc n = omega (arith, m .below) in
@@ -130,11 +141,10 @@ parting-ends bs n j p past m =
     }
 
 -- NETS LINES
-pub wiring-starts : (bs : List ℕ) (p : Progress) → Nets-due bs p → Wiring bs (k-of (lines bs)) 0 p
-wiring-starts bs p d =
-    let n = k-of (lines bs) in
+pub wiring-starts : (bs : List ℕ) (n : ℕ) (p : Progress) → Going bs (n + 2) n (parts-stack n (lines bs)) p → Wiring bs n 0 p
+wiring-starts bs n p g =
     let none = filled-starts n (λ j. pairs-of (numbers-of (line-at (lines bs) (n + 2 + j)))) [] in
-    record { below = omega arith; going = rw (add-zero (n + 2), none) (d .going); rest = rw (sub-zero n, add-zero (n + 2)) }
+    record { below = omega arith; going = rw (add-zero (n + 2), none) g; rest = rw (sub-zero n, add-zero (n + 2)) }
 
 -- the refusal of a line is that of its bytes and its strips' lengths
 nets-by : (ls : List Line) (c i : ℕ) → nets-refusal ls c i ≡ channel-refusal (length-at ls c) (length-at ls (suc c)) i (line-at ls i)
@@ -174,6 +184,7 @@ module _ (bs : List ℕ) (n c : ℕ) (p r : Progress) (less : c < n) (m : Wiring
         accepted = f;
         within = t .next z .within;
         rest = rw i (lines-due bs (p .at) (r .at) (n + 2 + c) (g .rest) (t .next z));
+        few = g .few;
         count = s .count ∙ g .count;
         stands = s .value ∙ rw (g .stands, nets-due, ← filled-steps n c (λ j. pairs-of (numbers-of (line-at (lines bs) (n + 2 + j)))) [] less);
       }
@@ -183,12 +194,15 @@ module _ (bs : List ℕ) (n c : ℕ) (p r : Progress) (less : c < n) (m : Wiring
       let f = accepted-fine (r .outcome) a in
       record { below = omega arith; going = nets-going f; rest = from-nets ∙ or-else-next (refusal-of (r .outcome)) _ f }
 
-  pub wiring-refuses : is-accepted (r .outcome) ≡ false → All-nets-taken bs n r
+  pub wiring-refuses : is-accepted (r .outcome) ≡ false →
+      Read-to bs n (all-nets-refusal n 0 (n + 2) (lines bs)) (n + 2 + n) (stack (strips-in (suc n) 0 (lines bs)) (channels-in n (n + 2) (lines bs))) r
   wiring-refuses a =
       let none = refused-number (r .outcome) a in
-      record { outcome = sym (from-nets ∙ or-else-refused (refusal-of (r .outcome)) _ none); going = λ z. absurd (none z) }
+      let says = from-nets ∙ or-else-refused (refusal-of (r .outcome)) (all-nets-refusal (n - (c + 1)) (c + 1) (n + 2 + (c + 1)) (lines bs)) none in
+      record { outcome = sym says; going = λ z. absurd (none (rw says at z)) }
 
-pub wiring-ends : (bs : List ℕ) (n c : ℕ) (p : Progress) → n ≤ c → Wiring bs n c p → All-nets-taken bs n p
+pub wiring-ends : (bs : List ℕ) (n c : ℕ) (p : Progress) → n ≤ c → Wiring bs n c p →
+    Read-to bs n (all-nets-refusal n 0 (n + 2) (lines bs)) (n + 2 + n) (stack (strips-in (suc n) 0 (lines bs)) (channels-in n (n + 2) (lines bs))) p
 unfolding all-nets-refusal
 wiring-ends bs n c p past m =
     let e : c ≡ n = omega (arith, m .below) in

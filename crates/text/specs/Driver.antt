@@ -1,8 +1,8 @@
 -- How far a text has been read: what holds after its first lines, and what reading the next line, or all lines of a kind, adds. Assumes nothing: these are definitions.
 use mathlib.Core.Path.{_≡_}
-use mathlib.Core.Bool.{true}
+use mathlib.Core.Bool.{true, false, cond}
 use mathlib.Core.List.{List, []}
-use Prim.Native.Nat.{ℕ, suc, _+_, _-_, _≤_}
+use Prim.Native.Nat.{ℕ, suc, _+_, _*_, _-_, _≤_}
 use lib.Dec.{ltb}
 use lib.ListN.{length, getD, drop, replicate}
 use Rattle.numbers.specs.Lists.{filled}
@@ -10,8 +10,8 @@ use Rattle.stack.specs.Stack.{Pair, Stack, stack}
 use Rattle.stack.specs.Limits.{within-limits}
 use Rattle.stack.specs.Value.{stack-of}
 use Rattle.stack.specs.Made.{bare, Strip-set, Channel-set}
-use Rattle.text.specs.Text.{fine, Line, lines, line-at, numbers-of, head-refusal, k-of, part-refusal, parts-refusal, length-at, all-nets-refusal, text-refusal, strips-in, pairs-of, channels-in, stack-in}
-use Rattle.text.specs.Outcome.{refusal-of}
+use Rattle.text.specs.Text.{Refusal, refusal, fine, or-else, Line, lines, line-at, numbers-of, head-refusal, k-of, part-refusal, parts-refusal, length-at, all-nets-refusal, text-refusal, strips-in, pairs-of, stack-in}
+use Rattle.text.specs.Outcome.{refusal-of, is-accepted}
 use Rattle.text.specs.Cut.{run}
 use Rattle.text.specs.Kinds.{channel-refusal}
 use Rattle.text.specs.declared.LineEnd.{LineEnd}
@@ -38,18 +38,46 @@ pub record Going (bs : List ℕ) (i n : ℕ) (k : Stack) (p : Progress) : Type 0
   pub accepted : refusal-of (p .outcome) ≡ fine
   pub within : p .at ≤ length bs
   pub rest : lines (drop (p .at) bs) ≡ drop i (lines bs)
+  pub few : n ≤ 8
   pub count : p .stack .count ≡ n
   pub stands : stack-of (p .stack) ≡ k
 
--- STACK
-pub record Head-taken (bs : List ℕ) (r : Progress) : Type 0 where
-  pub outcome : refusal-of (r .outcome) ≡ head-refusal (lines bs)
-  pub going : head-refusal (lines bs) .number ≡ 0 → Going bs 1 (k-of (lines bs)) (bare (k-of (lines bs))) r
+-- f is refused of the first i lines; where that is nothing, they are read
+pub record Read-to (bs : List ℕ) (n : ℕ) (f : Refusal) (i : ℕ) (k : Stack) (p : Progress) : Type 0 where
+  pub outcome : refusal-of (p .outcome) ≡ f
+  pub going : f .number ≡ 0 → Going bs i n k p
 
--- the PART lines are due
-pub record Parts-due (bs : List ℕ) (p : Progress) : Type 0 where
-  pub few : k-of (lines bs) ≤ 8
-  pub going : Going bs 1 (k-of (lines bs)) (bare (k-of (lines bs))) p
+-- what is refused of the lines up to the last of a kind, and up to the text's end
+abbrev pub upto-head : List ℕ → Refusal
+upto-head bs = head-refusal (lines bs)
+
+abbrev pub upto-parts : List ℕ → Refusal
+upto-parts bs = or-else (upto-head bs) (parts-refusal (suc (k-of (lines bs))) 1 (lines bs))
+
+abbrev pub upto-nets : List ℕ → Refusal
+upto-nets bs = or-else (upto-parts bs) (all-nets-refusal (k-of (lines bs)) 0 (k-of (lines bs) + 2) (lines bs))
+
+unfoldable pub extra-refusal : (k : ℕ) → List Line → Refusal
+extra-refusal k ls = cond (ltb (2 * k + 2) (length ls)) (refusal 2 (2 * k + 3) 0) fine
+
+abbrev pub upto-end : List ℕ → Refusal
+upto-end bs = or-else (upto-nets bs) (extra-refusal (k-of (lines bs)) (lines bs))
+
+-- STACK is read; then all PART lines; then all NETS lines; then the text's end is tested
+abbrev pub Head-taken : List ℕ → Progress → Type 0
+Head-taken bs r = Read-to bs (k-of (lines bs)) (upto-head bs) 1 (bare (k-of (lines bs))) r
+
+abbrev pub parts-stack : (n : ℕ) → List Line → Stack
+parts-stack n ls = stack (strips-in (suc n) 0 ls) (replicate n [])
+
+abbrev pub Parts-taken : List ℕ → Progress → Type 0
+Parts-taken bs r = Read-to bs (k-of (lines bs)) (upto-parts bs) (k-of (lines bs) + 2) (parts-stack (k-of (lines bs)) (lines bs)) r
+
+abbrev pub All-nets-taken : List ℕ → Progress → Type 0
+All-nets-taken bs r = Read-to bs (k-of (lines bs)) (upto-nets bs) (k-of (lines bs) + 2 + k-of (lines bs)) (stack-in bs) r
+
+abbrev pub End-taken : List ℕ → Progress → Type 0
+End-taken bs r = Read-to bs (k-of (lines bs)) (upto-end bs) (k-of (lines bs) + 2 + k-of (lines bs)) (stack-in bs) r
 
 -- one PART line: strip i
 pub record Part-taken (bs : List ℕ) (p : Progress) (i : ℕ) (r : Progress) : Type 0 where
@@ -66,15 +94,6 @@ pub record Parting (bs : List ℕ) (n j : ℕ) (p : Progress) : Type 0 where
   pub below : j ≤ suc n
   pub going : Going bs (suc j) n (stack (strips-read (lines bs) n j) (replicate n [])) p
   pub rest : parts-refusal (suc n) 1 (lines bs) ≡ parts-refusal (suc n - j) (suc j) (lines bs)
-
-pub record Parts-taken (bs : List ℕ) (n : ℕ) (r : Progress) : Type 0 where
-  pub outcome : refusal-of (r .outcome) ≡ parts-refusal (suc n) 1 (lines bs)
-  pub going : refusal-of (r .outcome) .number ≡ 0 → Going bs (n + 2) n (stack (strips-in (suc n) 0 (lines bs)) (replicate n [])) r
-
--- the NETS lines are due
-pub record Nets-due (bs : List ℕ) (p : Progress) : Type 0 where
-  pub few : k-of (lines bs) ≤ 8
-  pub going : Going bs (k-of (lines bs) + 2) (k-of (lines bs)) (stack (strips-in (suc (k-of (lines bs))) 0 (lines bs)) (replicate (k-of (lines bs)) [])) p
 
 -- one NETS line: the channel between strips c and c + 1
 pub record Nets-taken (bs : List ℕ) (p : Progress) (c : ℕ) (r : Progress) : Type 0 where
@@ -93,9 +112,11 @@ pub record Wiring (bs : List ℕ) (n c : ℕ) (p : Progress) : Type 0 where
   pub going : Going bs (n + 2 + c) n (stack (strips-in (suc n) 0 (lines bs)) (channels-read (lines bs) n c)) p
   pub rest : all-nets-refusal n 0 (n + 2) (lines bs) ≡ all-nets-refusal (n - c) c (n + 2 + c) (lines bs)
 
-pub record All-nets-taken (bs : List ℕ) (n : ℕ) (r : Progress) : Type 0 where
-  pub outcome : refusal-of (r .outcome) ≡ all-nets-refusal n 0 (n + 2) (lines bs)
-  pub going : refusal-of (r .outcome) .number ≡ 0 → Going bs (n + 2 + n) n (stack (strips-in (suc n) 0 (lines bs)) (channels-in n (n + 2) (lines bs))) r
+-- the reading that ends: the stack read, or that of one channel without pairs
+pub record Reading-of (p : Progress) (r : Reading) : Type 0 where
+  pub outcome : r .outcome ≡ p .outcome
+  pub stack : is-accepted (p .outcome) ≡ true → r .stack ≡ p .stack
+  pub bare : is-accepted (p .outcome) ≡ false → stack-of (r .stack) ≡ bare 1
 
 -- THE READING of a text: document 01's refusal of it, the stack in it where it is not refused, and a stack within the limits in every case
 pub record Stack-read (bs : List ℕ) (r : Reading) : Type 0 where

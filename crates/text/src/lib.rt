@@ -1,11 +1,11 @@
 // Reading a stack's text: its lines, fields and numbers, and document 01's refusals 1 to 6.
 ghost use mathlib.Core.Path.{_≡_};
 ghost use mathlib.Core.List.{[]};
-ghost use Prim.Native.Nat.{suc, _^_, _≤_, _<_};
+ghost use Prim.Native.Nat.{suc, _+_, _*_, _^_, _≤_, _<_};
 ghost use lib.ListN.{length, set};
 ghost use Rattle.stack.specs.Value.{stack-of};
 ghost use Rattle.stack.specs.Made.{bare};
-ghost use Rattle.text.specs.Text.{line, lines, k-of, is-digit, same-bytes};
+ghost use Rattle.text.specs.Text.{line, is-digit, same-bytes};
 ghost use Rattle.text.specs.Outcome.{number-of, refusal-of, is-accepted, refused};
 ghost use Rattle.text.specs.Cut.{run};
 ghost use Rattle.text.specs.Numbers.{
@@ -23,11 +23,11 @@ ghost use Rattle.text.specs.Driver.{
   Line-from,
   Head-taken,
   Part-taken,
-  Parts-due,
   Parts-taken,
   Nets-taken,
-  Nets-due,
   All-nets-taken,
+  End-taken,
+  Reading-of,
   Stack-read,
 };
 use stack::Columns;
@@ -477,9 +477,13 @@ fn take_part(text: &[u8], p: Progress, i: usize) -> Progress
 
 // All PART lines.
 fn take_parts(text: &[u8], head: Progress) -> Progress
-    requires { ⌜ Parts-due (now text) head ⌝ }
-    ensures { λ r. ⌜ Parts-taken (now (text .entry)) (k-of (lines (now (text .entry)))) r ⌝ }
+    requires { ⌜ Head-taken (now text) head ⌝ }
+    ensures { λ r. ⌜ Parts-taken (now (text .entry)) r ⌝ }
 {
+    let found = head.outcome;
+    if !found.is_accepted() {
+        return head;
+    }
     let mut p = head;
     let strips = head.stack.count + 1;
     for i in 0..strips {
@@ -517,9 +521,13 @@ fn take_nets(text: &[u8], p: Progress, c: usize) -> Progress
 
 // All NETS lines.
 fn take_all_nets(text: &[u8], parts: Progress) -> Progress
-    requires { ⌜ Nets-due (now text) parts ⌝ }
-    ensures { λ r. ⌜ All-nets-taken (now (text .entry)) (k-of (lines (now (text .entry)))) r ⌝ }
+    requires { ⌜ Parts-taken (now text) parts ⌝ }
+    ensures { λ r. ⌜ All-nets-taken (now (text .entry)) r ⌝ }
 {
+    let found = parts.outcome;
+    if !found.is_accepted() {
+        return parts;
+    }
     let mut p = parts;
     let channels = parts.stack.count;
     for c in 0..channels {
@@ -530,6 +538,46 @@ fn take_all_nets(text: &[u8], parts: Progress) -> Progress
         }
     }
     p
+}
+
+// The number of the line behind the last one of a stack with k channels.
+fn line_behind(k: usize) -> u32
+    requires { ⌜ k ≤ 8 ⌝ }
+    ensures { λ r. ⌜ r ≡ 2 * k + 3 ⌝ }
+{
+    2 * k as u32 + 3
+}
+
+// The text's end: a further line is refused.
+fn take_end(text: &[u8], nets: Progress) -> Progress
+    requires { ⌜ All-nets-taken (now text) nets ⌝ }
+    ensures { λ r. ⌜ End-taken (now (text .entry)) r ⌝ }
+{
+    let found = nets.outcome;
+    if !found.is_accepted() {
+        return nets;
+    }
+    let at = nets.at;
+    let stack = nets.stack;
+    if at < text.len() {
+        let outcome = Outcome::refused(Refusal::Layout, line_behind(stack.count), 0);
+        return Progress { outcome, at, stack };
+    }
+    nets
+}
+
+impl Progress {
+    // The stack read, or on a refusal that of one channel without pairs.
+    fn reading(self) -> Reading
+        ensures { λ r. ⌜ Reading-of self r ⌝ }
+    {
+        let outcome = self.outcome;
+        if !outcome.is_accepted() {
+            return Reading::refused(outcome);
+        }
+        let stack = self.stack;
+        Reading { outcome, stack }
+    }
 }
 
 impl Reading {
@@ -553,27 +601,8 @@ pub fn read_stack(text: &[u8]) -> Reading
         return Reading::refused(Outcome::refused(Refusal::Overlong, 0, 0));
     }
     let head = take_head(text);
-    let head_outcome = head.outcome;
-    if !head_outcome.is_accepted() {
-        return Reading::refused(head_outcome);
-    }
     let parts = take_parts(text, head);
-    let parts_outcome = parts.outcome;
-    if !parts_outcome.is_accepted() {
-        return Reading::refused(parts_outcome);
-    }
     let nets = take_all_nets(text, parts);
-    let nets_outcome = nets.outcome;
-    if !nets_outcome.is_accepted() {
-        return Reading::refused(nets_outcome);
-    }
-    let stack = nets.stack;
-    if nets.at < text.len() {
-        let extra = 2 * stack.count as u32 + 3;
-        return Reading::refused(Outcome::refused(Refusal::Layout, extra, 0));
-    }
-    Reading {
-        outcome: Outcome::Accepted,
-        stack,
-    }
+    let end = take_end(text, nets);
+    end.reading()
 }

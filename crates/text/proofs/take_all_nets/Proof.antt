@@ -6,6 +6,7 @@ use borrow.Author.Tests.{not-true, not-false}
 use Rattle.text.specs.Text.{lines, k-of}
 use Rattle.text.specs.Driver.{Wiring}
 use Rattle.text.proofs.Stages.{wiring-starts, wiring-steps, wiring-refuses, wiring-ends}
+use Rattle.text.proofs.Whole.{nets-stay, nets-go-on, nets-then}
 use borrow.Author.Needs.{needs}
 use Rattle.text.proofs.take_all_nets.Statement.{statement}
 use Rattle.text.proofs.take_all_nets.Tie as tie
@@ -16,30 +17,44 @@ Inv-loop text p₀ channels c₀ p c = Wiring text (k-of (lines text)) c p
 abbrev μ-loop : tie.MeasureT-loop
 μ-loop text p₀ channels c₀ p c = channels - c
 
-loop-holds : tie.Need-loop-holds Inv-loop μ-loop
-loop-holds c =
-    let start = c .before in
-    wiring-starts (start .args .text .now) (start .args .parts) (start .pre)
-
-take-nets-requires : tie.Need-take-nets-requires Inv-loop μ-loop
-take-nets-requires c κs =
-    let start = c .before .before .before in
-    let loop = c .before .loop in
-    let loop-test = c .loop-test in
-    omega (arith, loop .inv .going .within, loop .inv .going .count, loop-test .taken, start .pre .few, start .pre .going .count)
-
 is-accepted-requires : tie.Need-is-accepted-requires Inv-loop μ-loop
 is-accepted-requires c κs = search needs
 
 returns : tie.Need-returns Inv-loop μ-loop
 returns c =
-    let start = c .before .before .before .before .before .before in
-    let loop = c .before .before .before .before .loop in
-    let loop-test = c .before .before .before .loop-test in
-    let take-nets = c .before .before .take-nets in
+    let start = c .before .before .before in
     let is-accepted = c .before .is-accepted in
     let if1 = c .if1 in
-    wiring-refuses (start .args .text .now) (k-of (lines (start .args .text .now))) (loop .c) (loop .p) (take-nets .result) (omega (arith, loop-test .taken, start .pre .going .count)) (loop .inv) (take-nets .ensures) (sym (is-accepted .ensures) ∙ not-true _ (if1 .taken))
+    nets-stay (start .args .text .now) (start .args .parts) (start .pre) (sym (is-accepted .ensures) ∙ not-true _ (if1 .taken))
+
+loop-holds : tie.Need-loop-holds Inv-loop μ-loop
+loop-holds c =
+    let start = c .before .before .before in
+    let is-accepted = c .before .is-accepted in
+    let if1 = c .if1 in
+    wiring-starts (start .args .text .now) (k-of (lines (start .args .text .now))) (start .args .parts) (nets-go-on (start .args .text .now) (start .args .parts) (start .pre) (sym (is-accepted .ensures) ∙ not-false _ (if1 .left)))
+
+take-nets-requires : tie.Need-take-nets-requires Inv-loop μ-loop
+take-nets-requires c κs =
+    let start = c .before .before .before .before .before in
+    let is-accepted = c .before .before .before .is-accepted in
+    let if1 = c .before .before .if1 in
+    let loop = c .before .loop in
+    omega (arith, nets-go-on (start .args .text .now) (start .args .parts) (start .pre) (sym (is-accepted .ensures) ∙ not-false _ (if1 .left)) .count, loop .inv .going .within, loop .inv .going .count, loop .inv .going .few)
+
+is-accepted-requires-2 : tie.Need-is-accepted-requires-2 Inv-loop μ-loop
+is-accepted-requires-2 c κs = search needs
+
+returns-2 : tie.Need-returns-2 Inv-loop μ-loop
+returns-2 c =
+    let start = c .before .before .before .before .before .before .before .before in
+    let is-accepted = c .before .before .before .before .before .before .is-accepted in
+    let if1 = c .before .before .before .before .before .if1 in
+    let loop = c .before .before .before .before .loop in
+    let take-nets = c .before .before .take-nets in
+    let is-accepted2 = c .before .is-accepted2 in
+    let if2 = c .if2 in
+    nets-then (start .args .text .now) (start .args .parts) (start .pre) (sym (is-accepted .ensures) ∙ not-false _ (if1 .left)) (take-nets .result) (wiring-refuses (start .args .text .now) (k-of (lines (start .args .text .now))) (loop .c) (loop .p) (take-nets .result) (omega (arith, nets-go-on (start .args .text .now) (start .args .parts) (start .pre) (sym (is-accepted .ensures) ∙ not-false _ (if1 .left)) .count)) (loop .inv) (take-nets .ensures) (sym (is-accepted2 .ensures) ∙ not-true _ (if2 .taken)))
 
 add-c : tie.Need-add-c Inv-loop μ-loop
 add-c c = search needs
@@ -49,20 +64,22 @@ loop-less c = search needs
 
 loop-again : tie.Need-loop-again Inv-loop μ-loop
 loop-again c =
-    let start = c .before .before .before .before .before .before in
+    let start = c .before .before .before .before .before .before .before .before in
+    let is-accepted = c .before .before .before .before .before .before .is-accepted in
+    let if1 = c .before .before .before .before .before .if1 in
     let loop = c .before .before .before .before .loop in
-    let loop-test = c .before .before .before .loop-test in
     let take-nets = c .before .before .take-nets in
-    let is-accepted = c .before .is-accepted in
-    let if1 = c .if1 in
-    wiring-steps (start .args .text .now) (k-of (lines (start .args .text .now))) (loop .c) (loop .p) (take-nets .result) (omega (arith, loop-test .taken, start .pre .going .count)) (loop .inv) (take-nets .ensures) (sym (is-accepted .ensures) ∙ not-false _ (if1 .left))
+    let is-accepted2 = c .before .is-accepted2 in
+    let if2 = c .if2 in
+    wiring-steps (start .args .text .now) (k-of (lines (start .args .text .now))) (loop .c) (loop .p) (take-nets .result) (omega (arith, nets-go-on (start .args .text .now) (start .args .parts) (start .pre) (sym (is-accepted .ensures) ∙ not-false _ (if1 .left)) .count)) (loop .inv) (take-nets .ensures) (sym (is-accepted2 .ensures) ∙ not-false _ (if2 .left))
 
-returns-2 : tie.Need-returns-2 Inv-loop μ-loop
-returns-2 c =
-    let start = c .before .before .before in
+returns-3 : tie.Need-returns-3 Inv-loop μ-loop
+returns-3 c =
+    let start = c .before .before .before .before .before in
+    let is-accepted = c .before .before .before .is-accepted in
+    let if1 = c .before .before .if1 in
     let loop = c .before .loop in
-    let loop-test = c .loop-test in
-    wiring-ends (start .args .text .now) (k-of (lines (start .args .text .now))) (loop .c) (loop .p) (omega (arith, loop-test .left, start .pre .going .count)) (loop .inv)
+    nets-then (start .args .text .now) (start .args .parts) (start .pre) (sym (is-accepted .ensures) ∙ not-false _ (if1 .left)) (loop .p) (wiring-ends (start .args .text .now) (k-of (lines (start .args .text .now))) (loop .c) (loop .p) (omega (arith, nets-go-on (start .args .text .now) (start .args .parts) (start .pre) (sym (is-accepted .ensures) ∙ not-false _ (if1 .left)) .count)) (loop .inv))
 
 pub take-all-nets-spec : {M : Type 1} → statement M
 take-all-nets-spec =
@@ -70,11 +87,13 @@ take-all-nets-spec =
     (tie.spec
     Inv-loop
     μ-loop
-    loop-holds
-    take-nets-requires
     is-accepted-requires
     returns
+    loop-holds
+    take-nets-requires
+    is-accepted-requires-2
+    returns-2
     add-c
     loop-less
     loop-again
-    returns-2)
+    returns-3)

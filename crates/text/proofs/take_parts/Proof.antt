@@ -6,6 +6,7 @@ use borrow.Author.Tests.{not-true, not-false}
 use Rattle.text.specs.Text.{lines, k-of}
 use Rattle.text.specs.Driver.{Parting}
 use Rattle.text.proofs.Stages.{parting-starts, parting-steps, parting-refuses, parting-ends}
+use Rattle.text.proofs.Whole.{parts-stay, parts-go-on, parts-then}
 use borrow.Author.Needs.{needs}
 use Rattle.text.proofs.take_parts.Statement.{statement}
 use Rattle.text.proofs.take_parts.Tie as tie
@@ -16,33 +17,51 @@ Inv-loop text p₀ strips i₀ p i = Parting text (k-of (lines text)) i p
 abbrev μ-loop : tie.MeasureT-loop
 μ-loop text p₀ strips i₀ p i = strips - i
 
-add-strips : tie.Need-add-strips Inv-loop μ-loop
-add-strips c = omega (arith, c .before .before .pre .few, c .before .before .pre .going .count)
-
-loop-holds : tie.Need-loop-holds Inv-loop μ-loop
-loop-holds c =
-    let start = c .before .before in
-    parting-starts (start .args .text .now) (start .args .head) (start .pre)
-
-take-part-requires : tie.Need-take-part-requires Inv-loop μ-loop
-take-part-requires c κs =
-    let start = c .before .before .before .before in
-    let loop = c .before .loop in
-    let loop-test = c .loop-test in
-    omega (arith, loop .inv .going .within, loop .inv .going .count, loop-test .taken, start .pre .few, start .pre .going .count)
-
 is-accepted-requires : tie.Need-is-accepted-requires Inv-loop μ-loop
 is-accepted-requires c κs = search needs
 
 returns : tie.Need-returns Inv-loop μ-loop
 returns c =
-    let start = c .before .before .before .before .before .before .before in
-    let loop = c .before .before .before .before .loop in
-    let loop-test = c .before .before .before .loop-test in
-    let take-part = c .before .before .take-part in
+    let start = c .before .before .before in
     let is-accepted = c .before .is-accepted in
     let if1 = c .if1 in
-    parting-refuses (start .args .text .now) (k-of (lines (start .args .text .now))) (loop .i) (loop .p) (take-part .result) (omega (arith, loop-test .taken, start .pre .going .count)) (loop .inv) (take-part .ensures) (sym (is-accepted .ensures) ∙ not-true _ (if1 .taken))
+    parts-stay (start .args .text .now) (start .args .head) (start .pre) (sym (is-accepted .ensures) ∙ not-true _ (if1 .taken))
+
+add-strips : tie.Need-add-strips Inv-loop μ-loop
+add-strips c =
+    let start = c .before .before .before .before in
+    let is-accepted = c .before .before .is-accepted in
+    let if1 = c .before .if1 in
+    omega (arith, parts-go-on (start .args .text .now) (start .args .head) (start .pre) (sym (is-accepted .ensures) ∙ not-false _ (if1 .left)) .count, parts-go-on (start .args .text .now) (start .args .head) (start .pre) (sym (is-accepted .ensures) ∙ not-false _ (if1 .left)) .few)
+
+loop-holds : tie.Need-loop-holds Inv-loop μ-loop
+loop-holds c =
+    let start = c .before .before .before .before in
+    let is-accepted = c .before .before .is-accepted in
+    let if1 = c .before .if1 in
+    parting-starts (start .args .text .now) (k-of (lines (start .args .text .now))) (start .args .head) (parts-go-on (start .args .text .now) (start .args .head) (start .pre) (sym (is-accepted .ensures) ∙ not-false _ (if1 .left)))
+
+take-part-requires : tie.Need-take-part-requires Inv-loop μ-loop
+take-part-requires c κs =
+    let start = c .before .before .before .before .before .before in
+    let is-accepted = c .before .before .before .before .is-accepted in
+    let if1 = c .before .before .before .if1 in
+    let loop = c .before .loop in
+    omega (arith, parts-go-on (start .args .text .now) (start .args .head) (start .pre) (sym (is-accepted .ensures) ∙ not-false _ (if1 .left)) .count, loop .inv .going .within, loop .inv .going .count, loop .inv .going .few)
+
+is-accepted-requires-2 : tie.Need-is-accepted-requires-2 Inv-loop μ-loop
+is-accepted-requires-2 c κs = search needs
+
+returns-2 : tie.Need-returns-2 Inv-loop μ-loop
+returns-2 c =
+    let start = c .before .before .before .before .before .before .before .before .before in
+    let is-accepted = c .before .before .before .before .before .before .before .is-accepted in
+    let if1 = c .before .before .before .before .before .before .if1 in
+    let loop = c .before .before .before .before .loop in
+    let take-part = c .before .before .take-part in
+    let is-accepted2 = c .before .is-accepted2 in
+    let if2 = c .if2 in
+    parts-then (start .args .text .now) (start .args .head) (start .pre) (sym (is-accepted .ensures) ∙ not-false _ (if1 .left)) (take-part .result) (parting-refuses (start .args .text .now) (k-of (lines (start .args .text .now))) (loop .i) (loop .p) (take-part .result) (omega (arith, parts-go-on (start .args .text .now) (start .args .head) (start .pre) (sym (is-accepted .ensures) ∙ not-false _ (if1 .left)) .count)) (loop .inv) (take-part .ensures) (sym (is-accepted2 .ensures) ∙ not-true _ (if2 .taken)))
 
 add-i : tie.Need-add-i Inv-loop μ-loop
 add-i c = search needs
@@ -52,20 +71,22 @@ loop-less c = search needs
 
 loop-again : tie.Need-loop-again Inv-loop μ-loop
 loop-again c =
-    let start = c .before .before .before .before .before .before .before in
+    let start = c .before .before .before .before .before .before .before .before .before in
+    let is-accepted = c .before .before .before .before .before .before .before .is-accepted in
+    let if1 = c .before .before .before .before .before .before .if1 in
     let loop = c .before .before .before .before .loop in
-    let loop-test = c .before .before .before .loop-test in
     let take-part = c .before .before .take-part in
-    let is-accepted = c .before .is-accepted in
-    let if1 = c .if1 in
-    parting-steps (start .args .text .now) (k-of (lines (start .args .text .now))) (loop .i) (loop .p) (take-part .result) (omega (arith, loop-test .taken, start .pre .going .count)) (loop .inv) (take-part .ensures) (sym (is-accepted .ensures) ∙ not-false _ (if1 .left))
+    let is-accepted2 = c .before .is-accepted2 in
+    let if2 = c .if2 in
+    parting-steps (start .args .text .now) (k-of (lines (start .args .text .now))) (loop .i) (loop .p) (take-part .result) (omega (arith, parts-go-on (start .args .text .now) (start .args .head) (start .pre) (sym (is-accepted .ensures) ∙ not-false _ (if1 .left)) .count)) (loop .inv) (take-part .ensures) (sym (is-accepted2 .ensures) ∙ not-false _ (if2 .left))
 
-returns-2 : tie.Need-returns-2 Inv-loop μ-loop
-returns-2 c =
-    let start = c .before .before .before .before in
+returns-3 : tie.Need-returns-3 Inv-loop μ-loop
+returns-3 c =
+    let start = c .before .before .before .before .before .before in
+    let is-accepted = c .before .before .before .before .is-accepted in
+    let if1 = c .before .before .before .if1 in
     let loop = c .before .loop in
-    let loop-test = c .loop-test in
-    parting-ends (start .args .text .now) (k-of (lines (start .args .text .now))) (loop .i) (loop .p) (omega (arith, loop-test .left, start .pre .going .count)) (loop .inv)
+    parts-then (start .args .text .now) (start .args .head) (start .pre) (sym (is-accepted .ensures) ∙ not-false _ (if1 .left)) (loop .p) (parting-ends (start .args .text .now) (k-of (lines (start .args .text .now))) (loop .i) (loop .p) (omega (arith, parts-go-on (start .args .text .now) (start .args .head) (start .pre) (sym (is-accepted .ensures) ∙ not-false _ (if1 .left)) .count)) (loop .inv))
 
 pub take-parts-spec : {M : Type 1} → statement M
 take-parts-spec =
@@ -73,12 +94,14 @@ take-parts-spec =
     (tie.spec
     Inv-loop
     μ-loop
+    is-accepted-requires
+    returns
     add-strips
     loop-holds
     take-part-requires
-    is-accepted-requires
-    returns
+    is-accepted-requires-2
+    returns-2
     add-i
     loop-less
     loop-again
-    returns-2)
+    returns-3)
