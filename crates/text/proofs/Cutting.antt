@@ -58,7 +58,8 @@ first-line [] = refl
 first-line (x ∷ xs) = go (eqb x 10) (first-line xs)
   where
     go : (v : Bool) → line-at (lines xs) 0 ≡ line (take (run 10 xs) xs) (ltb (run 10 xs) (length xs)) →
-        line-at (cond v (line [] true ∷ lines xs) (to-front x (lines xs))) 0 ≡ line (take (cond v 0 (suc (run 10 xs))) (x ∷ xs)) (ltb (cond v 0 (suc (run 10 xs))) (suc (length xs)))
+        line-at (cond v (line [] true ∷ lines xs) (to-front x (lines xs))) 0
+        ≡ line (take (cond v 0 (suc (run 10 xs))) (x ∷ xs)) (ltb (cond v 0 (suc (run 10 xs))) (suc (length xs)))
     go true e = rw (lt-ltb 0 (suc (length xs)) (omega arith))
     go false e = front-first x (lines xs) ∙ rw (e, leb·suc-suc (suc (run 10 xs)) (length xs))
 
@@ -67,7 +68,8 @@ unfolding lines run
 other-lines [] = refl
 other-lines (x ∷ xs) = go (eqb x 10) (other-lines xs)
   where
-    go : (v : Bool) → drop 1 (lines xs) ≡ lines (drop (suc (run 10 xs)) xs) → drop 1 (cond v (line [] true ∷ lines xs) (to-front x (lines xs))) ≡ lines (drop (cond v 0 (suc (run 10 xs))) xs)
+    go : (v : Bool) → drop 1 (lines xs) ≡ lines (drop (suc (run 10 xs)) xs) →
+        drop 1 (cond v (line [] true ∷ lines xs) (to-front x (lines xs))) ≡ lines (drop (cond v 0 (suc (run 10 xs))) xs)
     go true e = refl
     go false e = front-rest x (lines xs) ∙ e
 

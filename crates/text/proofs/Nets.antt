@@ -95,7 +95,8 @@ some-before (suc n) = rw (le-leb 1 (suc n) (omega arith), ne-eqb (suc n) 0 (omeg
 
 step-cases : (i n : ℕ) (a b c d : Bool) (f : TerminalsFound) (r : Refusal) → found-refusal i f ≡ r →
     found-refusal i (or-fault (cond a (Overhang (2 * n)) (cond b (Crossing (2 * n)) (cond c (Overhang (2 * n + 1)) (cond d (Crossing (2 * n + 1)) Good)))) f)
-    ≡ cond a (refusal 5 (suc i) (2 * n + 2)) (cond b (refusal 6 (suc i) (2 * n + 2)) (cond c (refusal 5 (suc i) (suc (2 * n + 2))) (cond d (refusal 6 (suc i) (suc (2 * n + 2))) r)))
+    ≡ cond a (refusal 5 (suc i) (2 * n + 2)) (cond b (refusal 6 (suc i) (2 * n + 2))
+    (cond c (refusal 5 (suc i) (suc (2 * n + 2))) (cond d (refusal 6 (suc i) (suc (2 * n + 2))) r)))
 unfolding or-fault
 step-cases i n true b c d f r e = refl
 step-cases i n false true c d f r e = refl

@@ -20,7 +20,7 @@ use Rattle.text.specs.Text.{refusal, fine, Line, line, lines, line-at, s
 use Rattle.text.specs.Outcome.{number-of, refusal-of, is-accepted}
 use Rattle.text.specs.Cut.{run}
 use Rattle.text.specs.Kinds.{Head-read, Part-read, channel-refusal, Nets-read}
-use Rattle.text.specs.Driver.{Line-from, line-from, Next, Head-taken, Part-taken, Nets-taken}
+use Rattle.text.specs.Driver.{Line-from, line-from, Next, Going, Head-taken, Part-taken, Nets-taken}
 use Rattle.text.specs.declared.Refusal.{Refusal as Why}
 use Rattle.text.specs.declared.Refusal.the-variants.{Overlong, Layout, Crowd, Length, Overhang, Crossing, Narrow, ShortSpace}
 use Rattle.text.specs.declared.Outcome.{Outcome}
@@ -110,26 +110,33 @@ module _ (bs : List ℕ) (e : LineEnd) (m : Line-from bs 0 e) where
   unfolding k-of line-at
   k-of-first = refl
 
-  pub head-taken : (r : Reading) → Head-read (line (take (e .end - 0) (drop 0 bs)) (e .ended)) r →
-      Head-taken bs (record { outcome = r .outcome; at = e .end + 1; stack = r .stack })
-  head-taken r h =
-      let here : 0 ≤ length bs = omega arith in
-      let there : Head-read (line-from bs 0) r = rw (line-there bs 0 e here m) h in
-      let says : refusal-of (r .outcome) ≡ head-refusal (lines bs) = there .outcome ∙ sym head-of-first in
-      record {
-        outcome = says;
-        going = λ z.
-            let next = next-there bs 0 e here m (shape-ended (line-from bs 0) _ _ (head-says (lines bs) z .layout)) in
-            let count : r .stack .count ≡ k-of (lines bs) = there .count (rw head-of-first at z) ∙ sym k-of-first in
-            record {
-              accepted = number-fine (r .outcome) (rw says z);
-              within = next .within;
-              rest = next .rest;
-              few = leb-true (k-of (lines bs)) 8 (head-says (lines bs) z .upto);
-              count = count;
-              stands = there .bare ∙ rw count;
-            };
-      }
+  module _ (r : Reading) (h : Head-read (line (take (e .end - 0) (drop 0 bs)) (e .ended)) r) where
+    here : 0 ≤ length bs
+    here = omega arith
+
+    head-there : Head-read (line-from bs 0) r
+    head-there = rw (line-there bs 0 e here m) h
+
+    head-outcome : refusal-of (r .outcome) ≡ head-refusal (lines bs)
+    head-outcome = head-there .outcome ∙ sym head-of-first
+
+    head-going : head-refusal (lines bs) .number ≡ 0 →
+        Going bs 1 (k-of (lines bs)) (bare (k-of (lines bs))) (record { outcome = r .outcome; at = e .end + 1; stack = r .stack })
+    head-going z =
+        let says = head-says (lines bs) z in
+        let next = next-there bs 0 e here m (shape-ended (line-from bs 0) _ _ (says .layout)) in
+        let count : r .stack .count ≡ k-of (lines bs) = head-there .count (rw head-of-first at z) ∙ sym k-of-first in
+        record {
+          accepted = number-fine (r .outcome) (rw head-outcome z);
+          within = next .within;
+          rest = next .rest;
+          few = leb-true (k-of (lines bs)) 8 (says .upto);
+          count = count;
+          stands = head-there .bare ∙ rw count;
+        }
+
+    pub head-taken : Head-taken bs (record { outcome = r .outcome; at = e .end + 1; stack = r .stack })
+    head-taken = record { outcome = head-outcome; going = head-going }
 
 -- a strip's length
 length-of : (k : Stack-struct) (i : ℕ) → i ≤ k .count → getD (k .strips) i (strip 0) .length .0 ≡ getD (stack-of k .strips) i 0

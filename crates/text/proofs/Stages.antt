@@ -134,7 +134,8 @@ parting-ends bs n j p past m =
     let e : j ≡ suc n = omega (arith, m .below) in
     let none : suc n - suc n ≡ 0 = omega arith in
     let last : n + 2 ≡ suc (suc n) = omega arith in
-    let full : strips-read (lines bs) n (suc n) ≡ strips-in (suc n) 0 (lines bs) = filled-whole (suc n) (λ i. length-at (lines bs) i) 1 ∙ strips-tabulated (suc n) 0 (lines bs) in
+    let full : strips-read (lines bs) n (suc n) ≡ strips-in (suc n) 0 (lines bs) =
+    filled-whole (suc n) (λ i. length-at (lines bs) i) 1 ∙ strips-tabulated (suc n) 0 (lines bs) in
     record {
       outcome = m .going .accepted ∙ sym (m .rest ∙ rw (e, none));
       going = λ z. rw (last, ← full) (rw e at (m .going));

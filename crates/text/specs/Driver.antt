@@ -1,4 +1,5 @@
--- How far a text has been read: what holds after its first lines, and what reading the next line, or all lines of a kind, adds. Assumes nothing: these are definitions.
+-- How far a text has been read: what holds after its first lines, and what reading the next line, or all lines of a kind, adds.
+-- Assumes nothing: these are definitions.
 use mathlib.Core.Path.{_≡_}
 use mathlib.Core.Bool.{true, false, cond}
 use mathlib.Core.List.{List, []}
@@ -18,7 +19,7 @@ use Rattle.text.specs.declared.LineEnd.{LineEnd}
 use Rattle.text.specs.declared.Progress.{Progress}
 use Rattle.text.specs.declared.Reading.{Reading}
 
--- the line that begins at a place
+-- the end of the line that begins at a place
 pub record Line-from (bs : List ℕ) (at : ℕ) (r : LineEnd) : Type 0 where
   pub end : r .end ≡ at + run 10 (drop at bs)
   pub within : r .end ≤ length bs
