@@ -255,9 +255,10 @@ module _ (k : Stack-struct) (s : ℕ) (lows highs : List (List ℕ)) (counts upt
     cap-small = made-scan-asks cap c .total
 
     pub made-place-asks : Place-asks made (k .count) (r .total) × Separate-asks made (k .count) (r .total) (r .above) froms uptos₁
-    made-place-asks =
-        (rw (stack-channels k) at (place-asks (stack-of k) s made stands fits wide (r .total) total-is (omega (arith, total-small, cap-small))),
-        scan-separate-asks made (k .count) cap froms uptos₁ r (made-scan-asks cap c .stack) i total-small cap-small)
+    made-place-asks = (
+      rw (stack-channels k) at (place-asks (stack-of k) s made stands fits wide (r .total) total-is (omega (arith, total-small, cap-small))),
+      scan-separate-asks made (k .count) cap froms uptos₁ r (made-scan-asks cap c .stack) i total-small cap-small,
+    )
 
     pub made-answers : (p : Placement) → Placement-is made (k .count) (r .total) p → Answer-is (stack-of k) s p
     made-answers p q = placement-answers (stack-of k) s made stands fits wide (r .total) p total-is (rw (stack-channels k) q)

@@ -1,0 +1,263 @@
+-- NETS: the first fault that the constructor of terminals finds is document 01's refusal of the line, place n in p(0), q(0), p(1), q(1), .. being field n + 2.
+-- By induction on the pairs, with the pairs before them as the constructor keeps them. Assumes nothing.
+use mathlib.Core.Path.{_≡_, refl, ap, sym, _∙_}
+use mathlib.Core.Bool.{Bool, true, false, _&&_, not, cond}
+use mathlib.Core.List.{List, [], _∷_, _++_}
+use Prim.Native.Nat.{ℕ, zero, suc, _+_, _*_, _-_, _/_, _%_, _≤_, _<_}
+use native.Mathlib.Numerals.{add-one}
+use native.Mathlib.Omega.{arith}
+use lib.Dec.{ltb, leb, eqb}
+use lib.ListN.{length, getD, drop, length-append}
+use lib.Seq.{ext-getD, getD-append-seam}
+use borrow.Author.Tests.{leb-false, lt-ltb, le-ltb, ltb-true, ltb-false, le-leb, lt-leb, eq-eqb, ne-eqb}
+use Rattle.numbers.proofs.Bools.{ands}
+use Rattle.numbers.proofs.Lists.{getD-tabulate}
+use Rattle.stack.specs.Stack.{Pair, pair, p-at, q-at}
+use Rattle.stack.specs.Value.{channel-of}
+use Rattle.stack.specs.Made.{not-above, pair-found, or-fault, pairs-found, terminals-found, kept, pairs-in, Terminals-made}
+use Rattle.stack.proofs.Found.{pairs-in-length}
+use Rattle.stack.specs.declared.Terminals.{Terminals}
+use Rattle.stack.specs.declared.TerminalsFound.{TerminalsFound}
+use Rattle.stack.specs.declared.TerminalsFound.the-variants.{Good, Crowd, Overhang, Crossing}
+use Rattle.stack.specs.declared.TerminalsMade.{TerminalsMade}
+use Rattle.text.specs.Text.{Refusal, refusal, fine, Line, fields, all-numbers, values, nets-word, numbers-of, shape, terminals-refusal, pairs-of}
+use Rattle.text.specs.Outcome.{refusal-of, refused}
+use Rattle.text.specs.Numbers.{in-places, worded, Line-read}
+use Rattle.text.specs.Kinds.{place, found-refusal, channel-refusal, Nets-read}
+use Rattle.text.specs.declared.Refusal.the-variants as why
+use Rattle.text.specs.declared.Numbers.{Numbers}
+use Rattle.text.specs.declared.Outcome.{Outcome}
+use Rattle.text.proofs.Fields.{getD-in-places, numbers-are, shape-by}
+use Rattle.text.proofs.Singles.{not-fine}
+
+-- THE PLACE of a fault is below 64
+module _ (c : List Pair) (lo hi p q : ℕ) where
+  place-cases : (a b d e f : Bool) → leb 32 (length c) ≡ a →
+      let n = length c in
+      place (cond a Crowd (cond b (Overhang (2 * n)) (cond d (Crossing (2 * n)) (cond e (Overhang (2 * n + 1)) (cond f (Crossing (2 * n + 1)) Good))))) < 64
+  place-cases true b d e f h = omega arith
+  place-cases false true d e f h = omega (arith, leb-false)
+  place-cases false false true e f h = omega (arith, leb-false)
+  place-cases false false false true f h = omega (arith, leb-false)
+  place-cases false false false false true h = omega (arith, leb-false)
+  place-cases false false false false false h = omega arith
+
+  place-pair : place (pair-found c lo hi p q) < 64
+  unfolding pair-found
+  place-pair =
+      let n = length c in
+      place-cases (leb 32 n) (ltb lo p) (not-above n (p-at c (n - 1)) p) (ltb hi q) (not-above n (q-at c (n - 1)) q) refl
+
+place-or : (f g : TerminalsFound) → place f < 64 → place g < 64 → place (or-fault f g) < 64
+unfolding or-fault
+place-or Good g a b = b
+place-or Crowd g a b = a
+place-or (Overhang n) g a b = a
+place-or (Crossing n) g a b = a
+
+place-pairs : (c : List Pair) (lo hi : ℕ) (xs : List Pair) → place (pairs-found c lo hi xs) < 64
+unfolding pairs-found
+place-pairs c lo hi [] = omega arith
+place-pairs c lo hi (x ∷ xs) = place-or (pair-found c lo hi (x .p) (x .q)) _ (place-pair c lo hi (x .p) (x .q)) (place-pairs (c ++ (x ∷ [])) lo hi xs)
+
+pub place-found : (lo hi : ℕ) (xs : List Pair) → place (terminals-found lo hi xs) < 64
+unfolding terminals-found
+place-found lo hi xs = go (ltb 32 (length xs))
+  where
+    go : (v : Bool) → place (cond v Crowd (pairs-found [] lo hi xs)) < 64
+    go true = omega arith
+    go false = place-pairs [] lo hi xs
+
+pub place-overhang : (f : TerminalsFound) (n : ℕ) → f ≡ Overhang n → place f < 64 → n < 64
+place-overhang f n e h = rw e at h
+
+pub place-crossing : (f : TerminalsFound) (n : ℕ) → f ≡ Crossing n → place f < 64 → n < 64
+place-crossing f n e h = rw e at h
+
+-- A REFUSAL at the fault
+module _ (i : ℕ) (f : TerminalsFound) (o : Outcome) where
+  pub told-good : f ≡ Good → fine ≡ found-refusal i f
+  told-good e = rw e
+
+  pub told-crowd : f ≡ Crowd → o ≡ refused why.Crowd (i + 1) 66 → refusal-of o ≡ found-refusal i f
+  told-crowd e h = rw (e, h, add-one i)
+
+  pub told-overhang : (n : ℕ) → f ≡ Overhang n → o ≡ refused why.Overhang (i + 1) (n + 2) → refusal-of o ≡ found-refusal i f
+  told-overhang n e h = rw (e, h, add-one i)
+
+  pub told-crossing : (n : ℕ) → f ≡ Crossing n → o ≡ refused why.Crossing (i + 1) (n + 2) → refusal-of o ≡ found-refusal i f
+  told-crossing n e h = rw (e, h, add-one i)
+
+-- THE FIRST FAULT
+some-before : (n : ℕ) → leb 1 n ≡ not (eqb n 0)
+some-before zero = refl
+some-before (suc n) = rw (le-leb 1 (suc n) (omega arith), ne-eqb (suc n) 0 (omega arith))
+
+step-cases : (i n : ℕ) (a b c d : Bool) (f : TerminalsFound) (r : Refusal) → found-refusal i f ≡ r →
+    found-refusal i (or-fault (cond a (Overhang (2 * n)) (cond b (Crossing (2 * n)) (cond c (Overhang (2 * n + 1)) (cond d (Crossing (2 * n + 1)) Good)))) f)
+    ≡ cond a (refusal 5 (suc i) (2 * n + 2)) (cond b (refusal 6 (suc i) (2 * n + 2))
+    (cond c (refusal 5 (suc i) (suc (2 * n + 2))) (cond d (refusal 6 (suc i) (suc (2 * n + 2))) r)))
+unfolding or-fault
+step-cases i n true b c d f r e = refl
+step-cases i n false true c d f r e = refl
+step-cases i n false false true d f r e = ap (λ k. refusal 5 (suc i) k) (omega arith)
+step-cases i n false false false true f r e = ap (λ k. refusal 6 (suc i) k) (omega arith)
+step-cases i n false false false false f r e = e
+
+pair-tests : (c : List Pair) (lo hi p q : ℕ) → length c < 32 →
+    let n = length c in
+    pair-found c lo hi p q
+    ≡ cond (ltb lo p) (Overhang (2 * n)) (cond (not (eqb n 0) && leb p (p-at c (n - 1))) (Crossing (2 * n))
+    (cond (ltb hi q) (Overhang (2 * n + 1)) (cond (not (eqb n 0) && leb q (q-at c (n - 1))) (Crossing (2 * n + 1)) Good)))
+unfolding pair-found not-above
+pair-tests c lo hi p q h = rw (lt-leb 32 (length c) h, some-before (length c))
+
+last-p : (c : List Pair) (x y : ℕ) → p-at (c ++ (pair x y ∷ [])) (length c) ≡ x
+unfolding p-at pair
+last-p c x y = ap (λ (z : Pair). z .p) (getD-append-seam c (pair x y) [] (pair 0 0))
+
+last-q : (c : List Pair) (x y : ℕ) → q-at (c ++ (pair x y ∷ [])) (length c) ≡ y
+unfolding q-at pair
+last-q c x y = ap (λ (z : Pair). z .q) (getD-append-seam c (pair x y) [] (pair 0 0))
+
+-- what is before the pairs that follow
+behind : (c : List Pair) (x y lo hi n : ℕ) (vs : List ℕ) →
+    let d = c ++ (pair x y ∷ []) in
+    terminals-refusal (2 * length d + 2) (eqb (length d) 0) (p-at d (length d - 1)) (q-at d (length d - 1)) lo hi n vs
+    ≡ terminals-refusal (2 * length c + 2 + 2) false x y lo hi n vs
+behind c x y lo hi n vs =
+    let long : length (c ++ (pair x y ∷ [])) ≡ suc (length c) = length-append c (pair x y ∷ []) ∙ add-one (length c) in
+    let field : 2 * suc (length c) + 2 ≡ 2 * length c + 2 + 2 = omega arith in
+    let last : suc (length c) - 1 ≡ length c = omega arith in
+    rw (long, field, ne-eqb (suc (length c)) 0 (omega arith), last, last-p c x y, last-q c x y)
+
+faults-refused : (i : ℕ) (c : List Pair) (lo hi : ℕ) (vs : List ℕ) → length c + length (pairs-of vs) ≤ 32 →
+    found-refusal i (pairs-found c lo hi (pairs-of vs))
+    ≡ terminals-refusal (2 * length c + 2) (eqb (length c) 0) (p-at c (length c - 1)) (q-at c (length c - 1)) lo hi (suc i) vs
+unfolding pairs-found pairs-of terminals-refusal pair
+faults-refused i c lo hi [] h = refl
+faults-refused i c lo hi (x ∷ []) h = refl
+faults-refused i c lo hi (x ∷ y ∷ vs) h =
+    let d = c ++ (pair x y ∷ []) in
+    let rest = faults-refused i d lo hi vs (omega (arith, length-append c (pair x y ∷ []))) ∙ behind c x y lo hi (suc i) vs in
+    let n = length c in
+    let left = not (eqb n 0) && leb x (p-at c (n - 1)) in
+    let right = not (eqb n 0) && leb y (q-at c (n - 1)) in
+    rw (pair-tests c lo hi x y (omega arith)) (step-cases i n (ltb lo x) left (ltb hi y) right (pairs-found d lo hi (pairs-of vs)) _ rest)
+
+-- THE PAIRS of a line's numbers
+pub pairs-length : (vs : List ℕ) → length (pairs-of vs) ≡ length vs / 2
+unfolding pairs-of
+pairs-length [] = refl
+pairs-length (x ∷ []) = refl
+pairs-length (x ∷ y ∷ vs) = omega (arith, pairs-length vs)
+
+pairs-at : (vs : List ℕ) (j : ℕ) → j < length vs / 2 → getD (pairs-of vs) j (pair 0 0) ≡ pair (getD vs (2 * j) 0) (getD vs (2 * j + 1) 0)
+unfolding pairs-of
+pairs-at [] j h = absurd (omega arith)
+pairs-at (x ∷ []) j h = absurd (omega arith)
+pairs-at (x ∷ y ∷ vs) zero h = refl
+pairs-at (x ∷ y ∷ vs) (suc j) h =
+    let even : 2 * suc j ≡ suc (suc (2 * j)) = omega arith in
+    let odd : 2 * suc j + 1 ≡ suc (suc (2 * j + 1)) = omega arith in
+    rw (odd, even) (pairs-at vs j (omega arith))
+
+-- the first 64 numbers hold 32 pairs
+pair-in-places : (vs : List ℕ) (j : ℕ) → length vs / 2 ≤ 32 → j < length vs / 2 →
+    getD (pairs-in (in-places 64 vs) (length vs / 2)) j (pair 0 0) ≡ getD (pairs-of vs) j (pair 0 0)
+unfolding pairs-in
+pair-in-places vs j few h =
+    let f : ℕ → Pair = λ j. pair (getD (in-places 64 vs) (2 * j) 0) (getD (in-places 64 vs) (2 * j + 1) 0) in
+    getD-tabulate (length vs / 2) j f (pair 0 0) h
+    ∙ rw (getD-in-places 64 (2 * j) vs (omega arith), getD-in-places 64 (2 * j + 1) vs (omega arith)) (sym (pairs-at vs j h))
+
+pairs-in-places : (vs : List ℕ) → length vs / 2 ≤ 32 → pairs-in (in-places 64 vs) (length vs / 2) ≡ pairs-of vs
+pairs-in-places vs few =
+    let n = length vs / 2 in
+    let long = pairs-in-length (in-places 64 vs) n in
+    ext-getD (pair 0 0) (pairs-in (in-places 64 vs) n) (pairs-of vs) (long ∙ sym (pairs-length vs)) (λ j h. pair-in-places vs j few (omega arith))
+
+good-only : (i : ℕ) (f : TerminalsFound) → found-refusal i f .number ≡ 0 → f ≡ Good
+unfolding refusal
+good-only i Good h = refl
+good-only i Crowd h = absurd (omega arith)
+good-only i (Overhang n) h = absurd (omega arith)
+good-only i (Crossing n) h = absurd (omega arith)
+
+good-few : (lo hi : ℕ) (xs : List Pair) → terminals-found lo hi xs ≡ Good → length xs ≤ 32
+unfolding terminals-found
+good-few lo hi xs e = go (ltb 32 (length xs)) refl e
+  where
+    go : (v : Bool) → ltb 32 (length xs) ≡ v → cond v Crowd (pairs-found [] lo hi xs) ≡ Good → length xs ≤ 32
+    go true h e = let z : _≡_ {A = ℕ} 0 1 = cc in absurd (omega arith)
+    go false h e = ltb-false 32 (length xs) h
+
+-- crowd, then the terminals
+terminals-refused : (i lo hi : ℕ) (vs : List ℕ) → length vs % 2 ≡ 0 →
+    found-refusal i (terminals-found lo hi (pairs-in (in-places 64 vs) (length vs / 2)))
+    ≡ cond (ltb 64 (length vs)) (refusal 3 (suc i) 66) (terminals-refusal 2 true 0 0 lo hi (suc i) vs)
+unfolding terminals-found p-at q-at pair
+terminals-refused i lo hi vs even = go (ltb 64 (length vs)) refl
+  where
+    long : length (pairs-in (in-places 64 vs) (length vs / 2)) ≡ length vs / 2
+    long = pairs-in-length (in-places 64 vs) (length vs / 2)
+
+    go : (v : Bool) → ltb 64 (length vs) ≡ v →
+        found-refusal i (cond (ltb 32 (length (pairs-in (in-places 64 vs) (length vs / 2)))) Crowd (pairs-found [] lo hi (pairs-in (in-places 64 vs) (length vs / 2))))
+        ≡ cond v (refusal 3 (suc i) 66) (terminals-refusal 2 true 0 0 lo hi (suc i) vs)
+    go true h = rw (long, lt-ltb 32 (length vs / 2) (omega (arith, ltb-true)))
+    go false h =
+        let few : length vs / 2 ≤ 32 = omega (arith, ltb-false) in
+        rw (long, le-ltb 32 (length vs / 2) few, pairs-in-places vs few) (faults-refused i [] lo hi vs (omega (arith, pairs-length vs)))
+
+-- THE LINE
+module _ (lo hi i : ℕ) (l : Line) (n : Numbers) (m : Line-read l nets-word n) where
+  pub nets-ill : (o : Outcome) (t : Terminals) → n .good ≡ false → o ≡ refused why.Layout (i + 1) 0 → Nets-read lo hi i l (record { outcome = o; terminals = t })
+  unfolding channel-refusal
+  nets-ill o t h e =
+      let ill : shape l nets-word (λ n. eqb (n % 2) 0) ≡ false = shape-by l nets-word (λ n. eqb (n % 2) 0) ∙ rw (sym (m .good) ∙ h) in
+      let says : channel-refusal lo hi i l ≡ refusal 2 (suc i) 0 = rw ill in
+      record { outcome = rw (e, says, add-one i); pairs = λ z. absurd (not-fine 1 (suc i) 0 (channel-refusal lo hi i l) says z) }
+
+  pub nets-odd : (o : Outcome) (t : Terminals) → n .good ≡ true → (n .count % 2 ≡ 0 → ⊥) → o ≡ refused why.Layout (i + 1) 0 →
+      Nets-read lo hi i l (record { outcome = o; terminals = t })
+  unfolding channel-refusal
+  nets-odd o t h d e =
+      let odd : length (numbers-of l) % 2 ≡ 0 → ⊥ = rw (m .count) at d in
+      let ill : shape l nets-word (λ n. eqb (n % 2) 0) ≡ false =
+      shape-by l nets-word (λ n. eqb (n % 2) 0) ∙ rw (sym (m .good) ∙ h, ne-eqb (length (numbers-of l) % 2) 0 odd) in
+      let says : channel-refusal lo hi i l ≡ refusal 2 (suc i) 0 = rw ill in
+      record { outcome = rw (e, says, add-one i); pairs = λ z. absurd (not-fine 1 (suc i) 0 (channel-refusal lo hi i l) says z) }
+
+  module _ (good : n .good ≡ true) (even : n .count % 2 ≡ 0) where
+    kept-numbers : n .values ≡ in-places 64 (numbers-of l)
+    unfolding worded numbers-of
+    kept-numbers =
+        let there : worded l nets-word ≡ true = sym (m .good) ∙ good in
+        let fs = drop 1 (fields (l .bytes)) in
+        let numbers : all-numbers fs ≡ true = search ands in
+        m .values ∙ rw (numbers-are fs numbers)
+
+    even-there : length (numbers-of l) % 2 ≡ 0
+    even-there = rw (m .count) at even
+
+    line-refused : channel-refusal lo hi i l ≡ found-refusal i (terminals-found lo hi (pairs-in (n .values) (n .count / 2)))
+    unfolding channel-refusal
+    line-refused =
+        let well : shape l nets-word (λ n. eqb (n % 2) 0) ≡ true =
+        shape-by l nets-word (λ n. eqb (n % 2) 0) ∙ rw (sym (m .good) ∙ good, eq-eqb (length (numbers-of l) % 2) 0 even-there) in
+        rw (well, kept-numbers, m .count) (sym (terminals-refused i lo hi (numbers-of l) even-there))
+
+    pairs-kept : (r : TerminalsMade) → Terminals-made (n .values) (n .count / 2) lo hi r → r .found ≡ Good → channel-of (r .terminals) ≡ pairs-of (numbers-of l)
+    unfolding kept
+    pairs-kept r t g =
+        let vs = numbers-of l in
+        let found = good-few lo hi (pairs-in (n .values) (n .count / 2)) (sym (t .found) ∙ g) in
+        let few : length vs / 2 ≤ 32 = omega (arith, found, pairs-in-length (n .values) (n .count / 2), m .count) in
+        t .pairs ∙ rw (g, kept-numbers, m .count) (pairs-in-places vs few)
+
+    pub nets-found : (o : Outcome) (r : TerminalsMade) → Terminals-made (n .values) (n .count / 2) lo hi r → refusal-of o ≡ found-refusal i (r .found) →
+        Nets-read lo hi i l (record { outcome = o; terminals = r .terminals })
+    nets-found o r t e =
+        let says : channel-refusal lo hi i l ≡ found-refusal i (r .found) = line-refused ∙ rw (t .found) in
+        record { outcome = e ∙ sym says; pairs = λ z. pairs-kept r t (good-only i (r .found) (rw says at z)) }

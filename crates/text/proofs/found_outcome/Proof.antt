@@ -1,0 +1,107 @@
+-- found_outcome meets its contract. Assumes nothing.
+use native.Mathlib.Omega.{arith}
+use Rattle.text.proofs.Nets.{place-overhang, place-crossing, told-crowd, told-overhang, told-crossing}
+use borrow.Author.Needs.{needs}
+use Rattle.text.proofs.found_outcome.Statement.{statement}
+use Rattle.text.proofs.found_outcome.Tie as tie
+
+enum-told : tie.Need-enum-told
+enum-told c = search needs
+
+enum-told-2 : tie.Need-enum-told-2
+enum-told-2 c = search needs
+
+add-refused : tie.Need-add-refused
+add-refused c = search needs
+
+refused-requires : tie.Need-refused-requires
+refused-requires c κs = search needs
+
+enum-known-found : tie.Need-enum-known-found
+enum-known-found c = search needs
+
+add-refused-2 : tie.Need-add-refused-2
+add-refused-2 c = search needs
+
+cast-refused : tie.Need-cast-refused
+cast-refused c =
+    let start = c .before .before .before in
+    let found = c .before .found in
+    omega (arith, place-overhang (start .args .found) (found .given .0 .0) (found .given .1) (start .pre .0))
+
+add-refused-3 : tie.Need-add-refused-3
+add-refused-3 c =
+    let start = c .before .before .before in
+    let found = c .before .found in
+    omega (arith, place-overhang (start .args .found) (found .given .0 .0) (found .given .1) (start .pre .0))
+
+refused-requires-2 : tie.Need-refused-requires-2
+refused-requires-2 c κs = search needs
+
+enum-known-found-2 : tie.Need-enum-known-found-2
+enum-known-found-2 c = search needs
+
+add-refused-4 : tie.Need-add-refused-4
+add-refused-4 c = search needs
+
+cast-refused-2 : tie.Need-cast-refused-2
+cast-refused-2 c =
+    let start = c .before .before .before in
+    let found2 = c .before .found2 in
+    omega (arith, place-crossing (start .args .found) (found2 .given .0 .0) (found2 .given .1) (start .pre .0))
+
+add-refused-5 : tie.Need-add-refused-5
+add-refused-5 c =
+    let start = c .before .before .before in
+    let found2 = c .before .found2 in
+    omega (arith, place-crossing (start .args .found) (found2 .given .0 .0) (found2 .given .1) (start .pre .0))
+
+refused-requires-3 : tie.Need-refused-requires-3
+refused-requires-3 c κs = search needs
+
+returns : tie.Need-returns
+returns c = search needs
+
+returns-2 : tie.Need-returns-2
+returns-2 c =
+    let start = c .before .before .before in
+    let enum-told2 = c .before .enum-told2 in
+    let refused = c .refused in
+    told-crowd (start .args .i) (start .args .found) (refused .result) (enum-told2 .given .1) (refused .ensures)
+
+returns-3 : tie.Need-returns-3
+returns-3 c =
+    let start = c .before .before .before .before in
+    let found = c .before .before .found in
+    let refused2 = c .refused2 in
+    told-overhang (start .args .i) (start .args .found) (refused2 .result) (found .given .0 .0) (found .given .1) (refused2 .ensures)
+
+returns-4 : tie.Need-returns-4
+returns-4 c =
+    let start = c .before .before .before .before in
+    let found2 = c .before .before .found2 in
+    let refused3 = c .refused3 in
+    told-crossing (start .args .i) (start .args .found) (refused3 .result) (found2 .given .0 .0) (found2 .given .1) (refused3 .ensures)
+
+pub found-outcome-spec : {M : Type 1} → statement M
+found-outcome-spec =
+    tie.close
+    (tie.spec
+    enum-told
+    enum-told-2
+    add-refused
+    refused-requires
+    enum-known-found
+    add-refused-2
+    cast-refused
+    add-refused-3
+    refused-requires-2
+    enum-known-found-2
+    add-refused-4
+    cast-refused-2
+    add-refused-5
+    refused-requires-3
+    returns
+    returns-2
+    returns-3
+    returns-4)

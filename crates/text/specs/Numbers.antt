@@ -1,0 +1,91 @@
+-- What the readers of words and numbers answer: whether a field is a number and which, and the numbers of a line. Assumes nothing: these are definitions.
+use mathlib.Core.Path.{_≡_}
+use mathlib.Core.Bool.{Bool, _&&_, _||_, not, cond}
+use mathlib.Core.List.{List, [], _∷_, _++_}
+use Prim.Native.Nat.{ℕ, zero, suc, _+_, _^_, _≤_, _<_}
+use lib.Dec.{leb, eqb}
+use lib.ListN.{length, getD, set, drop}
+use Rattle.text.specs.Text.{Line, fields, all-digits, is-number, value-of, value, all-numbers, same-bytes, numbers-of, shape}
+use Rattle.text.specs.declared.FieldRead.{FieldRead}
+use Rattle.text.specs.declared.Numbers.{Numbers}
+
+-- while two byte strings are compared: they are as long, and their first i bytes are the same
+pub record Matching (xs ys : List ℕ) (i : ℕ) : Type 0 where
+  pub long : length xs ≡ length ys
+  pub below : i ≤ length xs
+  pub rest : same-bytes xs ys ≡ same-bytes (drop i xs) (drop i ys)
+
+-- a number's count of digits and its first digit
+unfoldable pub sized : List ℕ → Bool
+sized xs = (leb 1 (length xs) && leb (length xs) 4) && (eqb (length xs) 1 || not (eqb (getD xs 0 48) 48))
+
+-- digits, and their value; 0 where one is no digit
+pub record Digits-read (xs : List ℕ) (r : FieldRead) : Type 0 where
+  pub good : r .good ≡ all-digits xs
+  pub value : r .value ≡ cond (all-digits xs) (value xs) 0
+
+-- while digits are read: the first i are digits, and v is their value
+pub record Counting (xs : List ℕ) (i v : ℕ) : Type 0 where
+  pub below : i ≤ length xs
+  pub small : v < 10 ^ i
+  pub digits : all-digits xs ≡ all-digits (drop i xs)
+  pub value : value xs ≡ value-of v (drop i xs)
+
+-- a field's number; 0 where it is ill-formed
+unfoldable pub number-in : List ℕ → ℕ
+number-in f = cond (is-number f) (value f) 0
+
+unfoldable pub numbers-in : List (List ℕ) → List ℕ
+numbers-in [] = []
+numbers-in (f ∷ fs) = number-in f ∷ numbers-in fs
+
+pub record Field-read (f : List ℕ) (r : FieldRead) : Type 0 where
+  pub good : r .good ≡ is-number f
+  pub value : r .value ≡ number-in f
+
+-- the first n numbers, and zeros in the places past them
+unfoldable pub in-places : (n : ℕ) → List ℕ → List ℕ
+in-places zero xs = []
+in-places (suc n) [] = 0 ∷ in-places n []
+in-places (suc n) (x ∷ xs) = x ∷ in-places n xs
+
+-- whether fields are all numbers, how many they are, and the first 64
+pub record Numbers-read (fs : List (List ℕ)) (r : Numbers) : Type 0 where
+  pub good : r .good ≡ all-numbers fs
+  pub count : r .count ≡ length fs
+  pub values : r .values ≡ in-places 64 (numbers-in fs)
+
+-- one field more
+pub record Field-added (n : Numbers) (f : List ℕ) (r : Numbers) : Type 0 where
+  pub good : r .good ≡ (n .good && is-number f)
+  pub count : r .count ≡ n .count + 1
+  pub values : r .values ≡ set (n .values) (n .count) (number-in f)
+
+-- the fields from a place on; none past the end
+unfoldable pub fields-from : (at : ℕ) → List ℕ → List (List ℕ)
+fields-from at xs = cond (leb at (length xs)) (fields (drop at xs)) []
+
+-- while fields are read: those that are behind the place from are the ones seen and those from the place at on
+pub record Taking (xs : List ℕ) (from at : ℕ) (n : Numbers) : Type 0 where
+  pub seen : List (List ℕ)
+  pub rest : fields-from from xs ≡ seen ++ fields-from at xs
+  pub few : length seen ≤ at
+  pub below : at ≤ suc (length xs)
+  pub read : Numbers-read seen n
+
+-- a line is ended, has its word, and has numbers behind it
+unfoldable pub worded : Line → (w : List ℕ) → Bool
+worded l w = l .ended && (same-bytes (getD (fields (l .bytes)) 0 []) w && all-numbers (drop 1 (fields (l .bytes))))
+
+pub record Line-read (l : Line) (w : List ℕ) (r : Numbers) : Type 0 where
+  pub good : r .good ≡ worded l w
+  pub count : r .count ≡ length (numbers-of l)
+  pub values : r .values ≡ in-places 64 (numbers-in (drop 1 (fields (l .bytes))))
+
+-- a line of a word and one number
+abbrev pub single : Line → (w : List ℕ) → Bool
+single l w = shape l w (λ n. eqb n 1)
+
+pub record Single-read (l : Line) (w : List ℕ) (r : FieldRead) : Type 0 where
+  pub good : r .good ≡ single l w
+  pub value : r .value ≡ cond (single l w) (getD (numbers-of l) 0 0) 0
