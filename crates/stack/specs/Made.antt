@@ -3,11 +3,11 @@
 use mathlib.Core.Path.{_≡_}
 use mathlib.Core.Bool.{Bool, true, false, _&&_, cond}
 use mathlib.Core.List.{List, [], _∷_, _++_}
-use Prim.Native.Nat.{ℕ, suc, _+_, _*_, _-_, _≤_}
+use Prim.Native.Nat.{ℕ, suc, _+_, _*_, _-_, _≤_, _<_}
 use lib.Dec.{ltb, leb}
 use lib.ListN.{length, getD, set, drop, replicate}
 use Rattle.numbers.specs.Lists.{tabulate}
-use Rattle.stack.specs.Stack.{Pair, pair, p-at, q-at, Stack, stack}
+use Rattle.stack.specs.Stack.{Pair, pair, p-at, q-at, Stack, stack, longest, sum}
 use Rattle.stack.specs.Value.{strip, channel-of, stack-of}
 use Rattle.stack.specs.declared.StripMade.{StripMade}
 use Rattle.stack.specs.declared.StripMade.the-variants.{Made, Length}
@@ -116,3 +116,18 @@ pub record Channel-set (k : Stack-struct) (i : ℕ) (c : List Pair) (r : Stack-s
 pub record Stored {A : Type 0} (all : List A) (n i : ℕ) (x : A) (r : List A) : Type 0 where
   pub long : length all ≡ n
   pub stored : r ≡ set all i x
+
+-- a length added, and that it is one of 32 bits
+pub record Length-more (l rest r : ℕ) : Type 0 where
+  pub all : r ≡ l + rest
+  pub small : l < 4294967296
+
+-- the greatest and the sum of the lengths of the strips from i on
+pub record Lengths-from (k : Stack-struct) (i most : ℕ) : Type 0 where
+  pub inside : i ≤ suc (k .count)
+  pub most-is : most ≡ longest (drop i (stack-of k .strips))
+
+pub record Sum-from (k : Stack-struct) (i all : ℕ) : Type 0 where
+  pub inside : i ≤ suc (k .count)
+  pub sum-is : all ≡ sum (drop i (stack-of k .strips))
+  pub small : all + 4294967296 * i ≤ 4294967296 * suc (k .count)

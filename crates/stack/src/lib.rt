@@ -2,7 +2,10 @@
 ghost use mathlib.Core.Path.{_≡_};
 ghost use mathlib.Core.List.{[]};
 ghost use Prim.Native.Nat.{_-_, _≤_, _<_};
+ghost use mathlib.Core.Bool.{cond};
+ghost use lib.Dec.{ltb};
 ghost use lib.ListN.{getD};
+ghost use Rattle.stack.specs.Stack.{longest, sum};
 ghost use Rattle.stack.specs.Value.{columns, channel-of, stack-of};
 ghost use Rattle.stack.specs.Made.{
   strip-made,
@@ -16,6 +19,7 @@ ghost use Rattle.stack.specs.Made.{
   Strip-set,
   Channel-set,
   Stored,
+  Length-more,
 };
 
 // A count of tracks: a separation. Document 01, "Strips, columns and tracks".
@@ -323,4 +327,50 @@ impl Stack {
         self.channels = channels;
         self
     }
+
+    // The length of the longest strip.
+    pub fn longest(self) -> u32
+        requires { ⌜ self .count ≤ 8 ⌝ }
+        ensures { λ r. ⌜ r ≡ longest (stack-of self .strips) ⌝ }
+    {
+        let mut most: u32 = 0;
+        let mut i = self.count + 1;
+        while 0 < i {
+            i -= 1;
+            most = longer(most, self.strips[i]);
+        }
+        most
+    }
+
+    // The sum of the strips' lengths.
+    pub fn lengths_sum(self) -> u64
+        requires { ⌜ self .count ≤ 8 ⌝ }
+        ensures { λ r. ⌜ r ≡ sum (stack-of self .strips) ⌝ }
+    {
+        let mut all: u64 = 0;
+        let mut i = self.count + 1;
+        while 0 < i {
+            i -= 1;
+            all = length_more(self.strips[i], all);
+        }
+        all
+    }
+}
+
+// The greater of a length and a strip's.
+fn longer(most: u32, strip: Strip) -> u32
+    ensures { λ r. ⌜ r ≡ cond (ltb (strip .length .0) most) most (strip .length .0) ⌝ }
+{
+    if strip.length.0 < most {
+        return most;
+    }
+    strip.length.0
+}
+
+// A strip's length and what is below 2^48 together.
+fn length_more(strip: Strip, rest: u64) -> u64
+    requires { ⌜ rest < 281474976710656 ⌝ }
+    ensures { λ r. ⌜ Length-more (strip .length .0) rest r ⌝ }
+{
+    strip.length.0 as u64 + rest
 }
