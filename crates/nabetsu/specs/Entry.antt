@@ -1,0 +1,41 @@
+-- TRUSTED. What the entries answer and leave behind. Document 01, "Choosing among equals", "Lines and tabs" and "Sent back at the counter".
+-- Assumes nothing: these are definitions.
+use mathlib.Core.Path.{_≡_}
+use mathlib.Core.Bool.{cond}
+use mathlib.Core.List.{List, [], _++_, map}
+use Prim.Native.Nat.{ℕ, zero, suc, _-_}
+use lib.Dec.{ltb}
+use lib.ListN.{length, replicate}
+use Rattle.stack.specs.Stack.{Stack, Answer, sum, longest}
+use Rattle.stack.specs.declared.Tracks.{Tracks}
+use Rattle.stack.specs.declared.Columns.{Columns}
+use Rattle.text.specs.Text.{Refusal, refusal, or-else, text-refusal, stack-in}
+use Rattle.text.specs.Outcome.{refusal-of}
+use Rattle.nabetsu.specs.declared.SpreadAnswer.{SpreadAnswer}
+
+-- zeros in unused places
+unfoldable pub padded : (n : ℕ) → List ℕ → List ℕ
+padded n xs = xs ++ replicate (n - length xs) 0
+
+-- the numbers of separations and of positions
+abbrev pub tracks : List Tracks → List ℕ
+tracks ts = map (λ (t : Tracks). t .0) ts
+
+abbrev pub columns : List Columns → List ℕ
+columns xs = map (λ (x : Columns). x .0) xs
+
+-- ONE SPREAD: 1 to 6, then 7
+unfoldable pub spread-refusal : List ℕ → (s : ℕ) → Refusal
+spread-refusal bs s = or-else (text-refusal bs) (cond (ltb s (longest (stack-in bs .strips))) (refusal 7 0 0) (refusal 0 0 0))
+
+unfoldable pub placed-is : Refusal → (total : ℕ) → (ts xs : List ℕ) → SpreadAnswer → Type 0
+placed-is f v ts xs r =
+    (refusal-of (r .outcome) ≡ f) × (r .total .0 ≡ v) × (tracks (r .separations) ≡ padded 8 ts) × (columns (r .positions) ≡ padded 9 xs)
+
+-- the answer with its total, or a refusal with zeros elsewhere
+unfoldable pub Answered : (number : ℕ) → Refusal → Stack → (s : ℕ) → SpreadAnswer → Type 0
+Answered zero f k s r = (ts : List ℕ) × (xs : List ℕ) × Answer k s ts xs × placed-is f (sum ts) ts xs r
+Answered (suc n) f k s r = placed-is f 0 [] [] r
+
+unfoldable pub Spread-says : List ℕ → (s : ℕ) → SpreadAnswer → Type 0
+Spread-says bs s r = Answered (spread-refusal bs s .number) (spread-refusal bs s) (stack-in bs) s r

@@ -1,0 +1,4 @@
+-- What is promised of texts, and what the entries answer: the trusted statements.
+pub mod Promise
+pub mod Entry
+pub mod Best
