@@ -2,3 +2,4 @@
 pub mod Promise
 pub mod Entry
 pub mod Best
+pub mod Parts

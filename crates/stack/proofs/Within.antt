@@ -90,3 +90,12 @@ module _ (k : Stack-struct) (good : within-limits (stack-of k) ≡ true) where
   pub strip-bounds : (i : ℕ) → i < suc (k .count) → (1 ≤ getD (k .strips) i (strip 0) .length .0) × (getD (k .strips) i (strip 0) .length .0 ≤ 1000)
   unfolding within-limits
   strip-bounds i h = omega (arith, strip-in-limits (stack-of k .strips) i (search ands) (omega (arith, stack-strips k)), stack-strip k i h)
+
+-- a stack within the limits has one strip more than channels
+pub strips-count : (k : Stack) → within-limits k ≡ true → length (k .strips) ≡ suc (length (k .channels))
+unfolding within-limits
+strips-count k e = strips-length (k .strips) (k .channels) (search ands)
+
+pub channels-few : (k : Stack) → within-limits k ≡ true → length (k .channels) ≤ 8
+unfolding within-limits
+channels-few k e = leb-true (length (k .channels)) 8 (search ands)

@@ -5,35 +5,22 @@ use Rattle.answer.proofs.Standing.{limits-start, windows-start, made-co
 use borrow.Author.Needs.{needs}
 use Rattle.answer.proofs.answer.Statement.{statement}
 use Rattle.answer.proofs.answer.Tie as tie
-use Rattle.answer.proofs.answer.Reads as reads
-use Rattle.answer.proofs.answer.Lts as lts
-use Rattle.answer.proofs.fill_limits.Reads as fill-limits-reads
-use Rattle.answer.proofs.fill_windows.Reads as fill-windows-reads
-use Rattle.solver.proofs.most_total.Reads as most-total-reads
-use Rattle.solver.proofs.place_in.Reads as place-in-reads
-use Rattle.solver.proofs.scan_totals.Reads as scan-totals-reads
 
--- src/lib.rt:71:5
 fill-limits-requires : tie.Need-fill-limits-requires
 fill-limits-requires c κs = (c .before .before .before .pre .0, limits-start (stack-of (c .before .before .before .args .stack)) _ _ _ refl refl refl)
 
--- src/lib.rt:74:5
 fill-windows-requires : tie.Need-fill-windows-requires
 fill-windows-requires c κs = (c .before .before .before .before .before .pre .0, windows-start (stack-of (c .before .before .before .before .before .args .stack)) (c .before .before .before .before .before .args .spread) _ refl)
 
--- src/lib.rt:77:9
 most-total-requires : tie.Need-most-total-requires
 most-total-requires c κs = made-counts-ask (c .before .before .before .before .before .before .before .args .stack) (c .before .before .before .before .before .before .before .args .spread) _ _ _ _ (c .before .before .before .before .before .before .before .fits .spread .fits) (c .before .before .before .before .before .before .before .pre .0) (c .before .before .before .before .before .before .before .pre .1) (c .before .before .before .fill-limits .ensures) (c .before .fill-windows .ensures)
 
--- src/lib.rt:78:9
 scan-totals-requires : tie.Need-scan-totals-requires
 scan-totals-requires c κs = made-scan-asks (c .before .before .before .before .before .before .before .before .before .before .before .before .before .before .before .args .stack) (c .before .before .before .before .before .before .before .before .before .before .before .before .before .before .before .args .spread) _ _ _ _ (c .before .before .before .before .before .before .before .before .before .before .before .before .before .before .before .fits .spread .fits) (c .before .before .before .before .before .before .before .before .before .before .before .before .before .before .before .pre .0) (c .before .before .before .before .before .before .before .before .before .before .before .before .before .before .before .pre .1) (c .before .before .before .before .before .before .before .before .before .before .before .fill-limits .ensures) (c .before .before .before .before .before .before .before .before .before .fill-windows .ensures) (c .before .before .before .before .before .before .before .most-total .result) (c .before .before .before .before .before .before .before .most-total .ensures)
 
--- src/lib.rt:89:5
 place-in-requires : tie.Need-place-in-requires
 place-in-requires c κs = made-place-asks (c .before .before .before .before .before .before .before .before .before .before .before .before .before .before .before .before .before .before .before .before .before .before .before .args .stack) (c .before .before .before .before .before .before .before .before .before .before .before .before .before .before .before .before .before .before .before .before .before .before .before .args .spread) _ _ _ _ (c .before .before .before .before .before .before .before .before .before .before .before .before .before .before .before .before .before .before .before .before .before .before .before .fits .spread .fits) (c .before .before .before .before .before .before .before .before .before .before .before .before .before .before .before .before .before .before .before .before .before .before .before .pre .0) (c .before .before .before .before .before .before .before .before .before .before .before .before .before .before .before .before .before .before .before .before .before .before .before .pre .1) (c .before .before .before .before .before .before .before .before .before .before .before .before .before .before .before .before .before .before .before .fill-limits .ensures) (c .before .before .before .before .before .before .before .before .before .before .before .before .before .before .before .before .before .fill-windows .ensures) (c .before .before .before .before .before .before .before .before .before .before .before .before .before .before .before .most-total .result) _ _ (c .before .before .before .before .before .before .before .scan-totals .result) (c .before .before .before .before .before .before .before .before .before .before .before .before .before .before .before .most-total .ensures) (c .before .before .before .before .before .before .before .scan-totals .ensures)
 
--- src/lib.rt:62:1
 returns : tie.Need-returns
 returns c = made-answers (c .before .before .before .before .before .before .before .before .before .before .before .before .before .before .before .before .before .before .before .before .before .before .before .before .args .stack) (c .before .before .before .before .before .before .before .before .before .before .before .before .before .before .before .before .before .before .before .before .before .before .before .before .args .spread) _ _ _ _ (c .before .before .before .before .before .before .before .before .before .before .before .before .before .before .before .before .before .before .before .before .before .before .before .before .fits .spread .fits) (c .before .before .before .before .before .before .before .before .before .before .before .before .before .before .before .before .before .before .before .before .before .before .before .before .pre .0) (c .before .before .before .before .before .before .before .before .before .before .before .before .before .before .before .before .before .before .before .before .before .before .before .before .pre .1) (c .before .before .before .before .before .before .before .before .before .before .before .before .before .before .before .before .before .before .before .before .fill-limits .ensures) (c .before .before .before .before .before .before .before .before .before .before .before .before .before .before .before .before .before .before .fill-windows .ensures) (c .before .before .before .before .before .before .before .before .before .before .before .before .before .before .before .before .most-total .result) _ _ (c .before .before .before .before .before .before .before .before .scan-totals .result) (c .before .before .before .before .before .before .before .before .before .before .before .before .before .before .before .before .most-total .ensures) (c .before .before .before .before .before .before .before .before .scan-totals .ensures) (c .place-in .result) (c .place-in .ensures)
 

@@ -10,9 +10,6 @@ use Rattle.answer.proofs.Standing.{limits-step}
 use borrow.Author.Needs.{needs}
 use Rattle.answer.proofs.fill_limits.Statement.{statement}
 use Rattle.answer.proofs.fill_limits.Tie as tie
-use Rattle.answer.proofs.fill_limits.Reads as reads
-use Rattle.answer.proofs.fill_limits.Lts as lts
-use Rattle.channel.proofs.channel_limits.Reads as channel-limits-reads
 
 abbrev Inv-loop : tie.InvT-loop
 Inv-loop low₀ high₀ counts₀ stack channels i₀ low high counts i = (i ≤ channels) × Limits-in (stack-of stack) i low high counts
@@ -20,59 +17,45 @@ Inv-loop low₀ high₀ counts₀ stack channels i₀ low high counts i = (i ≤
 abbrev μ-loop : tie.MeasureT-loop
 μ-loop low₀ high₀ counts₀ stack channels i₀ low high counts i = channels - i
 
--- src/lib.rt:27:5
 loop-holds : tie.Need-loop-holds Inv-loop μ-loop
 loop-holds c = (omega arith, c .pre .1)
 
--- src/lib.rt:28:25
 mul-terminals : tie.Need-mul-terminals Inv-loop μ-loop
 mul-terminals c = omega (arith, few-channels (c .before .before .args .t1) (c .before .before .pre .0))
 
--- src/lib.rt:28:25
 element-copy-out-terminals : tie.Need-element-copy-out-terminals Inv-loop μ-loop
 element-copy-out-terminals c = omega (arith, few-channels (c .before .before .args .t1) (c .before .before .pre .0))
 
--- src/lib.rt:29:13
 channel-limits-requires : tie.Need-channel-limits-requires Inv-loop μ-loop
 channel-limits-requires c κs = few-pairs (c .before .before .before .args .t1) (c .before .before .before .pre .0) (c .before .before .loop .i) (c .before .loop-test .taken)
 
--- src/lib.rt:32:9
 mul-lows : tie.Need-mul-lows Inv-loop μ-loop
 mul-lows c = omega (arith, few-channels (c .before .before .before .before .before .before .args .t1) (c .before .before .before .before .before .before .pre .0))
 
--- src/lib.rt:32:9
 element-set-from-lows : tie.Need-element-set-from-lows Inv-loop μ-loop
 element-set-from-lows c = omega (arith, few-channels (c .before .before .before .before .before .before .args .t1) (c .before .before .before .before .before .before .pre .0))
 
--- src/lib.rt:33:9
 mul-highs : tie.Need-mul-highs Inv-loop μ-loop
 mul-highs c = omega (arith, few-channels (c .before .before .before .before .before .before .args .t1) (c .before .before .before .before .before .before .pre .0))
 
--- src/lib.rt:33:9
 element-set-from-highs : tie.Need-element-set-from-highs Inv-loop μ-loop
 element-set-from-highs c = omega (arith, few-channels (c .before .before .before .before .before .before .args .t1) (c .before .before .before .before .before .before .pre .0))
 
--- src/lib.rt:34:9
 mul-counts : tie.Need-mul-counts Inv-loop μ-loop
 mul-counts c = omega (arith, few-channels (c .before .before .before .before .before .before .args .t1) (c .before .before .before .before .before .before .pre .0))
 
--- src/lib.rt:34:9
 element-write-counts : tie.Need-element-write-counts Inv-loop μ-loop
 element-write-counts c = omega (arith, few-channels (c .before .before .before .before .before .before .args .t1) (c .before .before .before .before .before .before .pre .0))
 
--- src/lib.rt:27:9
 add-i : tie.Need-add-i Inv-loop μ-loop
 add-i c = search needs
 
--- src/lib.rt:27:5
 loop-less : tie.Need-loop-less Inv-loop μ-loop
 loop-less c = falls _ _ (c .before .before .before .before .loop-test .taken)
 
--- src/lib.rt:27:5
 loop-again : tie.Need-loop-again Inv-loop μ-loop
 loop-again c = (omega arith, limits-step (c .before .before .before .before .before .before .args .t1) (c .before .before .before .before .before .loop .i) _ _ _ (c .before .before .channel-limits .result) (c .before .before .before .before .loop-test .taken) (few-channels (c .before .before .before .before .before .before .args .t1) (c .before .before .before .before .before .before .pre .0)) (c .before .before .before .before .before .loop .inv .1) (c .before .before .channel-limits .ensures))
 
--- src/lib.rt:16:1
 returns : tie.Need-returns Inv-loop μ-loop
 returns c = let z : c .before .loop .i ≡ c .before .before .args .t1 .count = omega arith in rw z at (c .before .loop .inv .1)
 

@@ -11,10 +11,6 @@ use Rattle.answer.proofs.Standing.{windows-step}
 use borrow.Author.Needs.{needs}
 use Rattle.answer.proofs.fill_windows.Statement.{statement}
 use Rattle.answer.proofs.fill_windows.Tie as tie
-use Rattle.answer.proofs.fill_windows.Reads as reads
-use Rattle.answer.proofs.fill_windows.Lts as lts
-use Rattle.answer.proofs.wide.Reads as wide-reads
-use Rattle.numbers.proofs.difference.Reads as difference-reads
 
 abbrev Inv-loop : tie.InvT-loop
 Inv-loop spread upto₀ stack strips i₀ upto i = (i ≤ strips) × Windows-in (stack-of stack) i spread upto
@@ -22,55 +18,42 @@ Inv-loop spread upto₀ stack strips i₀ upto i = (i ≤ strips) × Windows-in 
 abbrev μ-loop : tie.MeasureT-loop
 μ-loop spread upto₀ stack strips i₀ upto i = strips - i
 
--- src/lib.rt:50:18
 add-strips : tie.Need-add-strips Inv-loop μ-loop
 add-strips c = omega (arith, few-channels (c .args .t1) (c .pre .0))
 
--- src/lib.rt:51:5
 loop-holds : tie.Need-loop-holds Inv-loop μ-loop
 loop-holds c = (omega arith, c .pre .1)
 
--- src/lib.rt:52:21
 mul-strip : tie.Need-mul-strip Inv-loop μ-loop
 mul-strip c = omega (arith, few-channels (c .before .before .args .t1) (c .before .before .pre .0))
 
--- src/lib.rt:52:21
 element-copy-out-strip : tie.Need-element-copy-out-strip Inv-loop μ-loop
 element-copy-out-strip c = omega (arith, few-channels (c .before .before .args .t1) (c .before .before .pre .0))
 
--- src/lib.rt:53:30
 add-difference : tie.Need-add-difference Inv-loop μ-loop
 add-difference c = search needs
 
--- src/lib.rt:53:49
 wide-requires : tie.Need-wide-requires Inv-loop μ-loop
 wide-requires c κs = search needs
 
--- src/lib.rt:53:19
 difference-requires : tie.Need-difference-requires Inv-loop μ-loop
 difference-requires c κs = search needs
 
--- src/lib.rt:53:9
 mul-upto : tie.Need-mul-upto Inv-loop μ-loop
 mul-upto c = omega (arith, few-channels (c .before .before .before .before .before .args .t1) (c .before .before .before .before .before .pre .0))
 
--- src/lib.rt:53:9
 element-write-upto : tie.Need-element-write-upto Inv-loop μ-loop
 element-write-upto c = omega (arith, few-channels (c .before .before .before .before .before .args .t1) (c .before .before .before .before .before .pre .0))
 
--- src/lib.rt:51:9
 add-i : tie.Need-add-i Inv-loop μ-loop
 add-i c = omega (arith, few-channels (c .before .before .before .before .before .args .t1) (c .before .before .before .before .before .pre .0))
 
--- src/lib.rt:51:5
 loop-less : tie.Need-loop-less Inv-loop μ-loop
 loop-less c = falls _ _ (c .before .before .before .loop-test .taken)
 
--- src/lib.rt:51:5
 loop-again : tie.Need-loop-again Inv-loop μ-loop
 loop-again c = (omega arith, windows-step (c .before .before .before .before .before .args .t1) (c .before .before .before .before .loop .i) (c .before .before .before .before .before .args .spread) (c .difference .result) _ (omega arith) (few-channels (c .before .before .before .before .before .args .t1) (c .before .before .before .before .before .pre .0)) (c .before .before .before .before .loop .inv .1) (c .difference .ensures ∙ rw (c .before .wide .ensures, add-one (c .before .before .before .before .before .args .spread))))
 
--- src/lib.rt:45:1
 returns : tie.Need-returns Inv-loop μ-loop
 returns c = let z : c .before .loop .i ≡ suc (c .before .before .args .t1 .count) = omega arith in rw z at (c .before .loop .inv .1)
 

@@ -1,0 +1,3 @@
+-- The promises proved, and the laws of the entries.
+pub mod Promises
+pub mod Spreads
