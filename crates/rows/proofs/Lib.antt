@@ -2,3 +2,4 @@
 pub mod Settled
 pub mod Rows
 pub mod Jumps
+pub mod Steps

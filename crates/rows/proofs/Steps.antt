@@ -1,0 +1,76 @@
+-- What a scan says of the walk over the spreads: whether the least total falls at this spread, and until which spread it then stays. Assumes nothing.
+use mathlib.Core.Path.{_≡_, refl, sym, ap, _∙_}
+use mathlib.Core.Bool.{Bool, true}
+use mathlib.Core.List.{List, [], _∷_}
+use Prim.Native.Nat.{ℕ, zero, suc, _+_, _-_, _≤_, _<_}
+use native.Mathlib.Omega.{arith}
+use lib.ListN.{length}
+use Rattle.numbers.proofs.Orders.{le-or-lt}
+use mathlib.Core.Logic.{_⊎_, inl, inr}
+use Rattle.stack.specs.Stack.{Stack, longest}
+use Rattle.stack.specs.Limits.{within-limits}
+use Rattle.solver.specs.Spans.{nonempty}
+use Rattle.solver.specs.Solver.{most, back, first, first-total, least-total}
+use Rattle.solver.specs.Jump.{None-within}
+use Rattle.solver.specs.Arrays.{bias, Given, window-of, level-of, levels}
+use Rattle.solver.specs.Scan.{short-of, Scan-is}
+use Rattle.solver.specs.declared.Scan.{Scan}
+use Rattle.solver.proofs.First.{first-upto, first-holds, first-least}
+use Rattle.answer.specs.Solve.{bottom, levels-of, total-with, answer-total}
+use Rattle.answer.proofs.Answers.{total-most, total-any-bias}
+use Rattle.answer.proofs.Standing.{Stands, levels-are, bottom-is}
+use Rattle.rows.proofs.Jumps.{jump-stays}
+
+-- no span is short by d or less
+none-within : (g : Given) (k total jump d v : ℕ) → ((j n u : ℕ) → j + suc n ≡ k → u < total → u ≤ most (levels g j (suc n)) → 0 < short-of g j n u → jump ≤ short-of g j n u) → d < jump → v < total →
+    (j n : ℕ) → j + n ≡ k → None-within bias bias d v (window-of g j) (levels g j n)
+unfolding None-within levels
+none-within g k total jump d v h l t j zero e = refl
+none-within g k total jump d v h l t j (suc n) e =
+    ((λ u a m x. omega (arith, h j n u e (omega arith) m x)), none-within g k total jump d v h l t (suc j) n (omega arith))
+
+-- a search that is cut short finds the same, or has passed all that it looked at
+module _ (f : ℕ → Bool) (cap all : ℕ) (h : cap ≤ all) where
+  first-cut : first f 0 (suc cap) ≤ cap → first f 0 (suc cap) ≡ first f 0 (suc all)
+  first-cut l =
+      let at : f (first f 0 (suc cap)) ≡ true = first-holds f 0 (suc cap) (omega arith) in
+      let below : first f 0 (suc all) ≤ first f 0 (suc cap) = first-least f 0 (suc all) (first f 0 (suc cap)) (omega arith) (omega arith) at in
+      let there : f (first f 0 (suc all)) ≡ true = first-holds f 0 (suc all) (omega arith) in
+      omega (arith, first-least f 0 (suc cap) (first f 0 (suc all)) (omega arith) (omega arith) there)
+
+  first-past : first f 0 (suc all) ≤ all → cap < first f 0 (suc cap) → cap < first f 0 (suc all)
+  first-past m l = go (le-or-lt (first f 0 (suc all)) cap)
+    where
+      go : (first f 0 (suc all) ≤ cap) ⊎ (cap < first f 0 (suc all)) → cap < first f 0 (suc all)
+      go (inl i) = omega (arith, first-least f 0 (suc cap) (first f 0 (suc all)) (omega arith) (omega arith) (first-holds f 0 (suc all) (omega arith)))
+      go (inr i) = i
+
+module _ (k : Stack) (s : ℕ) (g : Given) (st : Stands k s g) (fits : s < 4294967296) (wide : longest (k .strips) ≤ s) (cap : ℕ) (froms uptos : List (List ℕ)) (r : Scan)
+    (i : Scan-is g (length (k .channels)) cap froms uptos r) where
+  abbrev m : ℕ
+  m = length (k .channels)
+
+  total-here : least-total bias (window-of g 0) (levels g 0 m) ≡ answer-total k s
+  unfolding total-with
+  total-here = rw (bottom-is k s g st, levels-are k s g st) (total-any-bias bias k s (omega arith) (st .good) wide)
+
+  total-use : least-total bias (window-of g 0) (levels g 0 m) ≤ most (levels g 0 m)
+  unfolding total-with
+  total-use = rw (bottom-is k s g st, levels-are k s g st) (total-most bias s (omega arith) k (st .good) wide)
+
+  -- a total found is the least; if none is, the least is above the cap
+  pub scan-finds : cap ≤ most (levels g 0 m) → r .total ≤ cap → r .total ≡ answer-total k s
+  unfolding first-total least-total
+  scan-finds h l = i .total-is ∙ (first-cut (λ v. nonempty (back bias (window-of g 0) (levels g 0 m) v)) cap (most (levels g 0 m)) h (rw (i .total-is) at l) ∙ total-here)
+
+  pub scan-passes : cap ≤ most (levels g 0 m) → cap < r .total → cap < answer-total k s
+  unfolding first-total least-total
+  scan-passes h l =
+      omega (arith, total-here, first-past (λ v. nonempty (back bias (window-of g 0) (levels g 0 m) v)) cap (most (levels g 0 m)) h total-use (rw (i .total-is) at l))
+
+  -- UNTIL THE JUMP IS REACHED THE LEAST TOTAL STAYS
+  pub scan-stays : (v : ℕ) → answer-total k s ≡ suc v → r .total ≡ suc v → (d : ℕ) → d < r .jump → s + d + 32 ≤ bias → answer-total k (s + d) ≡ suc v
+  scan-stays v e t d j b =
+      let clear : None-within bias bias d v (bottom k s) (levels-of bias k s) =
+      rw (bottom-is k s g st, levels-are k s g st) at (none-within g m (r .total) (r .jump) d v (i .jump-is) j (omega arith) 0 m (omega arith)) in
+      jump-stays k (st .good) bias s d v b wide clear (omega arith) ∙ e
