@@ -3,3 +3,4 @@ pub mod Settled
 pub mod Rows
 pub mod Jumps
 pub mod Steps
+pub mod Walks

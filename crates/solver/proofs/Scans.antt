@@ -151,9 +151,14 @@ module _ (g : Given) (k : ℕ) (froms uptos : List (List ℕ)) (a : Scan-asks g 
         sized-uptos = sized-put uptos (a .sized-uptos) k 0 _ (omega (arith, a .stack .channels));
         earlier = λ j n u e h m. absurd (omega arith);
         here = λ j n h e m. let z : n ≡ 0 = omega arith in let p : j ≡ k = omega arith in rw (z, p) top;
+        jump-some = omega arith;
         earlier-jump = λ j n u e h m t. absurd (omega arith);
         here-jump = λ j n h e m t. absurd (omega arith);
       }
+
+positive : {j : ℕ} (n : ℕ) → (n ≡ 0 → ⊥) → 0 < j → 0 < min j n
+positive zero h l = absurd (h refl)
+positive (suc n) h l = omega arith
 
 -- one strip more, strip j under strip i
 module _ (g : Given) (k v i j : ℕ) (froms uptos : List (List ℕ)) (jump : ℕ) (a : Stack-asks g k) (s : Scanning g k v i froms uptos jump) (below : j + 1 ≡ i) (h : i ≤ k) where
@@ -232,6 +237,7 @@ module _ (g : Given) (k v i j : ℕ) (froms uptos : List (List ℕ)) (jump : ℕ
             sized-uptos = rw (d .upto-put) (sized-put uptos (s .sized-uptos) j v _ (omega (arith, a .channels)));
             earlier = λ p m u e l o. kept p u (λ q r. omega arith) ∙ s .earlier p m u e l o;
             here = λ p m l e o. go p m e o (lt-or-eq j p l);
+            jump-some = some (eqb short 0) refl;
             earlier-jump = λ p m u e l o x. omega (arith, jump-less (eqb short 0), s .earlier-jump p m u e l o x);
             here-jump = λ p m l e o x. jumps p m e o x (lt-or-eq j p l);
           }
@@ -239,6 +245,10 @@ module _ (g : Given) (k v i j : ℕ) (froms uptos : List (List ℕ)) (jump : ℕ
           go : (p m : ℕ) → p + m ≡ k → v ≤ most (levels g p m) → (j < p) ⊎ (j ≡ p) → span-in froms′ uptos′ p v ≡ back bias (window-of g p) (levels g p m) v
           go p m e o (inl l) = kept p v (λ q r. omega arith) ∙ s .here p m (omega arith) e o
           go p m e o (inr l) = let z : m ≡ suc n = omega arith in rw (← l, z) here-written
+
+          some : (z : Bool) → eqb short 0 ≡ z → 0 < jump-if z jump short
+          some true e = s .jump-some
+          some false e = positive short (eqb-false short 0 e) (s .jump-some)
 
           jumps : (p m : ℕ) → p + suc m ≡ k → v ≤ most (levels g p (suc m)) → 0 < short-of g p m v → (j < p) ⊎ (j ≡ p) → jump-if (eqb short 0) jump short ≤ short-of g p m v
           jumps p m e o x (inl l) = omega (arith, jump-less (eqb short 0), s .here-jump p m (omega arith) e o x)
@@ -255,6 +265,7 @@ module _ (g : Given) (k v i j : ℕ) (froms uptos : List (List ℕ)) (jump : ℕ
         sized-uptos = s .sized-uptos;
         earlier = s .earlier;
         here = λ p m l e u. go p m e u (lt-or-eq j p l);
+        jump-some = s .jump-some;
         earlier-jump = s .earlier-jump;
         here-jump = λ p m l e u x. jumps p m e u x (lt-or-eq j p l);
       }
@@ -281,6 +292,7 @@ module _ (g : Given) (k cap : ℕ) where
           sized-uptos = s .sized-uptos;
           earlier = λ j n u e h m. before j n u e m (lt-or-eq u v (omega arith));
           here = λ j n h e m. let z : n ≡ 0 = omega arith in absurd (omega (arith, rw z at m));
+          jump-some = s .jump-some;
           earlier-jump = λ j n u e h m x. jumps j n u e m x (lt-or-eq u v (omega arith));
           here-jump = λ j n h e m x. absurd (omega arith);
         }
@@ -322,7 +334,7 @@ module _ (g : Given) (k cap : ℕ) where
           entry (row froms 0) v < entry (row uptos 0) v → Scan-is g k cap froms uptos (record { total = v; above = above; jump = before })
       scan-found before above froms₀ uptos₀ p t o e =
           let m : min v cap ≡ v = omega arith in
-          record { table = rw m table-to; above-is = o; total-is = totals-hit e ∙ t; jump-is = λ j n u i l o x. p .earlier-jump j n u i l o x }
+          record { table = rw m table-to; above-is = o; total-is = totals-hit e ∙ t; jump-some = p .jump-some; jump-is = λ j n u i l o x. p .earlier-jump j n u i l o x }
 
   pub scan-none : (v above jump : ℕ) (froms uptos : List (List ℕ)) → above ≡ most (levels g 1 (k - 1)) → cap < v → v ≤ cap + 1 → Scanning g k v k froms uptos jump →
       Searching (λ u. nonempty (bottom-span u)) (suc cap) v (first-total bottom-span cap) → Scan-is g k cap froms uptos (record { total = v; above = above; jump = jump })
@@ -332,6 +344,7 @@ module _ (g : Given) (k cap : ℕ) where
         table = rw m (record { sized-froms = s .sized-froms; sized-uptos = s .sized-uptos; filled = λ j n u l e c o. s .earlier j n u e (omega arith) o });
         above-is = o;
         total-is = searching-end (λ u. nonempty (bottom-span u)) (suc cap) v (first-total bottom-span cap) q (omega arith);
+        jump-some = s .jump-some;
         jump-is = λ j n u e l o x. s .earlier-jump j n u e l o x;
       }
 

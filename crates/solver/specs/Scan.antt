@@ -86,6 +86,7 @@ pub record Scanning (g : Given) (k v i : ℕ) (froms uptos : List (List ℕ)) (j
   pub sized-uptos : Sized uptos
   pub earlier : (j n u : ℕ) → j + n ≡ k → u < v → u ≤ most (levels g j n) → span-in froms uptos j u ≡ back bias (window-of g j) (levels g j n) u
   pub here : (j n : ℕ) → i ≤ j → j + n ≡ k → v ≤ most (levels g j n) → span-in froms uptos j v ≡ back bias (window-of g j) (levels g j n) v
+  pub jump-some : 0 < jump
   pub earlier-jump : (j n u : ℕ) → j + suc n ≡ k → u < v → u ≤ most (levels g j (suc n)) → 0 < short-of g j n u → jump ≤ short-of g j n u
   pub here-jump : (j n : ℕ) → i ≤ j → j + suc n ≡ k → v ≤ most (levels g j (suc n)) → 0 < short-of g j n v → jump ≤ short-of g j n v
 
@@ -94,6 +95,7 @@ pub record Scan-is (g : Given) (k cap : ℕ) (froms uptos : List (List ℕ)) (r 
   pub table : Filled g k (min (r .total) cap) 0 froms uptos
   pub above-is : r .above ≡ most (levels g 1 (k - 1))
   pub total-is : r .total ≡ first-total (back bias (window-of g 0) (levels g 0 k)) cap
+  pub jump-some : 0 < r .jump
   pub jump-is : (j n u : ℕ) → j + suc n ≡ k → u < r .total → u ≤ most (levels g j (suc n)) → 0 < short-of g j n u → r .jump ≤ short-of g j n u
 
 -- what the scan asks of one total
