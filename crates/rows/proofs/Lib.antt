@@ -4,3 +4,4 @@ pub mod Rows
 pub mod Jumps
 pub mod Steps
 pub mod Walks
+pub mod Evaluating

@@ -1,2 +1,3 @@
 -- The rows of a stack's table.
 pub mod Walk
+pub mod Evaluate

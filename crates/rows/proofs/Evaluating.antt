@@ -1,0 +1,62 @@
+-- What the scan of one spread asks, and that a total found gives the answer. Assumes nothing.
+use mathlib.Core.Path.{_≡_, refl, sym, ap, _∙_}
+use mathlib.Core.Bool.{true}
+use mathlib.Core.List.{List}
+use Prim.Native.Nat.{ℕ, suc, _+_, _≤_, _<_}
+use native.Mathlib.Omega.{arith}
+use lib.ListN.{length}
+use Rattle.stack.specs.Stack.{longest}
+use Rattle.stack.specs.Value.{stack-of}
+use Rattle.stack.specs.declared.Stack.{Stack as Stack-struct}
+use Rattle.stack.proofs.Within.{stack-channels}
+use Rattle.solver.specs.Solver.{most}
+use Rattle.solver.specs.Arrays.{bias, strips-held, totals-held, levels, Stack-asks, Place-asks, Separate-asks, Placement-is}
+use Rattle.solver.specs.Scan.{sums, Scan-asks, Scan-is}
+use Rattle.solver.specs.declared.Scan.{Scan}
+use Rattle.solver.specs.declared.Placement.{Placement}
+use Rattle.solver.proofs.Separating.{most-small}
+use Rattle.solver.proofs.Scans.{most-sums}
+use Rattle.solver.proofs.Placing.{scan-separate-asks}
+use Rattle.answer.specs.Solve.{total-with, answer-total}
+use Rattle.answer.specs.Arrays.{Windows-in, Answer-is}
+use Rattle.answer.proofs.Answers.{total-any-bias}
+use Rattle.answer.proofs.Standing.{Stands, stands-made, asks, place-asks, placement-answers}
+use Rattle.rows.specs.Evaluate.{arrays, Held, Evaluate-asks, Evaluated, Place-row-asks}
+use Rattle.rows.proofs.Steps.{scan-finds}
+
+module _ (k : Stack-struct) (s : ℕ) (lows highs : List (List ℕ)) (counts uptos : List ℕ) (fits : s < 4294967296) (wide : longest (stack-of k .strips) ≤ s) (held : Held k lows highs counts)
+    (windows : Windows-in (stack-of k) (suc (k .count)) s uptos) where
+  -- the arrays stand for the stack in this spread
+  pub held-stands : Stands (stack-of k) s (arrays lows highs counts uptos)
+  held-stands = stands-made k s lows highs counts uptos (held .good) (held .limits) windows
+
+  pub held-asks : Stack-asks (arrays lows highs counts uptos) (k .count)
+  held-asks = rw (stack-channels k) at (asks (stack-of k) s (arrays lows highs counts uptos) held-stands fits wide)
+
+  pub cap-used : (cap : ℕ) → cap ≤ sums counts 0 (k .count) → cap ≤ most (levels (arrays lows highs counts uptos) 0 (k .count))
+  cap-used cap h = omega (arith, most-sums (arrays lows highs counts uptos) 0 (k .count))
+
+  cap-small : (cap : ℕ) → cap ≤ sums counts 0 (k .count) → cap < totals-held
+  cap-small cap h = omega (arith, cap-used cap h, most-small (arrays lows highs counts uptos) (k .count) held-asks 0 (k .count) (omega arith), held-asks .channels)
+
+  pub evaluate-scan-asks : (cap : ℕ) (old : List ℕ) (froms ends : List (List ℕ)) → Evaluate-asks k s cap lows highs counts old froms ends → Scan-asks (arrays lows highs counts uptos) (k .count) cap froms ends
+  evaluate-scan-asks cap old froms ends a =
+      record { stack = held-asks; total = cap-small cap (a .capped); of-use = cap-used cap (a .capped); sized-froms = a .sized-froms; sized-uptos = a .sized-ends }
+
+  module _ (cap : ℕ) (froms ends : List (List ℕ)) (r : Scan) (capped : cap ≤ sums counts 0 (k .count)) (i : Scan-is (arrays lows highs counts uptos) (k .count) cap froms ends r) (found : r .total ≤ cap) where
+    -- a total found is the least
+    pub found-total : r .total ≡ answer-total (stack-of k) s
+    found-total =
+        scan-finds (stack-of k) s (arrays lows highs counts uptos) held-stands fits wide cap froms ends r (rw (stack-channels k) i) (rw (stack-channels k) (cap-used cap capped)) found
+
+    found-with : r .total ≡ total-with bias (stack-of k) s
+    found-with = found-total ∙ sym (total-any-bias bias (stack-of k) s (omega arith) (held .good) wide)
+
+    pub row-place-asks : Place-asks (arrays lows highs counts uptos) (k .count) (r .total) × Separate-asks (arrays lows highs counts uptos) (k .count) (r .total) (r .above) froms ends
+    row-place-asks = (
+      rw (stack-channels k) at (place-asks (stack-of k) s (arrays lows highs counts uptos) held-stands fits wide (r .total) found-with (omega (arith, cap-small cap capped))),
+      scan-separate-asks (arrays lows highs counts uptos) (k .count) cap froms ends r held-asks i found (cap-small cap capped),
+    )
+
+    pub row-answers : (p : Placement) → Placement-is (arrays lows highs counts uptos) (k .count) (r .total) p → Answer-is (stack-of k) s p
+    row-answers p q = placement-answers (stack-of k) s (arrays lows highs counts uptos) held-stands fits wide (r .total) p found-with (rw (stack-channels k) q)
