@@ -14,10 +14,10 @@ use Rattle.writing.specs.Output.{over, fitted, written, cleared, line-by
 stored : (p o : List ℕ) (i b : ℕ) → length p ≡ i → i < length o → set (p ++ drop i o) i b ≡ (p ++ (b ∷ [])) ++ drop (suc i) o
 stored p o i b e h = rw (drop-cons o i 0 h, append-assoc) (set-at p (getD o i 0) (drop (suc i) o) b i e)
 
-pub copying-starts : (line before : List ℕ) → Copying line before 0 before
-copying-starts line before = record { below = omega arith; stands = refl; same-length = refl }
+pub copying-starts : {line before : List ℕ} → Copying line before 0 before
+copying-starts = record { below = omega arith; stands = refl; same-length = refl }
 
-module _ (line before : List ℕ) (i : ℕ) (now : List ℕ) (c : Copying line before i now) (fits : length line ≤ length before) where
+module _ {line before : List ℕ} {i : ℕ} {now : List ℕ} (c : Copying line before i now) (fits : length line ≤ length before) where
   pub copying-steps : i < length line → Copying line before (i + 1) (set now i (getD line i 0))
   copying-steps h =
       record {
@@ -33,16 +33,16 @@ module _ (line before : List ℕ) (i : ℕ) (now : List ℕ) (c : Copying line b
       record { stands = c .stands ∙ rw (e, take-length line, le-leb (length line) (length before) fits); counted = refl; few = few }
 
 -- no space: nothing is written
-pub line-short : (line before : List ℕ) → length before < length line → length line ≤ line-bytes → Line-put line before before (length line)
+pub line-short : {line before : List ℕ} → length before < length line → length line ≤ line-bytes → Line-put line before before (length line)
 unfolding written fitted
-line-short line before h few = record { stands = rw (lt-leb (length line) (length before) h); counted = refl; few = few }
+line-short {line} {before} h few = record { stands = rw (lt-leb (length line) (length before) h); counted = refl; few = few }
 
-pub clearing-starts : (from : ℕ) (before : List ℕ) → Clearing from before from before
-clearing-starts from before =
+pub clearing-starts : {from : ℕ} {before : List ℕ} → Clearing from before from before
+clearing-starts {from} {before} =
     let none : from - from ≡ 0 = omega arith in
     record { behind = omega arith; within = omega arith; stands = rw (none, append-nil, take-append-drop from before); same-length = refl }
 
-module _ (from : ℕ) (before : List ℕ) (i : ℕ) (now : List ℕ) (c : Clearing from before i now) where
+module _ {from : ℕ} {before : List ℕ} {i : ℕ} {now : List ℕ} (c : Clearing from before i now) where
   pub clearing-steps : i < length before → Clearing from before (i + 1) (set now i 0)
   clearing-steps h =
       let front = take from before ++ replicate (i - from) 0 in

@@ -1,7 +1,7 @@
 -- A number's digits: more digits go in front of those got, and the division by ten that puts them. Then how many they are. Assumes nothing.
 use mathlib.Core.Path.{_≡_, refl, ap, sym, _∙_}
 use mathlib.Core.Bool.{Bool, true, false, cond}
-use mathlib.Core.List.{List, [], _∷_, _++_, append-nil, append-assoc}
+use mathlib.Core.List.{List, [], _∷_, _++_, append-assoc}
 use Prim.Native.Nat.{ℕ, zero, suc, _+_, _*_, _-_, _/_, _%_, _^_, _≤_, _<_}
 use native.Mathlib.Omega.{arith}
 use lib.Dec.{ltb}
@@ -32,9 +32,9 @@ tenth-below : (n v : ℕ) → 1 ≤ n → v < 10 ^ n → v / 10 < 10 ^ (n - 1)
 tenth-below zero v h k = absurd (omega arith)
 tenth-below (suc n) v h k = let e : suc n - 1 ≡ n = omega arith in rw e (omega arith)
 
-pub dividing-starts : (value : ℕ) (room : List ℕ) (end : ℕ) → value < 2 ^ 32 → Dividing value room end value room end
+pub dividing-starts : {value : ℕ} {room : List ℕ} {end : ℕ} → value < 2 ^ 32 → Dividing value room end value room end
 unfolding digits
-dividing-starts value room end h =
+dividing-starts {value} {room} {end} h =
     record {
       left = 10;
       place = refl;
@@ -45,7 +45,7 @@ dividing-starts value room end h =
       same-length = refl;
     }
 
-module _ (value : ℕ) (before : List ℕ) (end v : ℕ) (now : List ℕ) (at : ℕ) (space : Space 10 before end) (d : Dividing value before end v now at) where
+module _ {value : ℕ} {before : List ℕ} {end v : ℕ} {now : List ℕ} {at : ℕ} (space : Space 10 before end) (d : Dividing value before end v now at) where
   pub dividing-space : 1 ≤ at
   dividing-space = omega arith
 
@@ -84,7 +84,11 @@ module _ (value : ℕ) (before : List ℕ) (end v : ℕ) (now : List ℕ) (at : 
         same-length = length-set now (at - 1) (48 + v) ∙ d .same-length;
       }
 
+pub tabbed-append : (xs ys : List ℕ) → tabbed (xs ++ ys) ≡ tabbed xs ++ tabbed ys
+unfolding tabbed
+tabbed-append [] ys = refl
+tabbed-append (x ∷ xs) ys = ap (λ (l : List ℕ). (9 ∷ digits x) ++ l) (tabbed-append xs ys) ∙ sym (append-assoc (9 ∷ digits x) (tabbed xs) (tabbed ys))
+
 -- one number more in front
 pub tabbed-before : (ns : List ℕ) (i : ℕ) → 0 < i → i ≤ length ns → tabbed (drop (i - 1) ns) ≡ tabbed (getD ns (i - 1) 0 ∷ []) ++ tabbed (drop i ns)
-unfolding tabbed
-tabbed-before ns i h k = rw (drop-before ns i 0 h k, append-nil)
+tabbed-before ns i h k = rw (drop-before ns i 0 h k) (tabbed-append (getD ns (i - 1) 0 ∷ []) (drop i ns))

@@ -12,15 +12,15 @@ use Rattle.writing.specs.Room.{Prepended, Space, Putting}
 pub prepended-none : (room : List ℕ) (end : ℕ) → Prepended 0 [] room end room end
 prepended-none room end = record { place = omega arith; few = omega arith; stands = refl; same-length = refl }
 
-pub prepended-byte : (room : List ℕ) (end b : ℕ) → Space 1 room end → Prepended 1 (b ∷ []) room end (set room (end - 1) b) (end - 1)
-prepended-byte room end b s =
+pub prepended-byte : {room : List ℕ} {end : ℕ} (b : ℕ) → Space 1 room end → Prepended 1 (b ∷ []) room end (set room (end - 1) b) (end - 1)
+prepended-byte {room} {end} b s =
     let e : suc (end - 1) ≡ end = omega arith in
     let stored = drop-stored room (end - 1) b (omega arith) in
     record { place = omega arith; few = omega arith; stands = rw e at stored; same-length = length-set room (end - 1) b }
 
-pub prepended-more : (m n : ℕ) (s t before between after : List ℕ) (end at first : ℕ) → Prepended m s before end between at →
+pub prepended-more : {m n : ℕ} {s t before between after : List ℕ} {end at first : ℕ} → Prepended m s before end between at →
     Prepended n t between at after first → Prepended (m + n) (t ++ s) before end after first
-prepended-more m n s t before between after end at first p q =
+prepended-more p q =
     record {
       place = rw length-append (omega (arith, p .place, q .place));
       few = rw length-append (omega (arith, p .few, q .few));
@@ -29,33 +29,34 @@ prepended-more m n s t before between after end at first p q =
     }
 
 -- what the next part asks
-pub prepended-space : (m n : ℕ) (s before between : List ℕ) (end at : ℕ) → Space (m + n) before end → Prepended m s before end between at →
+pub prepended-space : {m n : ℕ} {s before between : List ℕ} {end at : ℕ} → m + n ≤ end → end ≤ length before → Prepended m s before end between at →
     Space n between at
-prepended-space m n s before between end at h p = record { enough = omega arith; within = omega arith }
+prepended-space h k p = record { enough = omega arith; within = omega arith }
 
-pub prepended-looser : (m n : ℕ) (s before between : List ℕ) (end at : ℕ) → m ≤ n → Prepended m s before end between at → Prepended n s before end between at
-prepended-looser m n s before between end at h p = record { place = p .place; few = omega arith; stands = p .stands; same-length = p .same-length }
+pub prepended-looser : {m n : ℕ} {s before between : List ℕ} {end at : ℕ} → m ≤ n → Prepended m s before end between at → Prepended n s before end between at
+prepended-looser h p = record { place = p .place; few = omega arith; stands = p .stands; same-length = p .same-length }
 
-module _ (each : ℕ) (text : ℕ → List ℕ) (n : ℕ) (before : List ℕ) (end : ℕ) where
+pub space-looser : {m n : ℕ} {room : List ℕ} {end : ℕ} → n ≤ m → Space m room end → Space n room end
+space-looser h s = record { enough = omega arith; within = s .within }
+
+module _ {each : ℕ} {text : ℕ → List ℕ} {n : ℕ} {before : List ℕ} {end : ℕ} where
   pub putting-starts : text n ≡ [] → Putting each text n before end n before end
   putting-starts e =
       let none : n - n ≡ 0 = omega arith in
       record { below = omega arith; put = rw (none, mul-zero, e) (prepended-none before end) }
 
-  module _ (i : ℕ) (now : List ℕ) (at : ℕ) (p : Putting each text n before end i now at) where
+  module _ {i : ℕ} {now : List ℕ} {at : ℕ} (p : Putting each text n before end i now at) where
     -- room for one thing more
-    pub putting-space : 0 < i → Space (each * n) before end → Space each now at
-    putting-space h s =
+    pub putting-space : 0 < i → each * n ≤ end → end ≤ length before → Space each now at
+    putting-space h e l =
         let more : each * suc (n - i) ≤ each * n = mul-le-mul-left each (omega (arith, p .below)) in
-        prepended-space (each * (n - i)) each (text i) before now end at
-        (record { enough = omega (arith, s .enough, mul-suc each (n - i)); within = s .within })
-        (p .put)
+        prepended-space (omega (arith, mul-suc each (n - i))) l (p .put)
 
-    pub putting-steps : (t after : List ℕ) (first : ℕ) → 0 < i → Prepended each t now at after first → text (i - 1) ≡ t ++ text i →
+    pub putting-steps : {t after : List ℕ} {first : ℕ} → 0 < i → text (i - 1) ≡ t ++ text i → Prepended each t now at after first →
         Putting each text n before end (i - 1) after first
-    putting-steps t after first h q e =
+    putting-steps h e q =
         let more : n - (i - 1) ≡ suc (n - i) = omega (arith, p .below) in
-        record { below = omega (arith, p .below); put = rw (more, mul-suc, e) (prepended-more (each * (n - i)) each (text i) t before now after end at first (p .put) q) }
+        record { below = omega (arith, p .below); put = rw (more, mul-suc, e) (prepended-more (p .put) q) }
 
     pub putting-ends : i ≤ 0 → Prepended (each * n) (text 0) before end now at
     putting-ends h =

@@ -12,6 +12,11 @@ pub record Prepended (most : ℕ) (text before : List ℕ) (end : ℕ) (after : 
   pub stands : drop at after ≡ text ++ drop end before
   pub same-length : length after ≡ length before
 
+-- a line made at the end of a room begins at a place
+pub record Line-made (text room : List ℕ) (at : ℕ) : Type 0 where
+  pub within : at ≤ length room
+  pub stands : drop at room ≡ text
+
 -- what a part's writer asks: so many bytes in front of the place
 pub record Space (most : ℕ) (room : List ℕ) (end : ℕ) : Type 0 where
   pub enough : most ≤ end

@@ -14,7 +14,7 @@ ghost use Rattle.writing.specs.Output.{
   row-of,
   Row-asks,
 };
-ghost use Rattle.writing.specs.Room.{Prepended, Space};
+ghost use Rattle.writing.specs.Room.{Prepended, Space, Line-made};
 use stack::Columns;
 use stack::Stack;
 use stack::Tracks;
@@ -128,6 +128,16 @@ fn put_line(out: &mut [u8], line: &[u8]) -> usize
     line.len()
 }
 
+// A table's first line at the end of a room of the longest line's bytes.
+fn head_before(room: &mut [u8], k: usize) -> usize
+    requires { ⌜ (length (now room) ≡ line-bytes) × (k ≤ 9) ⌝ }
+    ensures { λ r. ⌜ Line-made (table-text k []) (now (room .exit)) r ⌝ }
+{
+    let end = byte_before(room, LINE_BYTES, LINE_FEED);
+    let first = number_before(room, end, k as u32);
+    word_before(room, first, b"TABLE")
+}
+
 // A row at the end of a room of the longest line's bytes.
 fn row_before(
     room: &mut [u8],
@@ -138,7 +148,7 @@ fn row_before(
     positions: [Columns; 9],
 ) -> usize
     requires { ⌜ (length (now room) ≡ line-bytes) × Row-asks k total separations ⌝ }
-    ensures { λ r. ⌜ drop r (now (room .exit)) ≡ row-text (row-of k spread separations positions) ⌝ }
+    ensures { λ r. ⌜ Line-made (row-text (row-of k spread separations positions)) (now (room .exit)) r ⌝ }
 {
     let end = byte_before(room, LINE_BYTES, LINE_FEED);
     let behind = positions_before(room, end, k + 1, positions);
@@ -154,9 +164,7 @@ pub fn put_head(out: &mut [u8], k: usize) -> usize
     ensures { λ r. ⌜ Line-put (table-text k []) (now (out .entry)) (now (out .exit)) r ⌝ }
 {
     let mut room = [0u8; LINE_BYTES];
-    let end = byte_before(&mut room, LINE_BYTES, LINE_FEED);
-    let first = number_before(&mut room, end, k as u32);
-    let at = word_before(&mut room, first, b"TABLE");
+    let at = head_before(&mut room, k);
     put_line(out, &room[at..])
 }
 

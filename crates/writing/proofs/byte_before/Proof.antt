@@ -14,7 +14,7 @@ same-length : tie.Need-same-length
 same-length c = search needs
 
 returns : tie.Need-returns
-returns c = prepended-byte (c .args .room .now) (c .args .end) (c .args .b) (c .pre)
+returns c = prepended-byte (c .args .b) (c .pre)
 
 pub byte-before-spec : {M : Type 1} → statement M
 byte-before-spec = tie.close (tie.spec sub-at slice-write-room same-length returns)

@@ -13,7 +13,7 @@ abbrev μ-loop : tie.MeasureT-loop
 μ-loop out₀ from i₀ i-end out i = i-end - i
 
 loop-holds : tie.Need-loop-holds Inv-loop μ-loop
-loop-holds c = clearing-starts (c .args .from) (c .args .out .now)
+loop-holds c = clearing-starts
 
 slice-write-out : tie.Need-slice-write-out Inv-loop μ-loop
 slice-write-out c = search needs
@@ -25,13 +25,13 @@ loop-less : tie.Need-loop-less Inv-loop μ-loop
 loop-less c = search needs
 
 loop-again : tie.Need-loop-again Inv-loop μ-loop
-loop-again c = clearing-steps (c .before .before .args .from) (c .before .before .args .out .now) (c .before .loop .i) (c .before .loop .out) (c .before .loop .inv) (c .loop-test .taken)
+loop-again c = clearing-steps (c .before .loop .inv) (c .loop-test .taken)
 
 same-length : tie.Need-same-length Inv-loop μ-loop
 same-length c = c .before .loop .inv .same-length
 
 returns : tie.Need-returns Inv-loop μ-loop
-returns c = clearing-ends (c .before .before .args .from) (c .before .before .args .out .now) (c .before .loop .i) (c .before .loop .out) (c .before .loop .inv) (c .loop-test .left)
+returns c = clearing-ends (c .before .loop .inv) (c .loop-test .left)
 
 pub clear-from-spec : {M : Type 1} → statement M
 clear-from-spec =

@@ -12,10 +12,10 @@ abbrev μ-loop : tie.MeasureT-loop
 μ-loop room₀ end value at₀ v₀ room at v = v
 
 loop-holds : tie.Need-loop-holds Inv-loop μ-loop
-loop-holds c = dividing-starts (c .args .value) (c .args .room .now) (c .args .end) (c .fits .value .fits)
+loop-holds c = dividing-starts (c .fits .value .fits)
 
 sub-at : tie.Need-sub-at Inv-loop μ-loop
-sub-at c = dividing-space (c .before .before .args .value) (c .before .before .args .room .now) (c .before .before .args .end) (c .before .loop .v) (c .before .loop .room) (c .before .loop .at) (c .before .before .pre) (c .before .loop .inv)
+sub-at c = dividing-space (c .before .before .pre) (c .before .loop .inv)
 
 cast-room : tie.Need-cast-room Inv-loop μ-loop
 cast-room c = search needs
@@ -30,10 +30,10 @@ loop-less : tie.Need-loop-less Inv-loop μ-loop
 loop-less c = search needs
 
 loop-again : tie.Need-loop-again Inv-loop μ-loop
-loop-again c = dividing-steps (c .before .before .args .value) (c .before .before .args .room .now) (c .before .before .args .end) (c .before .loop .v) (c .before .loop .room) (c .before .loop .at) (c .before .before .pre) (c .before .loop .inv) (c .loop-test .taken)
+loop-again c = dividing-steps (c .before .before .pre) (c .before .loop .inv) (c .loop-test .taken)
 
 sub-at-2 : tie.Need-sub-at-2 Inv-loop μ-loop
-sub-at-2 c = dividing-space (c .before .before .args .value) (c .before .before .args .room .now) (c .before .before .args .end) (c .before .loop .v) (c .before .loop .room) (c .before .loop .at) (c .before .before .pre) (c .before .loop .inv)
+sub-at-2 c = dividing-space (c .before .before .pre) (c .before .loop .inv)
 
 cast-room-2 : tie.Need-cast-room-2 Inv-loop μ-loop
 cast-room-2 c = search needs
@@ -45,10 +45,10 @@ slice-write-room-2 : tie.Need-slice-write-room-2 Inv-loop μ-loop
 slice-write-room-2 c = search needs
 
 same-length : tie.Need-same-length Inv-loop μ-loop
-same-length c = dividing-ends (c .before .before .args .value) (c .before .before .args .room .now) (c .before .before .args .end) (c .before .loop .v) (c .before .loop .room) (c .before .loop .at) (c .before .before .pre) (c .before .loop .inv) (c .loop-test .left) .same-length
+same-length c = dividing-ends (c .before .before .pre) (c .before .loop .inv) (c .loop-test .left) .same-length
 
 returns : tie.Need-returns Inv-loop μ-loop
-returns c = dividing-ends (c .before .before .args .value) (c .before .before .args .room .now) (c .before .before .args .end) (c .before .loop .v) (c .before .loop .room) (c .before .loop .at) (c .before .before .pre) (c .before .loop .inv) (c .loop-test .left)
+returns c = dividing-ends (c .before .before .pre) (c .before .loop .inv) (c .loop-test .left)
 
 pub digits-before-spec : {M : Type 1} → statement M
 digits-before-spec =

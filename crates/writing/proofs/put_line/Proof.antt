@@ -13,10 +13,10 @@ abbrev μ-loop : tie.MeasureT-loop
 μ-loop out₀ line i₀ i-end out i = i-end - i
 
 returns : tie.Need-returns Inv-loop μ-loop
-returns c = line-short (c .before .args .line .now) (c .before .args .out .now) (c .if1 .taken) (c .before .pre)
+returns c = line-short (c .if1 .taken) (c .before .pre)
 
 loop-holds : tie.Need-loop-holds Inv-loop μ-loop
-loop-holds c = copying-starts (c .before .args .line .now) (c .before .args .out .now)
+loop-holds c = copying-starts
 
 shared-slice-read-out : tie.Need-shared-slice-read-out Inv-loop μ-loop
 shared-slice-read-out c = search needs
@@ -31,13 +31,13 @@ loop-less : tie.Need-loop-less Inv-loop μ-loop
 loop-less c = search needs
 
 loop-again : tie.Need-loop-again Inv-loop μ-loop
-loop-again c = copying-steps (c .before .before .before .before .args .line .now) (c .before .before .before .before .args .out .now) (c .before .before .loop .i) (c .before .before .loop .out) (c .before .before .loop .inv) (c .before .before .before .if1 .left) (c .before .loop-test .taken)
+loop-again c = copying-steps (c .before .before .loop .inv) (c .before .before .before .if1 .left) (c .before .loop-test .taken)
 
 same-length : tie.Need-same-length Inv-loop μ-loop
 same-length c = c .before .loop .inv .same-length
 
 returns-2 : tie.Need-returns-2 Inv-loop μ-loop
-returns-2 c = copying-ends (c .before .before .before .args .line .now) (c .before .before .before .args .out .now) (c .before .loop .i) (c .before .loop .out) (c .before .loop .inv) (c .before .before .if1 .left) (c .loop-test .left) (c .before .before .before .pre)
+returns-2 c = copying-ends (c .before .loop .inv) (c .before .before .if1 .left) (c .loop-test .left) (c .before .before .before .pre)
 
 pub put-line-spec : {M : Type 1} → statement M
 put-line-spec =

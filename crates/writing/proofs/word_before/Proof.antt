@@ -1,4 +1,5 @@
 -- word_before meets its contract: the loop keeps Putting, a byte each turn. Assumes nothing.
+use native.Mathlib.Omega.{arith}
 use mathlib.Core.List.{[], _∷_}
 use Prim.Native.Nat.{_-_}
 use Rattle.numbers.proofs.Overlay.{drop-before}
@@ -18,7 +19,7 @@ abbrev μ-loop : tie.MeasureT-loop
 μ-loop room₀ end word at₀ i₀ room at i = i
 
 loop-holds : tie.Need-loop-holds Inv-loop μ-loop
-loop-holds c = putting-starts 1 (λ j. drop j (c .before .before .args .word .now)) (length (c .before .before .args .word .now)) (c .before .before .args .room .now) (c .before .before .args .end) (drop-length (c .before .before .args .word .now))
+loop-holds c = putting-starts (drop-length (c .before .before .args .word .now))
 
 sub-i : tie.Need-sub-i Inv-loop μ-loop
 sub-i c = search needs
@@ -27,19 +28,23 @@ shared-slice-read-byte-before : tie.Need-shared-slice-read-byte-before Inv-loop 
 shared-slice-read-byte-before c = search needs
 
 byte-before-requires : tie.Need-byte-before-requires Inv-loop μ-loop
-byte-before-requires c κs = putting-space 1 (λ j. drop j (c .before .before .before .before .before .before .args .word .now)) (length (c .before .before .before .before .before .before .args .word .now)) (c .before .before .before .before .before .before .args .room .now) (c .before .before .before .before .before .before .args .end) (c .before .before .before .loop .i) (c .before .before .before .loop .room) (c .before .before .before .loop .at) (c .before .before .before .loop .inv) (c .before .before .loop-test .taken) (rw one-mul (c .before .before .before .before .before .before .pre))
+byte-before-requires c κs = putting-space (c .before .before .before .loop .inv) (c .before .before .loop-test .taken) (omega arith) (c .before .before .before .before .before .before .pre .within)
 
 loop-less : tie.Need-loop-less Inv-loop μ-loop
 loop-less c = search needs
 
 loop-again : tie.Need-loop-again Inv-loop μ-loop
-loop-again c = putting-steps 1 (λ j. drop j (c .before .before .before .before .before .before .before .before .before .args .word .now)) (length (c .before .before .before .before .before .before .before .before .before .args .word .now)) (c .before .before .before .before .before .before .before .before .before .args .room .now) (c .before .before .before .before .before .before .before .before .before .args .end) (c .before .before .before .before .before .before .loop .i) (c .before .before .before .before .before .before .loop .room) (c .before .before .before .before .before .before .loop .at) (c .before .before .before .before .before .before .loop .inv) (getD (c .before .before .before .before .before .before .before .before .before .args .word .now) (c .before .before .before .before .before .before .loop .i - 1) 0 ∷ []) (c .before .before .byte-before .last .0) (c .before .before .byte-before .result) (c .before .before .before .before .before .loop-test .taken) (c .before .before .byte-before .ensures) (drop-before (c .before .before .before .before .before .before .before .before .before .args .word .now) (c .before .before .before .before .before .before .loop .i) 0 (c .before .before .before .before .before .loop-test .taken) (c .before .before .before .before .before .before .loop .inv .below))
+loop-again c =
+    let start = c .before .before .before .before .before .before .before .before .before in
+    let loop = c .before .before .before .before .before .before .loop in
+    let loop-test = c .before .before .before .before .before .loop-test in
+    putting-steps (loop .inv) (loop-test .taken) (drop-before (start .args .word .now) (loop .i) 0 (loop-test .taken) (loop .inv .below)) (c .before .before .byte-before .ensures)
 
 same-length : tie.Need-same-length Inv-loop μ-loop
-same-length c = (c .before .loop .inv .put .same-length)
+same-length c = c .before .loop .inv .put .same-length
 
 returns : tie.Need-returns Inv-loop μ-loop
-returns c = rw one-mul at (putting-ends 1 (λ j. drop j (c .before .before .before .before .args .word .now)) (length (c .before .before .before .before .args .word .now)) (c .before .before .before .before .args .room .now) (c .before .before .before .before .args .end) (c .before .loop .i) (c .before .loop .room) (c .before .loop .at) (c .before .loop .inv) (c .loop-test .left))
+returns c = rw one-mul at (putting-ends (c .before .loop .inv) (c .loop-test .left))
 
 pub word-before-spec : {M : Type 1} → statement M
 word-before-spec =
