@@ -3,3 +3,4 @@ pub mod Bools
 pub mod Lists
 pub mod Orders
 pub mod Pigeonhole
+pub mod Overlay
