@@ -1,0 +1,2 @@
+-- The laws of the trial's loops, and the verdict put together.
+pub mod Trying
