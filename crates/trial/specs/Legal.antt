@@ -1,6 +1,6 @@
 -- TRUSTED. What a trial says. Document 01, "Choosing among equals": numbers with anything but zero in an unused place are no placement of the stack,
 -- and so not legal. Assumes nothing: these are definitions.
-use mathlib.Core.Bool.{Bool, true, false, _&&_}
+use mathlib.Core.Bool.{Bool, true, _&&_}
 use mathlib.Core.List.{List, [], _∷_, map}
 use Prim.Native.Nat.{ℕ, suc}
 use lib.Dec.{eqb}

@@ -1,11 +1,21 @@
--- What holds while the places of a placement are tried one after the other: the verdict is that on the places from i on. Assumes nothing: these are
--- definitions.
+-- What holds while the places of a placement are tried one after the other: the verdict on all is that on the places from i on. Assumes nothing: these
+-- are definitions.
 use mathlib.Core.Path.{_≡_}
 use mathlib.Core.List.{List}
-use Prim.Native.Nat.{ℕ, _≤_}
-use lib.ListN.{length, drop}
+use Prim.Native.Nat.{ℕ, suc, _≤_}
+use lib.ListN.{length, take, drop}
 use Rattle.stack.specs.Stack.{Pair, in-spread, channels-good}
-use Rattle.trial.specs.Legal.{all-zero}
+use Rattle.stack.specs.declared.Tracks.{Tracks}
+use Rattle.stack.specs.declared.Columns.{Columns}
+use Rattle.stack.specs.declared.Stack.{Stack as Stack-struct}
+use Rattle.trial.specs.Legal.{tracks-of, columns-of, all-zero}
+
+-- the places that a stack uses
+abbrev pub used-separations : Stack-struct → List Tracks → List ℕ
+used-separations k ts = take (k .count) (tracks-of ts)
+
+abbrev pub used-positions : Stack-struct → List Columns → List ℕ
+used-positions k xs = take (suc (k .count)) (columns-of xs)
 
 -- zeros from place n on
 pub record Zeros-from (xs : List ℕ) (n i : ℕ) : Type 0 where

@@ -1,13 +1,14 @@
 // The trial of a placement: legal in a spread, or not.
 ghost use mathlib.Core.Path.{_≡_};
 ghost use mathlib.Core.Bool.{true};
-ghost use Prim.Native.Nat.{suc, _+_, _≤_};
+ghost use Prim.Native.Nat.{_+_, _≤_};
 ghost use lib.Dec.{leb};
-ghost use lib.ListN.{take, drop};
+ghost use lib.ListN.{drop};
 ghost use Rattle.stack.specs.Stack.{in-spread, channels-good};
 ghost use Rattle.stack.specs.Limits.{within-limits};
 ghost use Rattle.stack.specs.Value.{stack-of};
 ghost use Rattle.trial.specs.Legal.{tracks-of, columns-of, all-zero, is-legal};
+ghost use Rattle.trial.specs.Trying.{used-separations, used-positions};
 use channel::is_feasible;
 use stack::Columns;
 use stack::Stack;
@@ -50,7 +51,7 @@ fn is_strip_within(position: Columns, strip: Strip, spread: u32) -> bool
 // Every strip lies within the spread.
 fn is_in_spread(stack: Stack, spread: u32, positions: [Columns; Stack::MAX_CHANNELS + 1]) -> bool
     requires { ⌜ within-limits (stack-of stack) ≡ true ⌝ }
-    ensures { λ r. ⌜ r ≡ in-spread spread (stack-of stack .strips) (take (suc (stack .count)) (columns-of positions)) ⌝ }
+    ensures { λ r. ⌜ r ≡ in-spread spread (stack-of stack .strips) (used-positions stack positions) ⌝ }
 {
     let strips = stack.count + 1;
     for i in 0..strips {
@@ -68,11 +69,13 @@ fn are_channels_feasible(
     positions: [Columns; Stack::MAX_CHANNELS + 1],
 ) -> bool
     requires { ⌜ within-limits (stack-of stack) ≡ true ⌝ }
-    ensures { λ r. ⌜ r ≡ channels-good (stack-of stack .channels) (take (stack .count) (tracks-of separations)) (take (suc (stack .count)) (columns-of positions)) ⌝ }
+    ensures { λ r. ⌜ r ≡ channels-good (stack-of stack .channels) (used-separations stack separations) (used-positions stack positions) ⌝ }
 {
     let channels = stack.count;
     for i in 0..channels {
-        if !is_feasible(stack.channels[i], separations[i], positions[i], positions[i + 1]) {
+        let lower = positions[i];
+        let upper = positions[i + 1];
+        if !is_feasible(stack.channels[i], separations[i], lower, upper) {
             return false;
         }
     }

@@ -1,83 +1,69 @@
-use Prim.Native.Nat.{suc, _-_}
-use lib.ListN.{take}
+-- are_channels_feasible meets its contract: the loop keeps Channels-from. Assumes nothing.
+use Prim.Native.Nat.{_-_}
+use native.Mathlib.Omega.{arith}
+use borrow.Author.Count.{falls}
+use borrow.Author.Tests.{not-true, not-false}
 use Rattle.stack.specs.Value.{stack-of}
-use Rattle.trial.specs.Legal.{tracks-of, columns-of}
-use Rattle.trial.specs.Trying.{Channels-from}
+use Rattle.stack.proofs.Within.{few-channels, few-pairs}
+use Rattle.trial.specs.Trying.{used-separations, used-positions, Channels-from}
+use Rattle.trial.proofs.Trying.{channels-start, channels-step, channels-refuse, channels-end}
+use borrow.Author.Needs.{needs}
 use Rattle.trial.proofs.are_channels_feasible.Statement.{statement}
 use Rattle.trial.proofs.are_channels_feasible.Tie as tie
-use Rattle.trial.proofs.are_channels_feasible.Reads as reads
-use Rattle.trial.proofs.are_channels_feasible.Lts as lts
-use Rattle.channel.proofs.is_feasible.Reads as is-feasible-reads
 
 abbrev Inv-loop : tie.InvT-loop
-Inv-loop stack separations positions channels i₀ i = Channels-from (stack-of stack .channels) (take (stack .count) (tracks-of separations)) (take (suc (stack .count)) (columns-of positions)) i
+Inv-loop stack separations positions channels i₀ i = Channels-from (stack-of stack .channels) (used-separations stack separations) (used-positions stack positions) i
 
 abbrev μ-loop : tie.MeasureT-loop
 μ-loop stack separations positions channels i₀ i = channels - i
 
--- src/lib.rt:74:5
 loop-holds : tie.Need-loop-holds Inv-loop μ-loop
-loop-holds c = ?
+loop-holds c = channels-start (c .args .t1) (c .args .t2) (c .args .t3)
 
--- src/lib.rt:75:25
+mul-lower : tie.Need-mul-lower Inv-loop μ-loop
+mul-lower c = omega (arith, c .loop-test .taken, few-channels (c .before .before .args .t1) (c .before .before .pre))
+
+array-copy-out-lower : tie.Need-array-copy-out-lower Inv-loop μ-loop
+array-copy-out-lower c = omega (arith, c .loop-test .taken, few-channels (c .before .before .args .t1) (c .before .before .pre))
+
+add-upper : tie.Need-add-upper Inv-loop μ-loop
+add-upper c = omega (arith, c .before .loop-test .taken, few-channels (c .before .before .before .args .t1) (c .before .before .before .pre))
+
+mul-upper : tie.Need-mul-upper Inv-loop μ-loop
+mul-upper c = omega (arith, c .before .loop-test .taken, few-channels (c .before .before .before .args .t1) (c .before .before .before .pre))
+
+array-copy-out-upper : tie.Need-array-copy-out-upper Inv-loop μ-loop
+array-copy-out-upper c = omega (arith, c .before .loop-test .taken, few-channels (c .before .before .before .args .t1) (c .before .before .before .pre))
+
 mul-is-feasible : tie.Need-mul-is-feasible Inv-loop μ-loop
-mul-is-feasible c = ?
+mul-is-feasible c = omega (arith, c .before .before .loop-test .taken, few-channels (c .before .before .before .before .args .t1) (c .before .before .before .before .pre))
 
--- src/lib.rt:75:25
 element-copy-out-is-feasible : tie.Need-element-copy-out-is-feasible Inv-loop μ-loop
-element-copy-out-is-feasible c = ?
+element-copy-out-is-feasible c = omega (arith, c .before .before .loop-test .taken, few-channels (c .before .before .before .before .args .t1) (c .before .before .before .before .pre))
 
--- src/lib.rt:75:44
 mul-is-feasible-2 : tie.Need-mul-is-feasible-2 Inv-loop μ-loop
-mul-is-feasible-2 c = ?
+mul-is-feasible-2 c = omega (arith, c .before .before .before .loop-test .taken, few-channels (c .before .before .before .before .before .args .t1) (c .before .before .before .before .before .pre))
 
--- src/lib.rt:75:44
 array-copy-out-is-feasible : tie.Need-array-copy-out-is-feasible Inv-loop μ-loop
-array-copy-out-is-feasible c = ?
+array-copy-out-is-feasible c = omega (arith, c .before .before .before .loop-test .taken, few-channels (c .before .before .before .before .before .args .t1) (c .before .before .before .before .before .pre))
 
--- src/lib.rt:75:60
-mul-is-feasible-3 : tie.Need-mul-is-feasible-3 Inv-loop μ-loop
-mul-is-feasible-3 c = ?
-
--- src/lib.rt:75:60
-array-copy-out-is-feasible-2 : tie.Need-array-copy-out-is-feasible-2 Inv-loop μ-loop
-array-copy-out-is-feasible-2 c = ?
-
--- src/lib.rt:75:84
-add-is-feasible : tie.Need-add-is-feasible Inv-loop μ-loop
-add-is-feasible c = ?
-
--- src/lib.rt:75:74
-mul-is-feasible-4 : tie.Need-mul-is-feasible-4 Inv-loop μ-loop
-mul-is-feasible-4 c = ?
-
--- src/lib.rt:75:74
-array-copy-out-is-feasible-3 : tie.Need-array-copy-out-is-feasible-3 Inv-loop μ-loop
-array-copy-out-is-feasible-3 c = ?
-
--- src/lib.rt:75:13
 is-feasible-requires : tie.Need-is-feasible-requires Inv-loop μ-loop
-is-feasible-requires c κs = ?
+is-feasible-requires c κs = few-pairs (c .before .before .before .before .before .before .args .t1) (c .before .before .before .before .before .before .pre) (c .before .before .before .before .before .loop .i) (c .before .before .before .before .loop-test .taken)
 
--- src/lib.rt:76:13
 returns : tie.Need-returns Inv-loop μ-loop
-returns c = ?
+returns c = channels-refuse (c .before .before .before .before .before .before .before .before .args .t1) (few-channels (c .before .before .before .before .before .before .before .before .args .t1) (c .before .before .before .before .before .before .before .before .pre)) (c .before .before .before .before .before .before .before .before .args .t2) (c .before .before .before .before .before .before .before .before .args .t3) (search needs) (search needs) (c .before .before .before .before .before .before .before .loop .i) (c .before .before .before .before .before .before .loop-test .taken) (c .before .is-feasible .result) (c .before .is-feasible .ensures) (c .before .before .before .before .before .before .before .loop .inv) (not-true _ (c .if1 .taken))
 
--- src/lib.rt:74:9
 add-i : tie.Need-add-i Inv-loop μ-loop
-add-i c = ?
+add-i c = omega (arith, c .before .before .before .before .before .before .loop-test .taken, few-channels (c .before .before .before .before .before .before .before .before .args .t1) (c .before .before .before .before .before .before .before .before .pre))
 
--- src/lib.rt:74:5
 loop-less : tie.Need-loop-less Inv-loop μ-loop
-loop-less c = ?
+loop-less c = falls _ _ (c .before .before .before .before .before .before .loop-test .taken)
 
--- src/lib.rt:74:5
 loop-again : tie.Need-loop-again Inv-loop μ-loop
-loop-again c = ?
+loop-again c = channels-step (c .before .before .before .before .before .before .before .before .args .t1) (few-channels (c .before .before .before .before .before .before .before .before .args .t1) (c .before .before .before .before .before .before .before .before .pre)) (c .before .before .before .before .before .before .before .before .args .t2) (c .before .before .before .before .before .before .before .before .args .t3) (search needs) (search needs) (c .before .before .before .before .before .before .before .loop .i) (c .before .before .before .before .before .before .loop-test .taken) (c .before .is-feasible .result) (c .before .is-feasible .ensures) (c .before .before .before .before .before .before .before .loop .inv) (not-false _ (c .if1 .left))
 
--- src/lib.rt:65:1
 returns-2 : tie.Need-returns-2 Inv-loop μ-loop
-returns-2 c = ?
+returns-2 c = channels-end (c .before .before .args .t1) (few-channels (c .before .before .args .t1) (c .before .before .pre)) (c .before .before .args .t2) (c .before .before .args .t3) (search needs) (search needs) (c .before .loop .i) (c .loop-test .left) (c .before .loop .inv)
 
 pub are-channels-feasible-spec : {M : Type 1} → statement M
 are-channels-feasible-spec =
@@ -86,15 +72,15 @@ are-channels-feasible-spec =
     Inv-loop
     μ-loop
     loop-holds
+    mul-lower
+    array-copy-out-lower
+    add-upper
+    mul-upper
+    array-copy-out-upper
     mul-is-feasible
     element-copy-out-is-feasible
     mul-is-feasible-2
     array-copy-out-is-feasible
-    mul-is-feasible-3
-    array-copy-out-is-feasible-2
-    add-is-feasible
-    mul-is-feasible-4
-    array-copy-out-is-feasible-3
     is-feasible-requires
     returns
     add-i

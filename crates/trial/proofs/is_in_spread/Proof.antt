@@ -1,67 +1,57 @@
-use Prim.Native.Nat.{suc, _-_}
-use lib.ListN.{take}
+-- is_in_spread meets its contract: the loop keeps Spread-from. Assumes nothing.
+use Prim.Native.Nat.{_-_}
+use native.Mathlib.Omega.{arith}
+use borrow.Author.Count.{falls}
+use borrow.Author.Tests.{not-true, not-false}
 use Rattle.stack.specs.Value.{stack-of}
-use Rattle.trial.specs.Legal.{columns-of}
-use Rattle.trial.specs.Trying.{Spread-from}
+use Rattle.stack.proofs.Within.{few-channels}
+use Rattle.trial.specs.Trying.{used-positions, Spread-from}
+use Rattle.trial.proofs.Trying.{spread-start, spread-step, spread-refuse, spread-end}
+use borrow.Author.Needs.{needs}
 use Rattle.trial.proofs.is_in_spread.Statement.{statement}
 use Rattle.trial.proofs.is_in_spread.Tie as tie
-use Rattle.trial.proofs.is_in_spread.Reads as reads
-use Rattle.trial.proofs.is_in_spread.Lts as lts
-use Rattle.trial.proofs.is_strip_within.Reads as is-strip-within-reads
 
 abbrev Inv-loop : tie.InvT-loop
-Inv-loop spread stack positions strips i₀ i = Spread-from spread (stack-of stack .strips) (take (suc (stack .count)) (columns-of positions)) i
+Inv-loop spread stack positions strips i₀ i = Spread-from spread (stack-of stack .strips) (used-positions stack positions) i
 
 abbrev μ-loop : tie.MeasureT-loop
 μ-loop spread stack positions strips i₀ i = strips - i
 
--- src/lib.rt:55:18
 add-strips : tie.Need-add-strips Inv-loop μ-loop
-add-strips c = ?
+add-strips c = omega (arith, few-channels (c .args .t1) (c .pre))
 
--- src/lib.rt:56:5
 loop-holds : tie.Need-loop-holds Inv-loop μ-loop
-loop-holds c = ?
+loop-holds c = spread-start (c .args .t1) (c .args .spread) (c .args .t3)
 
--- src/lib.rt:57:29
 mul-is-strip-within : tie.Need-mul-is-strip-within Inv-loop μ-loop
-mul-is-strip-within c = ?
+mul-is-strip-within c = omega (arith, c .loop-test .taken, few-channels (c .before .before .args .t1) (c .before .before .pre))
 
--- src/lib.rt:57:29
 array-copy-out-is-strip-within : tie.Need-array-copy-out-is-strip-within Inv-loop μ-loop
-array-copy-out-is-strip-within c = ?
+array-copy-out-is-strip-within c = omega (arith, c .loop-test .taken, few-channels (c .before .before .args .t1) (c .before .before .pre))
 
--- src/lib.rt:57:43
 mul-is-strip-within-2 : tie.Need-mul-is-strip-within-2 Inv-loop μ-loop
-mul-is-strip-within-2 c = ?
+mul-is-strip-within-2 c = omega (arith, c .before .loop-test .taken, few-channels (c .before .before .before .args .t1) (c .before .before .before .pre))
 
--- src/lib.rt:57:43
 element-copy-out-is-strip-within : tie.Need-element-copy-out-is-strip-within Inv-loop μ-loop
-element-copy-out-is-strip-within c = ?
+element-copy-out-is-strip-within c = omega (arith, c .before .loop-test .taken, few-channels (c .before .before .before .args .t1) (c .before .before .before .pre))
 
--- src/lib.rt:57:13
 is-strip-within-requires : tie.Need-is-strip-within-requires Inv-loop μ-loop
-is-strip-within-requires c κs = ?
+is-strip-within-requires c κs = search needs
 
--- src/lib.rt:58:13
 returns : tie.Need-returns Inv-loop μ-loop
-returns c = ?
+returns c = spread-refuse (c .before .before .before .before .before .before .args .t1) (few-channels (c .before .before .before .before .before .before .args .t1) (c .before .before .before .before .before .before .pre)) (c .before .before .before .before .before .before .args .t3) (search needs) (c .before .before .before .before .before .before .args .spread) (c .before .before .before .before .before .loop .i) (c .before .before .before .before .loop-test .taken) (c .before .is-strip-within .result) (c .before .is-strip-within .ensures) (c .before .before .before .before .before .loop .inv) (not-true _ (c .if1 .taken))
 
--- src/lib.rt:56:9
 add-i : tie.Need-add-i Inv-loop μ-loop
-add-i c = ?
+add-i c = omega (arith, c .before .before .before .before .loop-test .taken, few-channels (c .before .before .before .before .before .before .args .t1) (c .before .before .before .before .before .before .pre))
 
--- src/lib.rt:56:5
 loop-less : tie.Need-loop-less Inv-loop μ-loop
-loop-less c = ?
+loop-less c = falls _ _ (c .before .before .before .before .loop-test .taken)
 
--- src/lib.rt:56:5
 loop-again : tie.Need-loop-again Inv-loop μ-loop
-loop-again c = ?
+loop-again c = spread-step (c .before .before .before .before .before .before .args .t1) (few-channels (c .before .before .before .before .before .before .args .t1) (c .before .before .before .before .before .before .pre)) (c .before .before .before .before .before .before .args .t3) (search needs) (c .before .before .before .before .before .before .args .spread) (c .before .before .before .before .before .loop .i) (c .before .before .before .before .loop-test .taken) (c .before .is-strip-within .result) (c .before .is-strip-within .ensures) (c .before .before .before .before .before .loop .inv) (not-false _ (c .if1 .left))
 
--- src/lib.rt:51:1
 returns-2 : tie.Need-returns-2 Inv-loop μ-loop
-returns-2 c = ?
+returns-2 c = spread-end (c .before .before .args .t1) (few-channels (c .before .before .args .t1) (c .before .before .pre)) (c .before .before .args .t3) (search needs) (c .before .before .args .spread) (c .before .loop .i) (c .loop-test .left) (c .before .loop .inv)
 
 pub is-in-spread-spec : {M : Type 1} → statement M
 is-in-spread-spec =
