@@ -1,0 +1,2 @@
+-- The table over all spreads.
+pub mod Walking

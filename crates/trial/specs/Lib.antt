@@ -1,0 +1,3 @@
+-- The trial of a placement.
+pub mod Legal
+pub mod Trying
