@@ -2,20 +2,22 @@
 -- between the limits of a channel with more pairs than tracks touch, and the others can be moved until they do; strips that touch one after another
 -- take up no more columns than their lengths together. Assumes nothing.
 use mathlib.Core.Path.{_≡_, refl, sym, ap, _∙_}
-use mathlib.Core.Bool.{Bool, true, false, _&&_}
+use mathlib.Core.Bool.{Bool, true, false, _&&_, cond}
 use mathlib.Core.Logic.{_⊎_, inl, inr}
 use mathlib.Core.List.{List, [], _∷_}
-use Prim.Native.Nat.{ℕ, zero, suc, _+_, _-_, _≤_, _<_, min, max}
+use Prim.Native.Nat.{ℕ, zero, suc, _+_, _*_, _-_, _≤_, _<_, min, max}
 use native.Mathlib.Omega.{arith}
-use lib.Dec.{leb}
+use lib.Dec.{ltb, leb}
 use lib.ListN.{length, getD}
 use borrow.Author.Tests.{leb-true, le-leb}
 use Rattle.numbers.proofs.Bools.{ands, and-left, and-right, and-both, or-left, impossible}
 use Rattle.numbers.proofs.Orders.{le-or-lt}
-use Rattle.stack.specs.Stack.{Pair, Stack, stack, p-at, q-at, feasible, in-spread, channels-good, legal, sum}
-use Rattle.stack.specs.Limits.{on-strips, channel-within, channels-within, within-limits}
+use Rattle.stack.specs.Stack.{Pair, Stack, stack, p-at, q-at, feasible, in-spread, channels-good, legal, sum, longest}
+use Rattle.stack.specs.Limits.{on-strips, channel-within, channels-within, strips-within, within-limits}
 use Rattle.stack.proofs.Feasible.{By-pairs, by-pairs-feasible, feasible-by-pairs}
 use Rattle.stack.proofs.OnStrips.{terminals-on}
+use Rattle.stack.proofs.Within.{strips-count, channels-few}
+use Rattle.rows.specs.Walk.{widest}
 
 -- feasibility goes by the offset alone
 feasible-moved : (c : List Pair) (t x y x′ y′ : ℕ) → y + x′ ≡ y′ + x → feasible c t x y ≡ true → feasible c t x′ y′ ≡ true
@@ -141,3 +143,29 @@ settled-strips (l ∷ ls) cs s us (y ∷ ys) e h =
 pub settled : (k : Stack) (s : ℕ) (us ys : List ℕ) → within-limits k ≡ true → legal k s us ys ≡ true → (zs : List ℕ) × (legal k (sum (k .strips)) us zs ≡ true)
 unfolding within-limits stack
 settled k s us ys e h = settled-strips (k .strips) (k .channels) s us ys (search ands) h
+
+-- the sum of the lengths is at most 1,000 for each strip
+sum-small : (ls : List ℕ) → strips-within ls ≡ true → sum ls ≤ 1000 * length ls
+unfolding strips-within sum
+sum-small [] e = omega arith
+sum-small (l ∷ ls) e =
+    let here : l ≤ 1000 = leb-true l 1000 (search ands) in
+    omega (arith, sum-small ls (search ands))
+
+longest-sum : (ls : List ℕ) → longest ls ≤ sum ls
+unfolding longest sum
+longest-sum [] = omega arith
+longest-sum (l ∷ ls) = go (ltb l (longest ls)) (longest-sum ls)
+  where
+    go : (b : Bool) → longest ls ≤ sum ls → cond b (longest ls) l ≤ l + sum ls
+    go true h = omega arith
+    go false h = omega arith
+
+-- THE GREATEST SPREAD OF USE is small, and no less than the longest strip
+pub widest-small : (k : Stack) → within-limits k ≡ true → widest k ≤ 9000
+unfolding widest within-limits
+widest-small k e = omega (arith, sum-small (k .strips) (search ands), strips-count k e, channels-few k e)
+
+pub longest-widest : (k : Stack) → longest (k .strips) ≤ widest k
+unfolding widest
+longest-widest k = longest-sum (k .strips)

@@ -2,16 +2,20 @@
 use mathlib.Core.Path.{_≡_}
 use mathlib.Core.List.{List, _++_}
 use Prim.Native.Nat.{ℕ, suc, _+_, _*_, _-_, _≤_, _<_}
-use lib.ListN.{length}
+use lib.ListN.{length, take}
 use Rattle.stack.specs.Stack.{Stack, longest}
+use Rattle.stack.specs.Value.{stack-of}
+use Rattle.stack.specs.declared.Stack.{Stack as Stack-struct}
+use Rattle.solver.specs.Arrays.{strips-held, Sized}
 use Rattle.answer.specs.Solve.{answer-total}
 use Rattle.rows.specs.Walk.{rows-walk, widest, rows-of}
+use Rattle.rows.specs.Evaluate.{Held}
 use Rattle.writing.specs.Output.{Written, line-bytes}
 use Rattle.writing.specs.TableText.{table-text, rows-text}
 use Rattle.table.specs.declared.Walk.{Walk}
 
 -- at a spread: its total, how far it stays, and the whole table as the text so far and the rows to come
-pub record Walking (k : Stack) (before after : List ℕ) (w : Walk) : Type 0 where
+pub record Walking (k : Stack) (out : List ℕ) (w : Walk) : Type 0 where
   pub from : longest (k .strips) ≤ w .spread
   pub upto : w .spread ≤ widest k
   pub total-is : answer-total k (w .spread) ≡ w .total
@@ -21,4 +25,25 @@ pub record Walking (k : Stack) (before after : List ℕ) (w : Walk) : Type 0 whe
   pub whole : table-text (length (k .channels)) (rows-of k) ≡ text ++ rows-text (rows-walk k (widest k - w .spread) (suc (w .spread)) (w .total))
   pub at-is : w .at ≡ length text
   pub few : w .at + line-bytes * w .total ≤ line-bytes * 258
-  pub written : Written text before after
+  pub written : Written text out out
+
+-- the arrays that are held from spread to spread
+pub record Holding (k : Stack-struct) (lows highs : List (List ℕ)) (counts uptos : List ℕ) (froms ends : List (List ℕ)) : Type 0 where
+  pub held : Held k lows highs counts
+  pub sized-windows : length uptos ≡ strips-held
+  pub sized-froms : Sized froms
+  pub sized-ends : Sized ends
+
+-- the next event lies within the sum of the lengths
+pub record Step-asks (k : Stack-struct) (w : Walk) (next : ℕ) (lows highs : List (List ℕ)) (counts uptos : List ℕ) (froms ends : List (List ℕ)) (out : List ℕ) : Type 0 where
+  pub holding : Holding k lows highs counts uptos froms ends
+  pub walking : Walking (stack-of k) out w
+  pub some : 0 < w .total
+  pub jumped : next ≡ w .spread + w .jump
+  pub inside : next ≤ widest (stack-of k)
+
+-- THE TABLE: its whole length, and its text if there is space for it
+pub record Table-put (k : Stack) (out : List ℕ) (r : ℕ) : Type 0 where
+  pub counted : r ≡ length (table-text (length (k .channels)) (rows-of k))
+  pub written : Written (table-text (length (k .channels)) (rows-of k)) out out
+  pub few : r ≤ line-bytes * 258

@@ -1,13 +1,19 @@
 // The table over all spreads: rows found by jumps from event to event, each written directly behind the line before it.
 ghost use mathlib.Core.Path.{_≡_};
-ghost use Prim.Native.Nat.{_≤_};
-ghost use Rattle.table.specs.Walking.{Evaluate-asks, Evaluated};
+ghost use mathlib.Core.Bool.{true};
+ghost use Prim.Native.Nat.{_^_, _≤_};
+ghost use Rattle.stack.specs.Limits.{within-limits};
+ghost use Rattle.stack.specs.Value.{stack-of};
+ghost use Rattle.rows.specs.Evaluate.{Place-row-asks};
+ghost use Rattle.rows.specs.Walk.{row-at};
+ghost use Rattle.writing.specs.Output.{Line-put-at};
+ghost use Rattle.writing.specs.TableText.{row-text};
+ghost use Rattle.table.specs.Walking.{Walking, Step-asks, Holding, Table-put};
 use answer::fill_limits;
-use answer::fill_windows;
+use rows::evaluate;
+use rows::place_row;
 use solver::Scan;
 use solver::most_total;
-use solver::place_in;
-use solver::scan_totals;
 use stack::Stack;
 use writing::put_head;
 use writing::put_row_at;
@@ -28,23 +34,159 @@ struct Walk {
     at: usize,
 }
 
-// The windows of a spread, and the first total up to cap that can be had in it.
-fn evaluate(
+// The row of a spread whose total was found, written behind the text that ends at a place.
+fn put_placed(
     stack: Stack,
     spread: u32,
-    cap: usize,
+    scan: Scan,
+    low: &[[u64; SEPARATIONS]; CHANNELS],
+    high: &[[u64; SEPARATIONS]; CHANNELS],
+    counts: &[usize; CHANNELS],
+    upto: &[u64; STRIPS],
+    froms: &[[u64; TOTALS]; STRIPS],
+    uptos: &[[u64; TOTALS]; STRIPS],
+    out: &mut [u8],
+    at: usize,
+) -> usize
+    requires { ⌜ (at ≤ 2 ^ 32) × Place-row-asks stack spread (now low) (now high) (now counts) (now upto) (now froms) (now uptos) scan ⌝ }
+    ensures { λ r. ⌜ Line-put-at at (row-text (row-at (stack-of stack) spread)) (now (out .entry)) (now (out .exit)) r ⌝ }
+{
+    let k = stack.count;
+    let placement = place_row(stack, spread, scan, low, high, counts, upto, froms, uptos);
+    let total = placement.total;
+    let separations = placement.separations;
+    let positions = placement.positions;
+    put_row_at(out, at, k, spread, total.0, separations, positions)
+}
+
+// The first line, and the row of the longest strip's length.
+fn begin(
+    stack: Stack,
     low: &[[u64; SEPARATIONS]; CHANNELS],
     high: &[[u64; SEPARATIONS]; CHANNELS],
     counts: &[usize; CHANNELS],
     upto: &mut [u64; STRIPS],
     froms: &mut [[u64; TOTALS]; STRIPS],
     uptos: &mut [[u64; TOTALS]; STRIPS],
-) -> Scan
-    requires { ⌜ Evaluate-asks stack spread cap (now low) (now high) (now counts) (now upto) (now froms) (now uptos) ⌝ }
-    ensures { λ r. ⌜ Evaluated stack spread cap (now (low .entry)) (now (high .entry)) (now (counts .entry)) (now (upto .exit)) (now (froms .exit)) (now (uptos .exit)) r ⌝ }
+    out: &mut [u8],
+) -> Walk
+    requires { ⌜ Holding stack (now low) (now high) (now counts) (now upto) (now froms) (now uptos) ⌝ }
+    ensures { λ w. ⌜ Walking (stack-of stack) (now (out .exit)) w × Holding stack (now (low .entry)) (now (high .entry)) (now (counts .entry)) (now (upto .exit)) (now (froms .exit)) (now (uptos .exit)) ⌝ }
 {
     let k = stack.count;
-    let from = [0u64; STRIPS];
-    fill_windows(stack, spread, upto);
-    scan_totals(low, high, counts, &from, upto, k, cap, froms, uptos)
+    let spread = stack.longest();
+    let cap = most_total(counts, k);
+    let scan = evaluate(stack, spread, cap, low, high, counts, upto, froms, uptos);
+    let head = put_head(out, k);
+    let at = put_placed(
+        stack,
+        spread,
+        scan,
+        low,
+        high,
+        counts,
+        upto,
+        froms,
+        uptos,
+        out,
+        head,
+    );
+    Walk {
+        spread,
+        total: scan.total,
+        jump: scan.jump,
+        at,
+    }
+}
+
+// The next event's spread, with its row if the total falls there.
+fn step(
+    stack: Stack,
+    w: Walk,
+    next: u32,
+    low: &[[u64; SEPARATIONS]; CHANNELS],
+    high: &[[u64; SEPARATIONS]; CHANNELS],
+    counts: &[usize; CHANNELS],
+    upto: &mut [u64; STRIPS],
+    froms: &mut [[u64; TOTALS]; STRIPS],
+    uptos: &mut [[u64; TOTALS]; STRIPS],
+    out: &mut [u8],
+) -> Walk
+    requires { ⌜ Step-asks stack w next (now low) (now high) (now counts) (now upto) (now froms) (now uptos) (now out) ⌝ }
+    ensures { λ r. ⌜ Walking (stack-of stack) (now (out .exit)) r × Holding stack (now (low .entry)) (now (high .entry)) (now (counts .entry)) (now (upto .exit)) (now (froms .exit)) (now (uptos .exit)) × (r .spread ≡ next) ⌝ }
+{
+    let cap = w.total - 1;
+    let scan = evaluate(stack, next, cap, low, high, counts, upto, froms, uptos);
+    if cap < scan.total {
+        return Walk {
+            spread: next,
+            total: w.total,
+            jump: scan.jump,
+            at: w.at,
+        };
+    }
+    let at = put_placed(
+        stack,
+        next,
+        scan,
+        low,
+        high,
+        counts,
+        upto,
+        froms,
+        uptos,
+        out,
+        w.at,
+    );
+    Walk {
+        spread: next,
+        total: scan.total,
+        jump: scan.jump,
+        at,
+    }
+}
+
+// The table of a stack over the output's first bytes, each line if there is space for it; the whole table's length.
+pub fn put_table(stack: Stack, out: &mut [u8]) -> usize
+    requires { ⌜ within-limits (stack-of stack) ≡ true ⌝ }
+    ensures { λ r. ⌜ Table-put (stack-of stack) (now (out .exit)) r ⌝ }
+{
+    let mut low = [[0u64; SEPARATIONS]; CHANNELS];
+    let mut high = [[0u64; SEPARATIONS]; CHANNELS];
+    let mut counts = [0usize; CHANNELS];
+    fill_limits(stack, &mut low, &mut high, &mut counts);
+    let mut upto = [0u64; STRIPS];
+    let mut froms = [[0u64; TOTALS]; STRIPS];
+    let mut uptos = [[0u64; TOTALS]; STRIPS];
+    let widest = stack.lengths_sum();
+    let mut w = begin(
+        stack,
+        &low,
+        &high,
+        &counts,
+        &mut upto,
+        &mut froms,
+        &mut uptos,
+        out,
+    );
+    while 0 < w.total {
+        let next = w.spread as u64 + w.jump;
+        if widest < next {
+            return w.at;
+        }
+        let further = step(
+            stack,
+            w,
+            next as u32,
+            &low,
+            &high,
+            &counts,
+            &mut upto,
+            &mut froms,
+            &mut uptos,
+            out,
+        );
+        w = further;
+    }
+    w.at
 }
