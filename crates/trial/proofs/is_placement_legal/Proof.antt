@@ -9,7 +9,7 @@ use Rattle.trial.proofs.is_placement_legal.Statement.{statement}
 use Rattle.trial.proofs.is_placement_legal.Tie as tie
 
 are-tracks-zero-requires : tie.Need-are-tracks-zero-requires
-are-tracks-zero-requires c κs = few-channels (c .args .stack) (c .pre)
+are-tracks-zero-requires c κs = omega (arith, few-channels (c .args .stack) (c .pre))
 
 returns : tie.Need-returns
 returns c = tracks-refuse (c .before .before .args .stack) (c .before .before .args .spread) (tracks-of (c .before .before .args .separations)) (columns-of (c .before .before .args .positions)) (c .before .are-tracks-zero .result) (c .before .are-tracks-zero .ensures) (not-true _ (c .if1 .taken))
