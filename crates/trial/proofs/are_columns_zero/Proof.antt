@@ -15,7 +15,7 @@ abbrev μ-loop : tie.MeasureT-loop
 μ-loop from positions i₀ i = 9 - i
 
 loop-holds : tie.Need-loop-holds Inv-loop μ-loop
-loop-holds c = zeros-start (columns-of (c .args .t1)) 9 (c .args .from) (columns-long (c .args .t1) 9 (search needs)) (c .pre)
+loop-holds c = zeros-start (columns-of (c .args .t1)) (c .args .from)
 
 mul-if1 : tie.Need-mul-if1 Inv-loop μ-loop
 mul-if1 c = search needs

@@ -15,7 +15,7 @@ abbrev μ-loop : tie.MeasureT-loop
 μ-loop from separations i₀ i = 8 - i
 
 loop-holds : tie.Need-loop-holds Inv-loop μ-loop
-loop-holds c = zeros-start (tracks-of (c .args .t1)) 8 (c .args .from) (tracks-long (c .args .t1) 8 (search needs)) (c .pre)
+loop-holds c = zeros-start (tracks-of (c .args .t1)) (c .args .from)
 
 mul-if1 : tie.Need-mul-if1 Inv-loop μ-loop
 mul-if1 c = search needs
