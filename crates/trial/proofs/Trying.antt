@@ -38,16 +38,12 @@ zeros-next : (xs : List ℕ) (i : ℕ) → i < length xs → all-zero (drop i xs
 unfolding all-zero
 zeros-next xs i h = rw (drop-cons xs i 0 h)
 
-pub zeros-start : (xs : List ℕ) (m n : ℕ) → length xs ≡ m → n ≤ m → Zeros-from xs n n
-zeros-start xs m n long h = record { inside = omega arith; rest = refl }
+pub zeros-start : (xs : List ℕ) (n : ℕ) → Zeros-from xs n n
+zeros-start xs n = record { rest = refl }
 
 module _ (xs : List ℕ) (m n i v : ℕ) (long : length xs ≡ m) (less : i < m) (at : getD xs i 0 ≡ v) (s : Zeros-from xs n i) where
   pub zeros-step : v ≡ 0 → Zeros-from xs n (i + 1)
-  zeros-step h =
-      record {
-        inside = omega arith;
-        rest = s .rest ∙ zeros-next xs i (omega arith) ∙ rw (eq-eqb (getD xs i 0) 0 (at ∙ h), add-one i);
-      }
+  zeros-step h = record { rest = s .rest ∙ zeros-next xs i (omega arith) ∙ rw (eq-eqb (getD xs i 0) 0 (at ∙ h), add-one i) }
 
   pub zeros-refuse : (v ≡ 0 → ⊥) → false ≡ all-zero (drop n xs)
   zeros-refuse h = sym (s .rest ∙ zeros-next xs i (omega arith) ∙ rw (ne-eqb (getD xs i 0) 0 (λ e. h (sym at ∙ e))))
@@ -63,7 +59,7 @@ unfolding in-spread
 spread-next s ls xs i h k = rw (drop-cons ls i 0 h, drop-cons xs i 0 k)
 
 pub spread-start : (k : Stack-struct) (s : ℕ) (xs : List Columns) → Spread-from s (stack-of k .strips) (used-positions k xs) 0
-spread-start k s xs = record { inside = omega arith; rest = refl }
+spread-start k s xs = record { rest = refl }
 
 module _ (k : Stack-struct) (few : k .count ≤ 8) (xs : List Columns) (long : length xs ≡ 9) where
   positions-long : length (used-positions k xs) ≡ suc (k .count)
@@ -80,7 +76,7 @@ module _ (k : Stack-struct) (few : k .count ≤ 8) (xs : List Columns) (long : l
         ∙ rw (is, position-at i (omega arith), stack-strip k i (omega arith))
 
     pub spread-step : r ≡ true → Spread-from s (stack-of k .strips) (used-positions k xs) (i + 1)
-    spread-step h = record { inside = omega (arith, stack-strips k); rest = spread-split ∙ rw (h, add-one i) }
+    spread-step h = record { rest = spread-split ∙ rw (h, add-one i) }
 
     pub spread-refuse : r ≡ false → false ≡ in-spread s (stack-of k .strips) (used-positions k xs)
     spread-refuse h = sym (spread-split ∙ rw h)
@@ -101,7 +97,7 @@ channels-next cs ts xs i h k l =
     rw (drop-cons cs i [] h, drop-cons ts i 0 k, drop-cons xs i 0 l, above)
 
 pub channels-start : (k : Stack-struct) (ts : List Tracks) (xs : List Columns) → Channels-from (stack-of k .channels) (used-separations k ts) (used-positions k xs) 0
-channels-start k ts xs = record { inside = omega arith; rest = refl }
+channels-start k ts xs = record { rest = refl }
 
 module _ (k : Stack-struct) (few : k .count ≤ 8) (ts : List Tracks) (xs : List Columns) (tracks-all : length ts ≡ 8) (columns-all : length xs ≡ 9) where
   separations-long : length (used-separations k ts) ≡ k .count
@@ -122,7 +118,7 @@ module _ (k : Stack-struct) (few : k .count ≤ 8) (ts : List Tracks) (xs : List
         ∙ rw (is, stack-channel k i less, separation-at i less, position-at k few xs columns-all i (omega arith), position-at k few xs columns-all (suc i) (omega arith), add-one i)
 
     pub channels-step : r ≡ true → Channels-from (stack-of k .channels) (used-separations k ts) (used-positions k xs) (i + 1)
-    channels-step h = record { inside = omega (arith, stack-channels k); rest = channels-split ∙ rw (h, add-one i) }
+    channels-step h = record { rest = channels-split ∙ rw (h, add-one i) }
 
     pub channels-refuse : r ≡ false → false ≡ channels-good (stack-of k .channels) (used-separations k ts) (used-positions k xs)
     channels-refuse h = sym (channels-split ∙ rw h)

@@ -2,8 +2,8 @@
 -- are definitions.
 use mathlib.Core.Path.{_≡_}
 use mathlib.Core.List.{List}
-use Prim.Native.Nat.{ℕ, suc, _≤_}
-use lib.ListN.{length, take, drop}
+use Prim.Native.Nat.{ℕ, suc}
+use lib.ListN.{take, drop}
 use Rattle.stack.specs.Stack.{Pair, in-spread, channels-good}
 use Rattle.stack.specs.declared.Tracks.{Tracks}
 use Rattle.stack.specs.declared.Columns.{Columns}
@@ -19,15 +19,12 @@ used-positions k xs = take (suc (k .count)) (columns-of xs)
 
 -- zeros from place n on
 pub record Zeros-from (xs : List ℕ) (n i : ℕ) : Type 0 where
-  pub inside : i ≤ length xs
   pub rest : all-zero (drop n xs) ≡ all-zero (drop i xs)
 
 -- within the spread
 pub record Spread-from (s : ℕ) (strips xs : List ℕ) (i : ℕ) : Type 0 where
-  pub inside : i ≤ length strips
   pub rest : in-spread s strips xs ≡ in-spread s (drop i strips) (drop i xs)
 
 -- every channel feasible
 pub record Channels-from (channels : List (List Pair)) (ts xs : List ℕ) (i : ℕ) : Type 0 where
-  pub inside : i ≤ length channels
   pub rest : channels-good channels ts xs ≡ channels-good (drop i channels) (drop i ts) (drop i xs)

@@ -1,7 +1,7 @@
 // The trial of a placement: legal in a spread, or not.
 ghost use mathlib.Core.Path.{_≡_};
 ghost use mathlib.Core.Bool.{true};
-ghost use Prim.Native.Nat.{_+_, _≤_};
+ghost use Prim.Native.Nat.{_+_};
 ghost use lib.Dec.{leb};
 ghost use lib.ListN.{drop};
 ghost use Rattle.stack.specs.Stack.{in-spread, channels-good};
@@ -17,7 +17,6 @@ use stack::Tracks;
 
 // Separations are zero from a place on.
 fn are_tracks_zero(separations: [Tracks; Stack::MAX_CHANNELS], from: usize) -> bool
-    requires { ⌜ from ≤ 8 ⌝ }
     ensures { λ r. ⌜ r ≡ all-zero (drop from (tracks-of separations)) ⌝ }
 {
     for i in from..Stack::MAX_CHANNELS {
@@ -30,7 +29,6 @@ fn are_tracks_zero(separations: [Tracks; Stack::MAX_CHANNELS], from: usize) -> b
 
 // Positions are zero from a place on.
 fn are_columns_zero(positions: [Columns; Stack::MAX_CHANNELS + 1], from: usize) -> bool
-    requires { ⌜ from ≤ 9 ⌝ }
     ensures { λ r. ⌜ r ≡ all-zero (drop from (columns-of positions)) ⌝ }
 {
     for i in from..Stack::MAX_CHANNELS + 1 {

@@ -1,10 +1,10 @@
 -- are_columns_zero meets its contract: the loop keeps Zeros-from. Assumes nothing.
-use borrow.Author.Count.{falls}
-use Rattle.trial.proofs.Trying.{columns-long, column-at, zeros-start, zeros-step, zeros-refuse, zeros-end}
-use borrow.Author.Needs.{needs}
 use Prim.Native.Nat.{_-_}
+use borrow.Author.Count.{falls}
 use Rattle.trial.specs.Legal.{columns-of}
 use Rattle.trial.specs.Trying.{Zeros-from}
+use Rattle.trial.proofs.Trying.{columns-long, column-at, zeros-start, zeros-step, zeros-refuse, zeros-end}
+use borrow.Author.Needs.{needs}
 use Rattle.trial.proofs.are_columns_zero.Statement.{statement}
 use Rattle.trial.proofs.are_columns_zero.Tie as tie
 
@@ -15,7 +15,7 @@ abbrev μ-loop : tie.MeasureT-loop
 μ-loop from positions i₀ i = 9 - i
 
 loop-holds : tie.Need-loop-holds Inv-loop μ-loop
-loop-holds c = zeros-start (columns-of (c .args .t1)) 9 (c .args .from) (columns-long (c .args .t1) 9 (search needs)) (c .pre)
+loop-holds c = zeros-start (columns-of (c .args .t1)) (c .args .from)
 
 mul-if1 : tie.Need-mul-if1 Inv-loop μ-loop
 mul-if1 c = search needs

@@ -9,7 +9,7 @@ use Rattle.trial.proofs.is_placement_legal.Statement.{statement}
 use Rattle.trial.proofs.is_placement_legal.Tie as tie
 
 are-tracks-zero-requires : tie.Need-are-tracks-zero-requires
-are-tracks-zero-requires c κs = few-channels (c .args .stack) (c .pre)
+are-tracks-zero-requires c κs = search needs
 
 returns : tie.Need-returns
 returns c = tracks-refuse (c .before .before .args .stack) (c .before .before .args .spread) (tracks-of (c .before .before .args .separations)) (columns-of (c .before .before .args .positions)) (c .before .are-tracks-zero .result) (c .before .are-tracks-zero .ensures) (not-true _ (c .if1 .taken))
@@ -18,7 +18,7 @@ add-are-columns-zero : tie.Need-add-are-columns-zero
 add-are-columns-zero c = omega (arith, few-channels (c .before .before .args .stack) (c .before .before .pre))
 
 are-columns-zero-requires : tie.Need-are-columns-zero-requires
-are-columns-zero-requires c κs = omega (arith, few-channels (c .before .before .args .stack) (c .before .before .pre))
+are-columns-zero-requires c κs = search needs
 
 returns-2 : tie.Need-returns-2
 returns-2 c = columns-refuse (c .before .before .before .before .args .stack) (c .before .before .before .before .args .spread) (tracks-of (c .before .before .before .before .args .separations)) (columns-of (c .before .before .before .before .args .positions)) (c .before .before .before .are-tracks-zero .result) (c .before .before .before .are-tracks-zero .ensures) (not-false _ (c .before .before .if1 .left)) (c .before .are-columns-zero .result) (c .before .are-columns-zero .ensures) (not-true _ (c .if2 .taken))
