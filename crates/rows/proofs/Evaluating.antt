@@ -36,7 +36,7 @@ module _ (k : Stack-struct) (s : ℕ) (lows highs : List (List ℕ)) (counts upt
   pub cap-used : (cap : ℕ) → cap ≤ sums counts 0 (k .count) → cap ≤ most (levels (arrays lows highs counts uptos) 0 (k .count))
   cap-used cap h = omega (arith, most-sums (arrays lows highs counts uptos) 0 (k .count))
 
-  cap-small : (cap : ℕ) → cap ≤ sums counts 0 (k .count) → cap < totals-held
+  pub cap-small : (cap : ℕ) → cap ≤ sums counts 0 (k .count) → cap < totals-held
   cap-small cap h = omega (arith, cap-used cap h, most-small (arrays lows highs counts uptos) (k .count) held-asks 0 (k .count) (omega arith), held-asks .channels)
 
   pub evaluate-scan-asks : (cap : ℕ) (old : List ℕ) (froms ends : List (List ℕ)) → Evaluate-asks k s cap lows highs counts old froms ends → Scan-asks (arrays lows highs counts uptos) (k .count) cap froms ends

@@ -4,11 +4,13 @@ use mathlib.Core.Bool.{true}
 use mathlib.Core.List.{List}
 use Prim.Native.Nat.{ℕ, zero, suc, _+_, _-_, _≤_, _<_}
 use native.Mathlib.Omega.{arith}
-use lib.ListN.{length}
-use Rattle.stack.specs.Stack.{longest}
-use Rattle.stack.specs.Value.{stack-of}
+use lib.ListN.{length, getD}
+use Rattle.stack.specs.Stack.{Stack, longest}
+use Rattle.stack.specs.Limits.{within-limits}
+use Rattle.stack.specs.Value.{no-terminals, stack-of}
 use Rattle.stack.specs.declared.Stack.{Stack as Stack-struct}
-use Rattle.stack.proofs.Within.{stack-channels}
+use Rattle.stack.proofs.Values.{channel-length}
+use Rattle.stack.proofs.Within.{stack-channels, stack-channel, few-channels, few-pairs}
 use Rattle.solver.specs.Arrays.{strips-held}
 use Rattle.solver.specs.Scan.{sums, Scan-is, Counts-ask}
 use Rattle.solver.specs.declared.Scan.{Scan}
@@ -16,10 +18,10 @@ use Rattle.solver.proofs.Scans.{most-sums}
 use Rattle.answer.specs.Solve.{answer-total}
 use Rattle.rows.specs.Walk.{widest}
 use Rattle.rows.specs.Evaluate.{arrays, Held, Evaluate-asks, Evaluated, Place-row-asks}
-use Rattle.rows.proofs.Settled.{widest-small}
+use Rattle.rows.proofs.Settled.{widest-small, longest-widest}
 use Rattle.rows.proofs.Jumps.{total-never-rises}
 use Rattle.rows.proofs.Steps.{scan-passes, scan-stays, scan-whole, scan-most, total-capped}
-use Rattle.rows.proofs.Evaluating.{held-stands, held-asks, cap-used, found-total}
+use Rattle.rows.proofs.Evaluating.{held-stands, cap-used, cap-small, found-total}
 use Rattle.table.specs.Walking.{Holding}
 
 module _ (k : Stack-struct) (s cap : ℕ) (lows highs : List (List ℕ)) (counts uptos : List ℕ) (froms ends : List (List ℕ)) (r : Scan) (fits : s < 4294967296) (wide : longest (stack-of k .strips) ≤ s)
@@ -64,3 +66,18 @@ module _ (k : Stack-struct) (s cap : ℕ) (lows highs : List (List ℕ)) (counts
   event-capped =
       let h = total-capped (stack-of k) s (arrays lows highs counts uptos) (held-stands k s lows highs counts uptos fits wide held (e .windows)) fits wide cap froms ends r scanned in
       omega (arith, rw (stack-channels k) at h, most-sums (arrays lows highs counts uptos) 0 (k .count))
+
+  pub event-small : cap ≤ sums counts 0 (k .count) → cap ≤ 256
+  event-small c = omega (arith, cap-small k s lows highs counts uptos fits wide held (e .windows) cap c)
+
+-- counts within the arrays
+pub held-counts : (k : Stack-struct) (lows highs : List (List ℕ)) (counts : List ℕ) → Held k lows highs counts → Counts-ask counts (k .count)
+held-counts k lows highs counts h =
+    record {
+      channels = few-channels k (h .good);
+      listed = λ i l. omega (arith, h .limits .counts-are i l, ap length (stack-channel k i l), channel-length (getD (k .channels) i no-terminals), few-pairs k (h .good) i l)
+    }
+
+-- a spread up to the sum of the lengths is small
+pub spread-fits : (k : Stack) (s : ℕ) → within-limits k ≡ true → s ≡ longest (k .strips) → s < 4294967296
+spread-fits k s e h = omega (arith, longest-widest k, widest-small k e)

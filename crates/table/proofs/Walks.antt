@@ -10,6 +10,7 @@ use Rattle.stack.specs.Stack.{Stack, Row, sum, longest}
 use Rattle.stack.specs.Limits.{within-limits}
 use Rattle.answer.specs.Solve.{answer-total}
 use Rattle.rows.specs.Walk.{row-at, rows-walk, widest, rows-of}
+use Rattle.rows.proofs.Settled.{longest-widest}
 use Rattle.rows.proofs.Walks.{walk-zero, walk-on, walk-falls, walk-ends}
 use Rattle.writing.specs.Output.{written, written-at, Written, line-bytes, Line-put, Line-put-at}
 use Rattle.writing.specs.TableText.{table-text, row-text, rows-text}
@@ -32,7 +33,7 @@ written-line s t before after at r e w p =
 
 module _ (k : Stack) (good : within-limits k ≡ true) where
   -- THE FIRST ROW, behind the first line
-  pub begun : (total jump head at : ℕ) (o₀ o₁ o₂ : List ℕ) → longest (k .strips) ≤ widest k → answer-total k (longest (k .strips)) ≡ total → total ≤ 256 → 0 < jump →
+  begun : (total jump head at : ℕ) (o₀ o₁ o₂ : List ℕ) → longest (k .strips) ≤ widest k → answer-total k (longest (k .strips)) ≡ total → total ≤ 256 → 0 < jump →
       ((d : ℕ) → d < jump → longest (k .strips) + d ≤ widest k → total ≤ answer-total k (longest (k .strips) + d)) →
       Line-put (table-text (length (k .channels)) []) o₀ o₁ head → Line-put-at head (row-text (row-at k (longest (k .strips)))) o₁ o₂ at →
       Walking k o₂ (record { spread = longest (k .strips); total = total; jump = jump; at = at })
@@ -54,6 +55,14 @@ module _ (k : Stack) (good : within-limits k ≡ true) where
         few = omega (arith, h .few, r .few);
         written = both .1;
       }
+
+  -- the same with the longest strip's length as the code has it
+  pub begun-at : (s : ℕ) → s ≡ longest (k .strips) → (total jump head at : ℕ) (o₀ o₁ o₂ : List ℕ) → answer-total k s ≡ total → total ≤ 256 → 0 < jump →
+      ((d : ℕ) → d < jump → s + d ≤ widest k → total ≤ answer-total k (s + d)) →
+      Line-put (table-text (length (k .channels)) []) o₀ o₁ head → Line-put-at head (row-text (row-at k s)) o₁ o₂ at →
+      Walking k o₂ (record { spread = s; total = total; jump = jump; at = at })
+  begun-at s e total jump head at o₀ o₁ o₂ t few j st h r =
+      rw e (begun total jump head at o₀ o₁ o₂ (longest-widest k) (rw e at t) few j (rw e at st) h (rw e at r))
 
   module _ (o : List ℕ) (w : Walk) (c : Walking k o w) (next jump : ℕ) (more : 0 < jump) (jumped : next ≡ w .spread + w .jump) (inside : next ≤ widest k) where
     stays-below : (d : ℕ) → w .spread + d < next → w .total ≤ answer-total k (w .spread + d)
