@@ -12,13 +12,12 @@ use Rattle.stack.specs.declared.Columns.{Columns}
 use Rattle.writing.specs.TableText.{digits, tabbed, row-text, rows-text, table-text}
 use Rattle.writing.specs.Output.{tracks, columns, row-of, Row-asks, line-bytes}
 use Rattle.writing.specs.Room.{Prepended, Line-made}
-use Rattle.writing.proofs.Digits.{tabbed-append, tabbed-before}
+use Rattle.writing.proofs.Digits.{tabbed-one, tabbed-append, tabbed-before}
 use Rattle.writing.proofs.Prepending.{prepended-more}
 
 pub number-prepended : (v : ℕ) {before between after : List ℕ} {end at first : ℕ} → Prepended 10 (digits v) before end between at →
     Prepended 1 (9 ∷ []) between at after first → Prepended 11 (tabbed (v ∷ [])) before end after first
-unfolding tabbed
-number-prepended v p q = rw append-nil (prepended-more p q)
+number-prepended v p q = rw tabbed-one (prepended-more p q)
 
 -- the numbers in the first k places of an array
 module _ {A : Type 0} (f : A → ℕ) (d : A) (z : f d ≡ 0) (xs : List A) (k : ℕ) (h : k ≤ length xs) where
@@ -48,7 +47,7 @@ module _ {room a b after : List ℕ} {e f at : ℕ} (k : ℕ) (long : line-bytes
   head-made p q r = let made = line-made (prepended-more (prepended-more p q) r) long in simp append-assoc made
 
 -- a row's numbers, part by part
-row-numbers : (s t : ℕ) (ts xs : List ℕ) → tabbed ((s ∷ t ∷ ts) ++ xs) ≡ tabbed (s ∷ []) ++ (tabbed (t ∷ []) ++ (tabbed ts ++ tabbed xs))
+pub row-numbers : (s t : ℕ) (ts xs : List ℕ) → tabbed ((s ∷ t ∷ ts) ++ xs) ≡ tabbed (s ∷ []) ++ (tabbed (t ∷ []) ++ (tabbed ts ++ tabbed xs))
 row-numbers s t ts xs = rw (tabbed-append (s ∷ []) (t ∷ (ts ++ xs)), tabbed-append (t ∷ []) (ts ++ xs), tabbed-append ts xs)
 
 module _ {room a b c d e after : List ℕ} {i j l m n at : ℕ} (k s t : ℕ) (ts : List Tracks) (xs : List Columns) (long : line-bytes ≡ length room) (asks : Row-asks k t ts) where
