@@ -1,8 +1,8 @@
 // Writing a table's text: its first line and its rows, each whole or not at all, and zeros behind it.
 ghost use mathlib.Core.Path.{_≡_};
 ghost use mathlib.Core.List.{[], _∷_};
-ghost use Prim.Native.Nat.{suc, _+_, _^_, _≤_, min};
-ghost use lib.ListN.{length, take, drop};
+ghost use Prim.Native.Nat.{_+_, _^_, _≤_, min};
+ghost use lib.ListN.{length, take};
 ghost use Rattle.writing.specs.TableText.{digits, tabbed, row-text, table-text};
 ghost use Rattle.writing.specs.Output.{
   cleared,
