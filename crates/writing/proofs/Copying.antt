@@ -1,12 +1,12 @@
 -- The laws of the loops that copy a line over an output and that clear one: start, step and end. A turn's store goes to the seam between the bytes that stand
 -- already and those that were there before. Assumes nothing.
-use mathlib.Core.Path.{_≡_, refl, sym, _∙_}
+use mathlib.Core.Path.{_≡_, refl, _∙_}
 use mathlib.Core.List.{List, [], _∷_, _++_, append-assoc, append-nil}
-use Prim.Native.Nat.{ℕ, zero, suc, _+_, _-_, _≤_, _<_}
+use Prim.Native.Nat.{ℕ, suc, _+_, _-_, _≤_, _<_}
 use native.Mathlib.Numerals.{add-one}
 use native.Mathlib.Omega.{arith}
 use lib.ListN.{length, getD, take, drop, set, replicate, length-append, length-set, length-replicate, take-append-drop, drop-of-length-le, replicate-append-replicate}
-use lib.Seq.{drop-cons, take-suc, set-at, length-take-le, take-all, take-length}
+use lib.Seq.{drop-cons, take-suc, set-at, length-take-le, take-length}
 use borrow.Author.Tests.{le-leb, lt-leb}
 use Rattle.writing.specs.Output.{over, fitted, written, cleared, line-bytes, Line-put, Copying, Clearing}
 

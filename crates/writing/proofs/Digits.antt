@@ -1,12 +1,12 @@
 -- A number's digits: more digits go in front of those got, and the division by ten that puts them. Then how many they are. Assumes nothing.
 use mathlib.Core.Path.{_≡_, refl, ap, sym, _∙_}
 use mathlib.Core.Bool.{Bool, true, false, cond}
-use mathlib.Core.List.{List, [], _∷_, _++_, append-assoc}
-use Prim.Native.Nat.{ℕ, zero, suc, _+_, _*_, _-_, _/_, _%_, _^_, _≤_, _<_}
+use mathlib.Core.List.{List, [], _∷_, _++_, append-assoc, append-nil}
+use Prim.Native.Nat.{ℕ, zero, suc, _+_, _-_, _/_, _%_, _^_, _≤_, _<_}
 use native.Mathlib.Omega.{arith}
 use lib.Dec.{ltb}
 use lib.ListN.{length, getD, drop, set, length-append, length-drop, length-set}
-use borrow.Author.Tests.{lt-ltb, le-ltb, ltb-true, ltb-false}
+use borrow.Author.Tests.{lt-ltb, le-ltb}
 use Rattle.numbers.proofs.Overlay.{drop-stored, drop-before}
 use Rattle.writing.specs.TableText.{digits-from, digits, tabbed}
 use Rattle.writing.specs.Room.{Prepended, Space, Dividing}
@@ -23,12 +23,12 @@ digits-in-front (suc k) v got rest = go (ltb v 10) (digits-in-front k (v / 10) (
     go true e = refl
     go false e = e
 
-two-left : (n v : ℕ) → v < 10 ^ n → 10 ≤ v → 2 ≤ n
+pub two-left : (n v : ℕ) → v < 10 ^ n → 10 ≤ v → 2 ≤ n
 two-left zero v h k = omega arith
 two-left (suc zero) v h k = omega arith
 two-left (suc (suc n)) v h k = omega arith
 
-tenth-below : (n v : ℕ) → 1 ≤ n → v < 10 ^ n → v / 10 < 10 ^ (n - 1)
+pub tenth-below : (n v : ℕ) → 1 ≤ n → v < 10 ^ n → v / 10 < 10 ^ (n - 1)
 tenth-below zero v h k = absurd (omega arith)
 tenth-below (suc n) v h k = let e : suc n - 1 ≡ n = omega arith in rw e (omega arith)
 
@@ -83,6 +83,10 @@ module _ {value : ℕ} {before : List ℕ} {end v : ℕ} {now : List ℕ} {at : 
         stands = stands;
         same-length = length-set now (at - 1) (48 + v) ∙ d .same-length;
       }
+
+pub tabbed-one : (v : ℕ) → tabbed (v ∷ []) ≡ 9 ∷ digits v
+unfolding tabbed
+tabbed-one v = append-nil (9 ∷ digits v)
 
 pub tabbed-append : (xs ys : List ℕ) → tabbed (xs ++ ys) ≡ tabbed xs ++ tabbed ys
 unfolding tabbed

@@ -1,15 +1,13 @@
 -- Lines written over an output. A text written behind another is their append written; each line is written if there is space for it, and if there is space for
 -- the whole text it stands whole, since no line before it was left out. Assumes nothing.
 use mathlib.Core.Path.{_≡_, refl, ap, sym, _∙_}
-use mathlib.Core.Bool.{Bool, true, false}
 use mathlib.Core.List.{List, [], _∷_, _++_, append-assoc, append-nil}
 use mathlib.Core.Logic.{_⊎_, inl, inr}
-use Prim.Native.Nat.{ℕ, zero, suc, _+_, _-_, _≤_, _<_, min}
+use Prim.Native.Nat.{ℕ, _+_, _-_, _≤_, _<_, min}
 use native.Mathlib.Nat.{zero-add, sub-zero}
 use native.Mathlib.Omega.{arith}
-use lib.Dec.{leb}
-use lib.ListN.{length, take, drop, replicate, length-append, length-take, length-drop, drop-of-length-le, take-append-drop}
-use lib.Seq.{take-append-seam, take-append-add, drop-append-add, take-at, drop-at, drop-drop, take-all, length-take-le}
+use lib.ListN.{length, take, drop, replicate, length-append, length-drop, drop-of-length-le, take-append-drop}
+use lib.Seq.{take-append-seam, take-at, drop-at, drop-drop, take-all, length-take-le}
 use borrow.Author.Tests.{le-leb, lt-leb}
 use Rattle.numbers.proofs.Overlay.{drop-replicate}
 use Rattle.numbers.proofs.Orders.{le-or-lt}
@@ -23,9 +21,10 @@ pub over-at-over-at : (at : ℕ) (s t o : List ℕ) → at ≤ length o → over
 unfolding over-at over
 over-at-over-at at s t o h =
     let front = take at o ++ s in
+    let rest = drop (length s) (drop at o) in
     let long : length front ≡ at + length s = rw (length-append, length-take-le at o h) in
-    let joined : take at o ++ (s ++ drop (length s) (drop at o)) ≡ front ++ drop (length s) (drop at o) = sym (append-assoc (take at o) s (drop (length s) (drop at o))) in
-    rw (joined, take-at front (drop (length s) (drop at o)) (at + length s) long, drop-at front (drop (length s) (drop at o)) (at + length s) long, drop-drop, length-append)
+    let joined : take at o ++ (s ++ rest) ≡ front ++ rest = sym (append-assoc (take at o) s rest) in
+    rw (joined, take-at front rest (at + length s) long, drop-at front rest (at + length s) long, drop-drop (length t) (length s) (drop at o), length-append)
     (simp append-assoc)
 
 pub over-zeros : (t : List ℕ) (n : ℕ) → over t (replicate n 0) ≡ t ++ replicate (n - length t) 0
@@ -65,15 +64,17 @@ written-steps {s} {before} {now} t w = go (le-or-lt (length s + length t) (lengt
   where
     go : (length s + length t ≤ length now) ⊎ (length now < length s + length t) → Written (s ++ t) before (written-at (length s) t now)
     go (inl h) =
-        let whole : over-at (length s) t now ≡ (s ++ t) ++ drop (length t) (drop (length s) now) = rw (w .stands (omega arith), append-assoc) in
+        let rest = drop (length t) (drop (length s) now) in
+        let whole : over-at (length s) t now ≡ (s ++ t) ++ rest = rw (w .stands (omega arith), append-assoc) in
         rw (written-at-fits (length s) t now h)
-        (record { stands = λ _. rw whole (take-append-seam (s ++ t) (drop (length t) (drop (length s) now))); same-length = over-at-length (length s) t now h ∙ w .same-length })
+        (record { stands = λ _. rw whole (take-append-seam (s ++ t) rest); same-length = over-at-length (length s) t now h ∙ w .same-length })
     go (inr h) =
         rw (written-at-short (length s) t now h)
         (record { stands = λ k. absurd (omega (arith, length-append s t)); same-length = w .same-length })
 
 -- the whole text with zeros behind it
-pub written-ends : {t before after : List ℕ} → Written t before after → length t ≤ length before → cleared (length t) after ≡ t ++ replicate (length before - length t) 0
+pub written-ends : {t before after : List ℕ} → Written t before after → length t ≤ length before →
+    cleared (length t) after ≡ t ++ replicate (length before - length t) 0
 unfolding cleared
 written-ends w h = rw (w .stands (omega (arith, w .same-length)), w .same-length)
 

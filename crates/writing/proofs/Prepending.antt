@@ -1,11 +1,11 @@
 -- Parts put in front of one another: what is in front stands before what stood already, so that lengths add up and texts are appended. Then the laws of a
 -- loop that puts things from the last to the first: start, space, step and end. Assumes nothing.
-use mathlib.Core.Path.{_≡_, refl, ap, sym, _∙_}
+use mathlib.Core.Path.{_≡_, refl, _∙_}
 use mathlib.Core.List.{List, [], _∷_, _++_, append-assoc}
-use Prim.Native.Nat.{ℕ, zero, suc, _+_, _*_, _-_, _≤_, _<_}
+use Prim.Native.Nat.{ℕ, suc, _+_, _*_, _-_, _≤_, _<_}
 use native.Mathlib.Nat.{mul-zero, mul-suc, mul-le-mul-left}
 use native.Mathlib.Omega.{arith}
-use lib.ListN.{length, drop, set, length-append, length-set}
+use lib.ListN.{length, set, length-append, length-set}
 use Rattle.numbers.proofs.Overlay.{drop-stored}
 use Rattle.writing.specs.Room.{Prepended, Space, Putting}
 
@@ -35,9 +35,6 @@ prepended-space h k p = record { enough = omega arith; within = omega arith }
 
 pub prepended-looser : {m n : ℕ} {s before between : List ℕ} {end at : ℕ} → m ≤ n → Prepended m s before end between at → Prepended n s before end between at
 prepended-looser h p = record { place = p .place; few = omega arith; stands = p .stands; same-length = p .same-length }
-
-pub space-looser : {m n : ℕ} {room : List ℕ} {end : ℕ} → n ≤ m → Space m room end → Space n room end
-space-looser h s = record { enough = omega arith; within = s .within }
 
 module _ {each : ℕ} {text : ℕ → List ℕ} {n : ℕ} {before : List ℕ} {end : ℕ} where
   pub putting-starts : text n ≡ [] → Putting each text n before end n before end

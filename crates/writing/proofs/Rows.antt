@@ -1,7 +1,7 @@
 -- A line is its parts: a tab and a number, the numbers in an array's first places, and the lines made of these. Assumes nothing.
-use mathlib.Core.Path.{_≡_, refl, ap, sym, _∙_}
+use mathlib.Core.Path.{_≡_, _∙_}
 use mathlib.Core.List.{List, [], _∷_, _++_, map, append-assoc, append-nil}
-use Prim.Native.Nat.{ℕ, zero, suc, _+_, _-_, _≤_, _<_, min}
+use Prim.Native.Nat.{ℕ, _+_, _-_, _≤_, _<_}
 use native.Mathlib.Numerals.{add-one}
 use native.Mathlib.Omega.{arith}
 use lib.ListN.{length, getD, take, drop, length-map, length-take, drop-of-length-le, List·getD-map}
@@ -12,13 +12,12 @@ use Rattle.stack.specs.declared.Columns.{Columns}
 use Rattle.writing.specs.TableText.{digits, tabbed, row-text, rows-text, table-text}
 use Rattle.writing.specs.Output.{tracks, columns, row-of, Row-asks, line-bytes}
 use Rattle.writing.specs.Room.{Prepended, Line-made}
-use Rattle.writing.proofs.Digits.{tabbed-append, tabbed-before}
+use Rattle.writing.proofs.Digits.{tabbed-one, tabbed-append, tabbed-before}
 use Rattle.writing.proofs.Prepending.{prepended-more}
 
 pub number-prepended : (v : ℕ) {before between after : List ℕ} {end at first : ℕ} → Prepended 10 (digits v) before end between at →
     Prepended 1 (9 ∷ []) between at after first → Prepended 11 (tabbed (v ∷ [])) before end after first
-unfolding tabbed
-number-prepended v p q = rw append-nil (prepended-more p q)
+number-prepended v p q = rw tabbed-one (prepended-more p q)
 
 -- the numbers in the first k places of an array
 module _ {A : Type 0} (f : A → ℕ) (d : A) (z : f d ≡ 0) (xs : List A) (k : ℕ) (h : k ≤ length xs) where
@@ -48,15 +47,23 @@ module _ {room a b after : List ℕ} {e f at : ℕ} (k : ℕ) (long : line-bytes
   head-made p q r = let made = line-made (prepended-more (prepended-more p q) r) long in simp append-assoc made
 
 -- a row's numbers, part by part
-row-numbers : (s t : ℕ) (ts xs : List ℕ) → tabbed ((s ∷ t ∷ ts) ++ xs) ≡ tabbed (s ∷ []) ++ (tabbed (t ∷ []) ++ (tabbed ts ++ tabbed xs))
+pub row-numbers : (s t : ℕ) (ts xs : List ℕ) → tabbed ((s ∷ t ∷ ts) ++ xs) ≡ tabbed (s ∷ []) ++ (tabbed (t ∷ []) ++ (tabbed ts ++ tabbed xs))
 row-numbers s t ts xs = rw (tabbed-append (s ∷ []) (t ∷ (ts ++ xs)), tabbed-append (t ∷ []) (ts ++ xs), tabbed-append ts xs)
 
-module _ {room a b c d e after : List ℕ} {i j l m n at : ℕ} (k s t : ℕ) (ts : List Tracks) (xs : List Columns) (long : line-bytes ≡ length room) (asks : Row-asks k t ts) where
-  pub row-made : Prepended 1 (10 ∷ []) room line-bytes a i → Prepended 99 (tabbed (take (k + 1) (columns xs))) a i b j →
-      Prepended 88 (tabbed (take k (tracks ts))) b j c l → Prepended 11 (tabbed (t ∷ [])) c l d m → Prepended 11 (tabbed (s ∷ [])) d m e n →
-      Prepended 3 (82 ∷ 79 ∷ 87 ∷ []) e n after at → Line-made (row-text (row-of k s ts xs)) after at
-  unfolding row-text row-of row total
-  row-made p q r u v w =
-      let made = line-made (prepended-more (prepended-more (prepended-more (prepended-more (prepended-more p q) r) u) v) w) long in
-      let numbers = row-numbers s t (take k (tracks ts)) (take (k + 1) (columns xs)) in
-      rw (← asks .added, ← add-one k) (rw numbers (simp append-assoc made))
+module _
+    {room a b c d e after : List ℕ}
+    {i j l m n at : ℕ}
+    (k s t : ℕ)
+    (ts : List Tracks)
+    (xs : List Columns)
+    (long : line-bytes ≡ length room)
+    (asks : Row-asks k t ts)
+  where
+    pub row-made : Prepended 1 (10 ∷ []) room line-bytes a i → Prepended 99 (tabbed (take (k + 1) (columns xs))) a i b j →
+        Prepended 88 (tabbed (take k (tracks ts))) b j c l → Prepended 11 (tabbed (t ∷ [])) c l d m → Prepended 11 (tabbed (s ∷ [])) d m e n →
+        Prepended 3 (82 ∷ 79 ∷ 87 ∷ []) e n after at → Line-made (row-text (row-of k s ts xs)) after at
+    unfolding row-text row-of row total
+    row-made p q r u v w =
+        let made = line-made (prepended-more (prepended-more (prepended-more (prepended-more (prepended-more p q) r) u) v) w) long in
+        let numbers = row-numbers s t (take k (tracks ts)) (take (k + 1) (columns xs)) in
+        rw (← asks .added, ← add-one k) (rw numbers (simp append-assoc made))

@@ -2,10 +2,10 @@
 use mathlib.Core.Path.{_≡_}
 use mathlib.Core.Bool.{Bool, true, false}
 use mathlib.Core.List.{List, map, _++_}
-use Prim.Native.Nat.{ℕ, suc, _+_, _*_, _-_, _≤_}
+use Prim.Native.Nat.{ℕ, suc, _+_, _*_, _-_, _≤_, _<_}
 use lib.Dec.{leb}
-use lib.ListN.{length, take, drop, replicate}
-use Rattle.stack.specs.Stack.{Row, row, sum}
+use lib.ListN.{length, getD, take, drop, replicate}
+use Rattle.stack.specs.Stack.{Row, row, sum, total}
 use Rattle.stack.specs.declared.Tracks.{Tracks}
 use Rattle.stack.specs.declared.Columns.{Columns}
 use Rattle.writing.specs.TableText.{table-text}
@@ -86,3 +86,12 @@ pub record Clearing (from : ℕ) (before : List ℕ) (i : ℕ) (now : List ℕ) 
   pub within : i - from ≤ length before - from
   pub stands : now ≡ take from before ++ replicate (i - from) 0 ++ drop i before
   pub same-length : length now ≡ length before
+
+-- a row of at most eight channels within document 01's limits
+pub record Row-limited (r : Row) : Type 0 where
+  pub channels : length (r .separations) ≤ 8
+  pub strips : length (r .positions) ≤ 9
+  pub spread-below : r .spread ≤ 9999
+  pub total-below : total r ≤ 256
+  pub separations-below : (i : ℕ) → i < length (r .separations) → getD (r .separations) i 0 ≤ 32
+  pub positions-below : (i : ℕ) → i < length (r .positions) → getD (r .positions) i 0 ≤ 9999

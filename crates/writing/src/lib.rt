@@ -1,8 +1,8 @@
 // Writing a table's text: its first line and its rows, each whole or not at all, and zeros behind it.
 ghost use mathlib.Core.Path.{_≡_};
 ghost use mathlib.Core.List.{[], _∷_};
-ghost use Prim.Native.Nat.{suc, _+_, _^_, _≤_, min};
-ghost use lib.ListN.{length, take, drop};
+ghost use Prim.Native.Nat.{_+_, _^_, _≤_, min};
+ghost use lib.ListN.{length, take};
 ghost use Rattle.writing.specs.TableText.{digits, tabbed, row-text, table-text};
 ghost use Rattle.writing.specs.Output.{
   cleared,
@@ -24,6 +24,10 @@ const TAB: u8 = 9;
 const LINE_FEED: u8 = 10;
 
 const ZERO: u8 = 48;
+
+const CHANNELS: usize = Stack::MAX_CHANNELS;
+
+const STRIPS: usize = CHANNELS + 1;
 
 // The longest line's bytes: ROW, a line feed, and 19 numbers of ten digits, each behind a tab.
 const LINE_BYTES: usize = 213;
@@ -85,7 +89,12 @@ fn number_before(room: &mut [u8], end: usize, value: u32) -> usize
 }
 
 // The first k separations in front of a place.
-fn separations_before(room: &mut [u8], end: usize, k: usize, separations: [Tracks; 8]) -> usize
+fn separations_before(
+    room: &mut [u8],
+    end: usize,
+    k: usize,
+    separations: [Tracks; CHANNELS],
+) -> usize
     requires { ⌜ (k ≤ 8) × Space 88 (now room) end ⌝ }
     ensures { λ r. ⌜ Prepended 88 (tabbed (take k (tracks separations))) (now (room .entry)) end (now (room .exit)) r ⌝ }
 {
@@ -100,7 +109,7 @@ fn separations_before(room: &mut [u8], end: usize, k: usize, separations: [Track
 }
 
 // The first n positions in front of a place.
-fn positions_before(room: &mut [u8], end: usize, n: usize, positions: [Columns; 9]) -> usize
+fn positions_before(room: &mut [u8], end: usize, n: usize, positions: [Columns; STRIPS]) -> usize
     requires { ⌜ (n ≤ 9) × Space 99 (now room) end ⌝ }
     ensures { λ r. ⌜ Prepended 99 (tabbed (take n (columns positions))) (now (room .entry)) end (now (room .exit)) r ⌝ }
 {
@@ -144,8 +153,8 @@ fn row_before(
     k: usize,
     spread: u32,
     total: u32,
-    separations: [Tracks; 8],
-    positions: [Columns; 9],
+    separations: [Tracks; CHANNELS],
+    positions: [Columns; STRIPS],
 ) -> usize
     requires { ⌜ (length (now room) ≡ line-bytes) × Row-asks k total separations ⌝ }
     ensures { λ r. ⌜ Line-made (row-text (row-of k spread separations positions)) (now (room .exit)) r ⌝ }
@@ -174,8 +183,8 @@ pub fn put_row(
     k: usize,
     spread: u32,
     total: u32,
-    separations: [Tracks; 8],
-    positions: [Columns; 9],
+    separations: [Tracks; CHANNELS],
+    positions: [Columns; STRIPS],
 ) -> usize
     requires { ⌜ Row-asks k total separations ⌝ }
     ensures { λ r. ⌜ Line-put (row-text (row-of k spread separations positions)) (now (out .entry)) (now (out .exit)) r ⌝ }
@@ -192,8 +201,8 @@ pub fn put_row_at(
     k: usize,
     spread: u32,
     total: u32,
-    separations: [Tracks; 8],
-    positions: [Columns; 9],
+    separations: [Tracks; CHANNELS],
+    positions: [Columns; STRIPS],
 ) -> usize
     requires { ⌜ (at ≤ 2 ^ 32) × Row-asks k total separations ⌝ }
     ensures { λ r. ⌜ Line-put-at at (row-text (row-of k spread separations positions)) (now (out .entry)) (now (out .exit)) r ⌝ }

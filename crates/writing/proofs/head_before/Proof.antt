@@ -24,7 +24,11 @@ same-length : tie.Need-same-length
 same-length c = search needs
 
 returns : tie.Need-returns
-returns c = head-made (c .before .before .before .before .before .before .before .before .before .before .before .before .before .before .args .k) (sym (c .before .before .before .before .before .before .before .before .before .before .before .before .before .before .pre .0)) (c .before .before .before .before .before .before .before .before .before .before .before .byte-before .ensures) (c .before .before .before .before .before .before .before .number-before .ensures) (c .before .before .word-before .ensures)
+returns c =
+    let start = c .before .before .before .before .before .before .before .before .before .before .before .before .before .before in
+    let feed = c .before .before .before .before .before .before .before .before .before .before .before .byte-before in
+    let number = c .before .before .before .before .before .before .before .number-before in
+    head-made (start .args .k) (sym (start .pre .0)) (feed .ensures) (number .ensures) (c .before .before .word-before .ensures)
 
 pub head-before-spec : {M : Type 1} → statement M
 head-before-spec =

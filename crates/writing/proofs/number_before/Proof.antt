@@ -14,7 +14,10 @@ same-length : tie.Need-same-length
 same-length c = search needs
 
 returns : tie.Need-returns
-returns c = number-prepended (c .before .before .before .before .before .before .before .before .before .args .value) (c .before .before .before .before .before .before .digits-before .ensures) (c .before .before .byte-before .ensures)
+returns c =
+    let start = c .before .before .before .before .before .before .before .before .before in
+    let digits = c .before .before .before .before .before .before .digits-before in
+    number-prepended (start .args .value) (digits .ensures) (c .before .before .byte-before .ensures)
 
 pub number-before-spec : {M : Type 1} → statement M
 number-before-spec =

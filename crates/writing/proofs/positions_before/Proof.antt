@@ -1,6 +1,5 @@
 -- positions_before meets its contract: the loop keeps Putting, a number each turn. Assumes nothing.
 use mathlib.Core.Path.{_≡_, refl}
-use Prim.Native.Nat.{_-_}
 use native.Mathlib.Omega.{arith}
 use lib.ListN.{length, take, drop}
 use Rattle.stack.specs.declared.Columns.{Columns}
@@ -44,11 +43,10 @@ loop-again : tie.Need-loop-again Inv-loop μ-loop
 loop-again c =
     let start = c .before .before .before .before .before .before .before .before in
     let loop = c .before .before .before .before .before .before .loop in
-    let loop-test = c .before .before .before .before .before .loop-test in
+    let more = c .before .before .before .before .before .loop-test .taken in
     let long : length (start .args .t4) ≡ 9 = search needs in
-    putting-steps (loop .inv) (loop-test .taken)
-    (one-put (λ (x : Columns). x .0) (record { 0 = 0 }) refl (start .args .t4) (start .args .n) (omega arith) (loop .i) (loop-test .taken) (loop .inv .below))
-    (c .before .before .number-before .ensures)
+    let one = one-put (λ (x : Columns). x .0) (record { 0 = 0 }) refl (start .args .t4) (start .args .n) (omega arith) (loop .i) more (loop .inv .below) in
+    putting-steps (loop .inv) more one (c .before .before .number-before .ensures)
 
 same-length : tie.Need-same-length Inv-loop μ-loop
 same-length c = c .before .loop .inv .put .same-length

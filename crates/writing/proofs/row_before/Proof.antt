@@ -34,14 +34,20 @@ same-length c = search needs
 
 returns : tie.Need-returns
 returns c =
-    let start = c .before .before .before .before .before .before .before .before .before .before .before .before .before .before .before .before .before .before .before .before .before .before .before .before .before .before in
+    let at-word = c .before .before in
+    let at-spread = at-word .before .before .before .before .before in
+    let at-total = at-spread .before .before .before .before in
+    let at-separations = at-total .before .before .before .before in
+    let at-positions = at-separations .before .before .before .before in
+    let at-feed = at-positions .before .before .before .before in
+    let start = at-feed .before .before .before in
     row-made (start .args .k) (start .args .spread) (start .args .total) (start .args .separations) (start .args .positions) (sym (start .pre .0)) (start .pre .1)
-    (c .before .before .before .before .before .before .before .before .before .before .before .before .before .before .before .before .before .before .before .before .before .before .before .byte-before .ensures)
-    (c .before .before .before .before .before .before .before .before .before .before .before .before .before .before .before .before .before .before .before .positions-before .ensures)
-    (c .before .before .before .before .before .before .before .before .before .before .before .before .before .before .before .separations-before .ensures)
-    (c .before .before .before .before .before .before .before .before .before .before .before .number-before .ensures)
-    (c .before .before .before .before .before .before .before .number-before2 .ensures)
-    (c .before .before .word-before .ensures)
+    (at-feed .byte-before .ensures)
+    (at-positions .positions-before .ensures)
+    (at-separations .separations-before .ensures)
+    (at-total .number-before .ensures)
+    (at-spread .number-before2 .ensures)
+    (at-word .word-before .ensures)
 
 pub row-before-spec : {M : Type 1} → statement M
 row-before-spec =

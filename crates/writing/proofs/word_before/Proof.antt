@@ -1,10 +1,8 @@
 -- word_before meets its contract: the loop keeps Putting, a byte each turn. Assumes nothing.
 use native.Mathlib.Omega.{arith}
-use mathlib.Core.List.{[], _∷_}
-use Prim.Native.Nat.{_-_}
 use Rattle.numbers.proofs.Overlay.{drop-before}
 use native.Mathlib.Nat.{one-mul}
-use lib.ListN.{length, getD, drop}
+use lib.ListN.{length, drop}
 use lib.Seq.{drop-length}
 use Rattle.writing.specs.Room.{Putting}
 use Rattle.writing.proofs.Prepending.{putting-starts, putting-space, putting-steps, putting-ends}
@@ -28,7 +26,9 @@ shared-slice-read-byte-before : tie.Need-shared-slice-read-byte-before Inv-loop 
 shared-slice-read-byte-before c = search needs
 
 byte-before-requires : tie.Need-byte-before-requires Inv-loop μ-loop
-byte-before-requires c κs = putting-space (c .before .before .before .loop .inv) (c .before .before .loop-test .taken) (omega arith) (c .before .before .before .before .before .before .pre .within)
+byte-before-requires c κs =
+    let loop = c .before .before .before .loop in
+    putting-space (loop .inv) (c .before .before .loop-test .taken) (omega arith) (c .before .before .before .before .before .before .pre .within)
 
 loop-less : tie.Need-loop-less Inv-loop μ-loop
 loop-less c = search needs
@@ -37,8 +37,8 @@ loop-again : tie.Need-loop-again Inv-loop μ-loop
 loop-again c =
     let start = c .before .before .before .before .before .before .before .before .before in
     let loop = c .before .before .before .before .before .before .loop in
-    let loop-test = c .before .before .before .before .before .loop-test in
-    putting-steps (loop .inv) (loop-test .taken) (drop-before (start .args .word .now) (loop .i) 0 (loop-test .taken) (loop .inv .below)) (c .before .before .byte-before .ensures)
+    let more = c .before .before .before .before .before .loop-test .taken in
+    putting-steps (loop .inv) more (drop-before (start .args .word .now) (loop .i) 0 more (loop .inv .below)) (c .before .before .byte-before .ensures)
 
 same-length : tie.Need-same-length Inv-loop μ-loop
 same-length c = c .before .loop .inv .put .same-length
