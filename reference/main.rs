@@ -50,7 +50,7 @@ fn refusal_text(r: Refusal) -> String {
 
 fn table(text: &[u8]) -> String {
     match reader::read(text) {
-        Ok(stack) => solver::table_text(&stack, solver::small(&stack)),
+        Ok(stack) => solver::table_text(&stack, &solver::rows(&stack, solver::small(&stack))),
         Err(r) => refusal_text(r),
     }
 }
@@ -95,7 +95,7 @@ fn check_specimens() -> bool {
         let text = specimens::tabbed(text);
         let due = specimens::tabbed(due);
         if let Ok(stack) = reader::read(text.as_bytes()) {
-            check(name, solver::table_text(&stack, false), due.clone());
+            check(name, solver::table_text(&stack, &solver::rows(&stack, false)), due.clone());
         }
         check(name, table(text.as_bytes()), due);
     }

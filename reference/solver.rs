@@ -61,7 +61,13 @@ fn place_by_ranges(stack: &Stack, spread: i64, separations: &[usize]) -> Option<
     legal(stack, spread, separations, &placed).then_some(placed)
 }
 
+/// The least separation that is feasible at some offset.
+fn least_open(pairs: &[Pair]) -> usize {
+    (0..pairs.len()).find(|&t| left_limit(pairs, t) <= right_limit(pairs, t)).unwrap_or(pairs.len())
+}
+
 /// The separations of a total in dictionary order, each at most the channel's count of pairs.
+/// Unless every position is to be tried, those are passed over that leave too little for the channels above, or place no strips so far.
 fn try_total(stack: &Stack, spread: i64, left: usize, chosen: &mut Vec<usize>, brute: bool) -> Option<Vec<i64>> {
     let i = chosen.len();
     if i == stack.channels.len() {
@@ -77,8 +83,13 @@ fn try_total(stack: &Stack, spread: i64, left: usize, chosen: &mut Vec<usize>, b
     if !brute && place_by_ranges(stack, spread, chosen).is_none() {
         return None;
     }
-    let rest: usize = stack.channels[i + 1..].iter().map(|c| c.len()).sum();
-    for t in left.saturating_sub(rest)..=left.min(stack.channels[i].len()) {
+    let rest = &stack.channels[i + 1..];
+    let most: usize = rest.iter().map(|c| c.len()).sum();
+    let least: usize = if brute { 0 } else { rest.iter().map(|c| least_open(c)).sum() };
+    if left < least {
+        return None;
+    }
+    for t in left.saturating_sub(most)..=(left - least).min(stack.channels[i].len()) {
         chosen.push(t);
         if let Some(placed) = try_total(stack, spread, left - t, chosen, brute) {
             return Some(placed);
@@ -136,10 +147,10 @@ pub fn row_text(spread: i64, a: &Answer) -> String {
     line + "\n"
 }
 
-pub fn table_text(stack: &Stack, brute: bool) -> String {
+pub fn table_text(stack: &Stack, rows: &[(i64, Answer)]) -> String {
     let mut text = format!("TABLE\t{}\n", stack.channels.len());
-    for (spread, a) in rows(stack, brute) {
-        text += &row_text(spread, &a);
+    for (spread, a) in rows {
+        text += &row_text(*spread, a);
     }
     text
 }
