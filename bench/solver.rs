@@ -6,30 +6,35 @@ const STRIPS: usize = CHANNELS + 1;
 const PAIRS: usize = 32;
 const TOTALS: usize = CHANNELS * PAIRS + 1;
 
-/// A limit that any offset is within, and an end that no shift brings back into a window.
-const WIDE: i32 = 1 << 20;
-const NOWHERE: i32 = 1 << 24;
+// Columns fit sixteen bits, so that a vector holds many: nine strips of 1,000 are 9,000 wide.
+
+/// No start of a span that is not empty is greater, shifted back or not.
+const REACH: i16 = 10_000;
+/// A shift beyond every position, for a separation that is feasible at no offset or, turned about, at every one.
+const CLOSED: i16 = 14_000;
+/// The start of an empty span, which ends as far on the other side. No shift brings it within reach.
+const NOWHERE: i16 = 16_000;
 
 /// Number, line and field.
 pub type Refusal = (u32, u32, u32);
 
 struct Stack {
     k: usize,
-    lengths: [i32; STRIPS],
+    lengths: [i16; STRIPS],
     counts: [usize; CHANNELS],
-    lower: [[i32; PAIRS]; CHANNELS],
-    upper: [[i32; PAIRS]; CHANNELS],
+    lower: [[i16; PAIRS]; CHANNELS],
+    upper: [[i16; PAIRS]; CHANNELS],
 }
 
 /// A number's value and what is behind it.
-fn number(text: &[u8]) -> Option<(i32, &[u8])> {
+fn number(text: &[u8]) -> Option<(i16, &[u8])> {
     let mut value = 0;
     let mut digits = 0;
     while let Some(byte @ b'0'..=b'9') = text.get(digits) {
         if digits == 4 || (digits == 1 && value == 0) {
             return None;
         }
-        value = 10 * value + (byte - b'0') as i32;
+        value = 10 * value + (byte - b'0') as i16;
         digits += 1;
     }
     if digits == 0 {
@@ -39,7 +44,7 @@ fn number(text: &[u8]) -> Option<(i32, &[u8])> {
 }
 
 /// The count of numbers behind the word in the text's first line, the first of them kept, and the text behind the line.
-fn line<'a>(text: &'a [u8], word: &[u8], kept: &mut [i32]) -> Option<(usize, &'a [u8])> {
+fn line<'a>(text: &'a [u8], word: &[u8], kept: &mut [i16]) -> Option<(usize, &'a [u8])> {
     let mut rest = text.strip_prefix(word)?;
     let mut count = 0;
     loop {
@@ -59,7 +64,7 @@ fn line<'a>(text: &'a [u8], word: &[u8], kept: &mut [i32]) -> Option<(usize, &'a
 }
 
 /// The one number of a line.
-fn single<'a>(text: &'a [u8], word: &[u8]) -> Option<(i32, &'a [u8])> {
+fn single<'a>(text: &'a [u8], word: &[u8]) -> Option<(i16, &'a [u8])> {
     let mut kept = [0];
     let (count, behind) = line(text, word, &mut kept)?;
     (count == 1).then_some((kept[0], behind))
@@ -115,109 +120,147 @@ fn read(text: &[u8]) -> Result<Stack, Refusal> {
     }
 }
 
-/// The limits of one channel from its least open separation up, that of separation t in place PAIRS - t:
-/// then limits and spans run the same way when a total is parted between a separation and the channels above.
+/// The limits of one channel, that of separation t in place PAIRS - 1 - t, so that limits and spans run the same way when a total is
+/// parted between a separation and the channels above. At a separation of the count of pairs every offset is feasible.
 #[derive(Clone, Copy)]
 struct Limits {
-    low: [i32; PAIRS + 1],
-    high: [i32; PAIRS + 1],
+    low: [i16; PAIRS],
+    high: [i16; PAIRS],
     least: usize,
     count: usize,
 }
 
-fn limits(p: &[i32], q: &[i32]) -> Limits {
+fn limits(p: &[i16], q: &[i16]) -> Limits {
     let m = p.len();
-    let mut limits = Limits { low: [0; PAIRS + 1], high: [0; PAIRS + 1], least: m, count: m };
-    limits.low[PAIRS - m] = -WIDE;
-    limits.high[PAIRS - m] = WIDE;
+    let mut limits = Limits { low: [CLOSED; PAIRS], high: [-CLOSED; PAIRS], least: m, count: m };
     for t in (0..m).rev() {
-        let shift = t as i32;
+        let shift = t as i16;
         let low = p.iter().zip(&q[t..]).map(|(p, q)| p - q).max().unwrap_or(0) + shift;
         let high = p[t..].iter().zip(q).map(|(p, q)| p - q).min().unwrap_or(0) - shift;
         if low > high {
             break;
         }
-        limits.low[PAIRS - t] = low;
-        limits.high[PAIRS - t] = high;
+        limits.low[PAIRS - 1 - t] = low;
+        limits.high[PAIRS - 1 - t] = high;
         limits.least = t;
     }
     limits
 }
 
+impl Limits {
+    fn at(&self, t: usize) -> (i16, i16) {
+        if t == self.count {
+            return (-CLOSED, CLOSED);
+        }
+        (self.low[PAIRS - 1 - t], self.high[PAIRS - 1 - t])
+    }
+}
+
 /// The spans of one strip by total, half open: positions from which the strips above can be placed with at most that total.
+/// That of total v is in place PAIRS - 1 + v, behind empty ones.
 #[derive(Clone, Copy)]
 struct Spans {
-    from: [i32; TOTALS],
-    upto: [i32; TOTALS],
+    from: [i16; PAIRS - 1 + TOTALS],
+    upto: [i16; PAIRS - 1 + TOTALS],
+}
+
+impl Spans {
+    fn at(&self, v: usize) -> (i16, i16) {
+        (self.from[PAIRS - 1 + v], self.upto[PAIRS - 1 + v])
+    }
+
+    fn set(&mut self, v: usize, span: (i16, i16)) {
+        (self.from[PAIRS - 1 + v], self.upto[PAIRS - 1 + v]) = span;
+    }
+
+    fn is_open(&self, v: usize) -> bool {
+        let (from, upto) = self.at(v);
+        from < upto
+    }
+
+    /// The nearest start and the furthest end of the spans for what separations below their count leave of total v, shifted back by the limits.
+    fn shifted_back(&self, limits: &Limits, v: usize) -> (i16, i16) {
+        let from: &[i16; PAIRS] = self.from[v..v + PAIRS].try_into().unwrap();
+        let upto: &[i16; PAIRS] = self.upto[v..v + PAIRS].try_into().unwrap();
+        let mut nearest = NOWHERE;
+        let mut furthest = -NOWHERE;
+        for place in 0..PAIRS {
+            nearest = nearest.min(from[place] - limits.high[place]);
+            furthest = furthest.max(upto[place] - limits.low[place]);
+        }
+        (nearest, furthest)
+    }
 }
 
 struct Solver {
     k: usize,
-    lengths: [i32; STRIPS],
+    lengths: [i16; STRIPS],
     limits: [Limits; CHANNELS],
-    /// By strip: the sums, over the channels above it, of the counts of pairs and of the least open separations.
+    /// By strip: the sum of the counts of pairs of the channels above it.
     most: [usize; STRIPS],
-    floor: [usize; STRIPS],
-    windows: [i32; STRIPS],
+    floor: usize,
+    windows: [i16; STRIPS],
     spans: [Spans; STRIPS],
 }
 
 struct Placement {
     total: usize,
     separations: [usize; CHANNELS],
-    positions: [i32; STRIPS],
+    positions: [i16; STRIPS],
 }
 
 impl Solver {
     fn new(stack: &Stack) -> Solver {
-        let none = Limits { low: [0; PAIRS + 1], high: [0; PAIRS + 1], least: 0, count: 0 };
+        let none = Limits { low: [0; PAIRS], high: [0; PAIRS], least: 0, count: 0 };
         let mut solver = Solver {
             k: stack.k,
             lengths: stack.lengths,
             limits: [none; CHANNELS],
             most: [0; STRIPS],
-            floor: [0; STRIPS],
+            floor: 0,
             windows: [0; STRIPS],
-            spans: [Spans { from: [0; TOTALS], upto: [0; TOTALS] }; STRIPS],
+            spans: [Spans { from: [NOWHERE; PAIRS - 1 + TOTALS], upto: [-NOWHERE; PAIRS - 1 + TOTALS] }; STRIPS],
         };
         for i in (0..stack.k).rev() {
             let m = stack.counts[i];
-            let found = limits(&stack.lower[i][..m], &stack.upper[i][..m]);
-            solver.most[i] = solver.most[i + 1] + found.count;
-            solver.floor[i] = solver.floor[i + 1] + found.least;
-            solver.limits[i] = found;
+            solver.limits[i] = limits(&stack.lower[i][..m], &stack.upper[i][..m]);
+            solver.most[i] = solver.most[i + 1] + m;
+            solver.floor += solver.limits[i].least;
         }
         solver
     }
 
-    fn longest(&self) -> i32 {
+    fn longest(&self) -> i16 {
         self.lengths.iter().copied().max().unwrap_or(0)
     }
 
-    fn widest(&self) -> i32 {
+    fn widest(&self) -> i16 {
         self.lengths.iter().sum()
     }
 
     /// Writes the span of strip i for total v. Answers by how much it is short, NOWHERE if it is not or is far from open.
-    fn cell(&mut self, i: usize, v: usize) -> i32 {
+    fn cell(&mut self, i: usize, v: usize) -> i16 {
         let (own, above) = self.spans.split_at_mut(i + 1);
+        let (own, above) = (&mut own[i], &above[0]);
         let limits = &self.limits[i];
-        let first = limits.least.max(v.saturating_sub(self.most[i + 1]));
-        let last = limits.count.min(v - self.floor[i + 1]);
-        let separations = PAIRS - last..PAIRS - first + 1;
-        let totals = v - last..v - first + 1;
-        let nearest = above[0].from[totals.clone()].iter().zip(&limits.high[separations.clone()]).map(|(x, high)| x - high);
-        let furthest = above[0].upto[totals].iter().zip(&limits.low[separations]).map(|(x, low)| x - low);
-        let from = nearest.min().unwrap_or(NOWHERE).max(0);
-        let upto = furthest.max().unwrap_or(-NOWHERE).min(self.windows[i]);
-        if from < upto {
-            own[i].from[v] = from;
-            own[i].upto[v] = upto;
+        let window = self.windows[i];
+        if v > self.most[i] {
+            // More than the channels above can use.
+            own.set(v, own.at(v - 1));
             return NOWHERE;
         }
-        own[i].from[v] = NOWHERE;
-        own[i].upto[v] = -NOWHERE;
-        if from < NOWHERE / 2 {
+        if v >= limits.count && above.is_open(v - limits.count) {
+            own.set(v, (0, window));
+            return NOWHERE;
+        }
+        let (nearest, furthest) = above.shifted_back(limits, v);
+        let (from, upto) = (nearest.max(0), furthest.min(window));
+        if from < upto {
+            own.set(v, (from, upto));
+            return NOWHERE;
+        }
+        own.set(v, (NOWHERE, -NOWHERE));
+        if from <= REACH {
             from + 1 - upto
         } else {
             NOWHERE
@@ -225,21 +268,19 @@ impl Solver {
     }
 
     /// The first total that fits in a spread, and by how much the spread must grow before a smaller one may.
-    fn scan(&mut self, spread: i32) -> (usize, i32) {
+    fn scan(&mut self, spread: i16) -> (usize, i16) {
         for i in 0..=self.k {
             self.windows[i] = spread + 1 - self.lengths[i];
         }
-        self.spans[self.k].from[0] = 0;
-        self.spans[self.k].upto[0] = self.windows[self.k];
+        let top = (0, self.windows[self.k]);
         let mut jump = NOWHERE;
         for v in 0..=self.most[0] {
             let mut short = NOWHERE;
+            self.spans[self.k].set(v, top);
             for i in (0..self.k).rev() {
-                if self.floor[i] <= v && v <= self.most[i] {
-                    short = short.min(self.cell(i, v));
-                }
+                short = short.min(self.cell(i, v));
             }
-            if self.floor[0] <= v && self.spans[0].from[v] < self.spans[0].upto[v] {
+            if self.spans[0].is_open(v) {
                 return (v, jump);
             }
             jump = jump.min(short);
@@ -252,17 +293,15 @@ impl Solver {
         let k = self.k;
         let mut placement = Placement { total, separations: [0; CHANNELS], positions: [0; STRIPS] };
         let mut left = total;
-        let (mut from, mut upto) = (0, self.windows[0]);
+        let mut span = (0, self.windows[0]);
         for i in 0..k - 1 {
             let limits = &self.limits[i];
-            let above = &self.spans[i + 1];
             let mut t = limits.least;
             loop {
-                let rest = (left - t).min(self.most[i + 1]);
-                let (low, high) = (limits.low[PAIRS - t], limits.high[PAIRS - t]);
-                if above.from[rest].max(from + low) < above.upto[rest].min(upto + high) {
-                    from = (from + low).max(0);
-                    upto = (upto + high).min(self.windows[i + 1]);
+                let (low, high) = limits.at(t);
+                let (from, upto) = self.spans[i + 1].at(left - t);
+                if from.max(span.0 + low) < upto.min(span.1 + high) {
+                    span = ((span.0 + low).max(0), (span.1 + high).min(self.windows[i + 1]));
                     break;
                 }
                 t += 1;
@@ -273,12 +312,12 @@ impl Solver {
         placement.separations[k - 1] = left;
         let mut starts = [0; STRIPS];
         for i in (0..k).rev() {
-            let high = self.limits[i].high[PAIRS - placement.separations[i]];
+            let (_, high) = self.limits[i].at(placement.separations[i]);
             starts[i] = (starts[i + 1] - high).max(0);
         }
         placement.positions[0] = starts[0];
         for i in 0..k {
-            let low = self.limits[i].low[PAIRS - placement.separations[i]];
+            let (low, _) = self.limits[i].at(placement.separations[i]);
             placement.positions[i + 1] = (placement.positions[i] + low).max(starts[i + 1]);
         }
         placement
@@ -293,7 +332,7 @@ pub fn answer(text: &[u8], spread: u32) -> Result<[u32; 18], Refusal> {
         return Err((7, 0, 0));
     }
     // Leftmost placements never reach beyond the sum of the lengths.
-    let (total, _) = solver.scan(spread.min(solver.widest() as u32) as i32);
+    let (total, _) = solver.scan(spread.min(solver.widest() as u32) as i16);
     let placement = solver.place(total);
     let mut answer = [0; 18];
     answer[0] = placement.total as u32;
@@ -343,7 +382,7 @@ impl Line {
     }
 }
 
-fn write_row(out: &mut [u8], at: usize, k: usize, spread: i32, placement: &Placement) -> Result<usize, Refusal> {
+fn write_row(out: &mut [u8], at: usize, k: usize, spread: i16, placement: &Placement) -> Result<usize, Refusal> {
     let mut line = Line::new(b"ROW");
     line.number(spread as u32);
     line.number(placement.total as u32);
@@ -365,7 +404,7 @@ fn write_table(text: &[u8], out: &mut [u8]) -> Result<usize, Refusal> {
     let mut least = usize::MAX;
     let mut spread = solver.longest();
     let widest = solver.widest();
-    while spread <= widest && least > solver.floor[0] {
+    while spread <= widest && least > solver.floor {
         let (total, jump) = solver.scan(spread);
         if total < least {
             least = total;
