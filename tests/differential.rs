@@ -20,7 +20,10 @@ use random::Random;
 use reader::{Refusal, Stack};
 use std::collections::BTreeMap;
 
-const USAGE: &str = "usage: differential [SEED [SMALL MIDDLE DAMAGED LIMITS]]    (a seed, and how many stacks or texts of each kind)";
+const USAGE: &str = "usage: tests/differential [SEED [SMALL MIDDLE DAMAGED LIMITS]]    (a seed, and how many stacks or texts of each kind)";
+
+/// Small stacks, middle ones, damaged texts and stacks at the limits, unless told otherwise.
+const COUNTS: [u64; 4] = [4000, 1500, 50000, 50];
 
 /// What was due and what was found, in words.
 type Checked = Result<(), String>;
@@ -117,12 +120,16 @@ impl Run {
 
     fn answer(&mut self, text: &[u8], spread: u32, due: Result<[u32; 18], Refusal>) -> Checked {
         self.count("answers");
-        let mut answer = [u32::MAX; 18];
-        let told = library::answer_spread(text, spread, &mut answer);
+        let mut space = [u32::MAX; 34];
+        let answer: &mut [u32; 18] = (&mut space[8..26]).try_into().unwrap();
+        let told = library::answer_spread(text, spread, answer);
         same_code(&format!("answer at spread {}", spread), told, due.map_or_else(code, |_| 0))?;
         let numbers = due.unwrap_or([0; 18]);
-        if answer != numbers {
+        if *answer != numbers {
             return Err(format!("answer at spread {}: found {:?}, due {:?}", spread, answer, numbers));
+        }
+        if space[..8].iter().chain(&space[26..]).any(|v| *v != u32::MAX) {
+            return Err(format!("answer at spread {}: numbers beside the space are changed", spread));
         }
         match plain::answer(text, spread) {
             found if found == due => Ok(()),
@@ -410,8 +417,8 @@ fn main() {
     let words: Vec<String> = std::env::args().skip(1).collect();
     let given: Option<Vec<u64>> = words.iter().map(|w| w.parse().ok()).collect();
     let (seed, counts) = match given.as_deref() {
-        Some([]) => (1, [3000, 400, 40000, 40]),
-        Some([seed]) => (*seed, [3000, 400, 40000, 40]),
+        Some([]) => (1, COUNTS),
+        Some([seed]) => (*seed, COUNTS),
         Some([seed, a, b, c, d]) => (*seed, [*a, *b, *c, *d]),
         _ => {
             eprintln!("{}", USAGE);
