@@ -1,13 +1,22 @@
 //! The independent program: document 01 by plain formulas and by trying, sharing no code with the proved one.
-//! `channels` prints what crates/channel_test must print for the same input.
+//! `channels`, `table`, `spread` and `trial` print what the proved programs must print for the same input.
 
 mod channel;
-#[allow(dead_code)]
+mod random;
 mod reader;
-#[allow(dead_code)]
 mod solver;
+mod specimens;
 
-use std::io::Read;
+use random::Random;
+use reader::{Refusal, Stack};
+use std::io::{Read, Write};
+
+const USAGE: &str = "usage: reference channels < crates/channel_test/stdin
+       reference table < STACK
+       reference spread SPREAD < STACK
+       reference trial SPREAD SEPARATION.. POSITION.. < STACK    (k separations, k + 1 positions)
+       reference specimens
+       reference agree SEED COUNT";
 
 fn channels(input: &str) {
     let mut numbers = input.split_whitespace().map(|w| w.parse::<i64>().expect("a number"));
@@ -35,11 +44,139 @@ fn channels(input: &str) {
     }
 }
 
+fn refusal_text(r: Refusal) -> String {
+    format!("{}\t{}\t{}\n", r.0, r.1, r.2)
+}
+
+fn table(text: &[u8]) -> String {
+    match reader::read(text) {
+        Ok(stack) => solver::table_text(&stack, &solver::rows(&stack, solver::small(&stack))),
+        Err(r) => refusal_text(r),
+    }
+}
+
+fn spread(text: &[u8], spread: i64) -> String {
+    match reader::read(text) {
+        Ok(stack) if spread < solver::longest(&stack) => refusal_text((7, 0, 0)),
+        Ok(stack) => {
+            let brute = solver::small(&stack) && spread <= solver::widest(&stack) + 3;
+            solver::row_text(spread, &solver::answer(&stack, spread, brute))
+        }
+        Err(r) => refusal_text(r),
+    }
+}
+
+/// None if there are not k separations and k + 1 positions.
+fn trial(text: &[u8], spread: i64, placement: &[u32]) -> Option<String> {
+    let stack = match reader::read(text) {
+        Ok(stack) => stack,
+        Err(r) => return Some(refusal_text(r)),
+    };
+    let k = stack.channels.len();
+    if placement.len() != 2 * k + 1 {
+        return None;
+    }
+    let separations: Vec<usize> = placement[..k].iter().map(|t| *t as usize).collect();
+    let positions: Vec<i64> = placement[k..].iter().map(|x| *x as i64).collect();
+    let legal = solver::legal(&stack, spread, &separations, &positions);
+    Some(if legal { "legal\n" } else { "not legal\n" }.to_string())
+}
+
+/// Every specimen of document 01; prints those that differ and says whether none does.
+fn check_specimens() -> bool {
+    let mut good = true;
+    let mut check = |name: &str, found: String, due: String| {
+        if found != due {
+            good = false;
+            println!("specimen {}: found\n{}due\n{}", name, found, due);
+        }
+    };
+    for (name, text, due) in specimens::TABLES {
+        let text = specimens::tabbed(text);
+        let due = specimens::tabbed(due);
+        if let Ok(stack) = reader::read(text.as_bytes()) {
+            check(name, solver::table_text(&stack, &solver::rows(&stack, false)), due.clone());
+        }
+        check(name, table(text.as_bytes()), due);
+    }
+    for (name, text, at, due) in specimens::SPREADS {
+        check(name, spread(specimens::tabbed(text).as_bytes(), at as i64), specimens::tabbed(due));
+    }
+    for (name, text, at, separations, positions, due) in specimens::TRIALS {
+        let found = trial(specimens::tabbed(text).as_bytes(), at as i64, &[separations, positions].concat());
+        check(name, found.unwrap(), if due { "legal\n" } else { "not legal\n" }.to_string());
+    }
+    let full = specimens::tabbed(&specimens::pairs(32));
+    check("32 pairs", table(full.as_bytes()), "TABLE\t1\nROW\t40\t0\t0\t0\t0\n".to_string());
+    let crowded = specimens::tabbed(&specimens::pairs(33));
+    check("33 pairs", table(crowded.as_bytes()), "3\t4\t66\n".to_string());
+    check("A's length", table(specimens::tabbed(specimens::TABLES[0].1).as_bytes()).len().to_string(), "50".to_string());
+    good
+}
+
+/// The two ways to place strips, at every spread of random small stacks; the first stack at which they differ.
+fn check_agreement(seed: u64, count: usize) -> Result<usize, Stack> {
+    let mut random = Random(seed);
+    let mut spreads = 0;
+    for _ in 0..count {
+        let k = 1 + random.below(3);
+        let stack = random.stack(k, 12 - 2 * k as i64, 4);
+        for spread in solver::longest(&stack)..=solver::widest(&stack) + 3 {
+            if solver::answer(&stack, spread, true) != solver::answer(&stack, spread, false) {
+                return Err(stack);
+            }
+            spreads += 1;
+        }
+    }
+    Ok(spreads)
+}
+
+fn read_input() -> Vec<u8> {
+    let mut input = Vec::new();
+    std::io::stdin().read_to_end(&mut input).expect("input");
+    input
+}
+
+fn numbers(words: &[String]) -> Option<Vec<u32>> {
+    words.iter().map(|w| w.parse().ok()).collect()
+}
+
+/// What a command prints and whether all was well; None if it is used wrongly.
+fn run(words: &[String]) -> Option<(String, bool)> {
+    let rest = words.get(1..).unwrap_or_default();
+    match (words.first()?.as_str(), rest.len()) {
+        ("channels", 0) => {
+            channels(std::str::from_utf8(&read_input()).expect("text"));
+            Some((String::new(), true))
+        }
+        ("table", 0) => Some((table(&read_input()), true)),
+        ("spread", 1) => Some((spread(&read_input(), numbers(rest)?[0] as i64), true)),
+        ("trial", 4..) => {
+            let given = numbers(rest)?;
+            Some((trial(&read_input(), given[0] as i64, &given[1..])?, true))
+        }
+        ("specimens", 0) => {
+            let good = check_specimens();
+            Some((if good { "specimens: no difference\n" } else { "" }.to_string(), good))
+        }
+        ("agree", 2) => match check_agreement(rest[0].parse().ok()?, rest[1].parse().ok()?) {
+            Ok(spreads) => Some((format!("{} stacks, {} spreads: no difference\n", rest[1], spreads), true)),
+            Err(stack) => Some((format!("a difference:\n{}", String::from_utf8(random::text(&stack)).unwrap()), false)),
+        },
+        _ => None,
+    }
+}
+
 fn main() {
-    let mut input = String::new();
-    std::io::stdin().read_to_string(&mut input).expect("text");
-    match std::env::args().nth(1).as_deref() {
-        Some("channels") => channels(&input),
-        _ => eprintln!("usage: reference channels < crates/channel_test/stdin"),
+    let words: Vec<String> = std::env::args().skip(1).collect();
+    match run(&words) {
+        Some((text, good)) => {
+            std::io::stdout().write_all(text.as_bytes()).expect("output");
+            std::process::exit(if good { 0 } else { 1 });
+        }
+        None => {
+            eprintln!("{}", USAGE);
+            std::process::exit(2);
+        }
     }
 }

@@ -12,7 +12,7 @@ pub struct Answer {
 
 pub fn legal(stack: &Stack, spread: i64, separations: &[usize], positions: &[i64]) -> bool {
     let within = positions.iter().zip(&stack.lengths).all(|(x, l)| *x >= 0 && x + l <= spread);
-    within && stack.channels.iter().enumerate().all(|(i, c)| feasible(c, separations[i], positions[i + 1] - positions[i]))
+    within && separations.iter().enumerate().all(|(i, t)| feasible(&stack.channels[i], *t, positions[i + 1] - positions[i]))
 }
 
 /// The first positions in dictionary order for these separations, each position tried from the left.
@@ -35,8 +35,9 @@ fn place_by_trying(stack: &Stack, spread: i64, separations: &[usize], placed: &m
 }
 
 /// The same for wide spreads: offsets between two limits, so the positions that reach the top form a range for each strip, found from the top down.
+/// With fewer separations than channels only the strips that they join, from the bottom, are placed.
 fn place_by_ranges(stack: &Stack, spread: i64, separations: &[usize]) -> Option<Vec<i64>> {
-    let n = stack.lengths.len();
+    let n = separations.len() + 1;
     let far = spread + 5000;
     let limits = |c: &[Pair], t: usize| (left_limit(c, t).unwrap_or(-far), right_limit(c, t).unwrap_or(far));
     let mut ranges = vec![(0, 0); n];
@@ -60,7 +61,13 @@ fn place_by_ranges(stack: &Stack, spread: i64, separations: &[usize]) -> Option<
     legal(stack, spread, separations, &placed).then_some(placed)
 }
 
+/// The least separation that is feasible at some offset.
+fn least_open(pairs: &[Pair]) -> usize {
+    (0..pairs.len()).find(|&t| left_limit(pairs, t) <= right_limit(pairs, t)).unwrap_or(pairs.len())
+}
+
 /// The separations of a total in dictionary order, each at most the channel's count of pairs.
+/// Unless every position is to be tried, those are passed over that leave too little for the channels above, or place no strips so far.
 fn try_total(stack: &Stack, spread: i64, left: usize, chosen: &mut Vec<usize>, brute: bool) -> Option<Vec<i64>> {
     let i = chosen.len();
     if i == stack.channels.len() {
@@ -73,8 +80,16 @@ fn try_total(stack: &Stack, spread: i64, left: usize, chosen: &mut Vec<usize>, b
         }
         return place_by_ranges(stack, spread, chosen);
     }
-    let rest: usize = stack.channels[i + 1..].iter().map(|c| c.len()).sum();
-    for t in left.saturating_sub(rest)..=left.min(stack.channels[i].len()) {
+    if !brute && place_by_ranges(stack, spread, chosen).is_none() {
+        return None;
+    }
+    let rest = &stack.channels[i + 1..];
+    let most: usize = rest.iter().map(|c| c.len()).sum();
+    let least: usize = if brute { 0 } else { rest.iter().map(|c| least_open(c)).sum() };
+    if left < least {
+        return None;
+    }
+    for t in left.saturating_sub(most)..=(left - least).min(stack.channels[i].len()) {
         chosen.push(t);
         if let Some(placed) = try_total(stack, spread, left - t, chosen, brute) {
             return Some(placed);
@@ -82,6 +97,19 @@ fn try_total(stack: &Stack, spread: i64, left: usize, chosen: &mut Vec<usize>, b
         chosen.pop();
     }
     None
+}
+
+pub fn longest(stack: &Stack) -> i64 {
+    *stack.lengths.iter().max().unwrap()
+}
+
+pub fn widest(stack: &Stack) -> i64 {
+    stack.lengths.iter().sum()
+}
+
+/// Whether trying every position is soon done, at spreads up to a little above the sum of the lengths.
+pub fn small(stack: &Stack) -> bool {
+    stack.channels.len() <= 3 && longest(stack) <= 12 && stack.channels.iter().all(|c| c.len() <= 4)
 }
 
 /// For a spread from the longest strip upward; `brute` tries every position.
@@ -98,10 +126,8 @@ pub fn answer(stack: &Stack, spread: i64, brute: bool) -> Answer {
 
 /// The rows of the table: every spread up to past the sum of the lengths is tried, beyond which nothing falls.
 pub fn rows(stack: &Stack, brute: bool) -> Vec<(i64, Answer)> {
-    let longest = *stack.lengths.iter().max().unwrap();
-    let widest = stack.lengths.iter().sum::<i64>() + 3;
     let mut rows: Vec<(i64, Answer)> = Vec::new();
-    for spread in longest..=widest {
+    for spread in longest(stack)..=widest(stack) + 3 {
         let found = answer(stack, spread, brute);
         if rows.last().map_or(true, |(_, last)| found.total < last.total) {
             rows.push((spread, found));
@@ -121,10 +147,10 @@ pub fn row_text(spread: i64, a: &Answer) -> String {
     line + "\n"
 }
 
-pub fn table_text(stack: &Stack, brute: bool) -> String {
+pub fn table_text(stack: &Stack, rows: &[(i64, Answer)]) -> String {
     let mut text = format!("TABLE\t{}\n", stack.channels.len());
-    for (spread, a) in rows(stack, brute) {
-        text += &row_text(spread, &a);
+    for (spread, a) in rows {
+        text += &row_text(*spread, a);
     }
     text
 }

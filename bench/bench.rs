@@ -1,0 +1,134 @@
+//! Times of the proved library and of the plain program, per table and per one-spread answer, side by side.
+
+#[allow(dead_code)]
+#[path = "../tests/library.rs"]
+mod library;
+mod solver;
+
+use std::collections::HashMap;
+use std::hint::black_box;
+use std::time::Instant;
+
+const USAGE: &str = "usage: bench report COUNTS STACK..       times, beside the instructions in the file COUNTS
+       bench repeat PROGRAM JOB COUNT STACK    (proved or plain; table or answer)";
+
+/// Longer than every table.
+const SPACE: usize = 24576;
+const SAMPLES: usize = 31;
+const PROGRAMS: [&str; 2] = ["proved", "plain"];
+const JOBS: [&str; 2] = ["table", "answer"];
+
+struct Input {
+    name: String,
+    text: Vec<u8>,
+    /// The longest strip: there the total is greatest.
+    spread: u32,
+}
+
+fn input(path: &str) -> Input {
+    let text = std::fs::read(path).expect("a stack to read");
+    let lengths = text.split(|b| *b == 10).filter_map(|l| l.strip_prefix(b"PART\t"));
+    let spread = lengths.map(|l| std::str::from_utf8(l).unwrap().parse().unwrap()).max().expect("strips");
+    let name = std::path::Path::new(path).file_stem().unwrap().to_string_lossy().into_owned();
+    Input { name, text, spread }
+}
+
+/// Does the job so many times, into buffers that are not cleared between.
+fn repeat(program: &str, job: &str, count: u64, input: &Input) {
+    let mut space = vec![0; SPACE];
+    let text = &input.text[..];
+    for _ in 0..count {
+        match (program, job) {
+            ("proved", "table") => {
+                black_box(library::write_table(black_box(text), black_box(&mut space)));
+            }
+            ("proved", _) => {
+                let mut answer = [0; 18];
+                black_box(library::answer_spread(black_box(text), black_box(input.spread), black_box(&mut answer)));
+            }
+            (_, "table") => {
+                black_box(solver::table(black_box(text), black_box(&mut space))).expect("a table");
+            }
+            _ => {
+                black_box(solver::answer(black_box(text), black_box(input.spread))).expect("an answer");
+            }
+        }
+    }
+}
+
+/// Both programs must write the same.
+fn compare(input: &Input) {
+    let (mut proved, mut plain) = (vec![255; SPACE], vec![255; SPACE]);
+    let told = library::write_table(&input.text, &mut proved);
+    assert_eq!(solver::table(&input.text, &mut plain), Ok(told as usize), "{}", input.name);
+    assert!(proved == plain, "{}: the tables differ", input.name);
+    let mut answer = [0; 18];
+    library::answer_spread(&input.text, input.spread, &mut answer);
+    assert_eq!(solver::answer(&input.text, input.spread), Ok(answer), "{}", input.name);
+}
+
+fn nanoseconds(program: &str, job: &str, count: u64, input: &Input) -> f64 {
+    let start = Instant::now();
+    repeat(program, job, count, input);
+    start.elapsed().as_nanos() as f64 / count as f64
+}
+
+/// The medians of both programs' times, in turns; a sample takes some milliseconds.
+fn medians(job: &str, input: &Input) -> [f64; 2] {
+    let counts = PROGRAMS.map(|program| {
+        let once = nanoseconds(program, job, 2, input);
+        ((4e6 / once) as u64).max(1)
+    });
+    let mut samples = [Vec::new(), Vec::new()];
+    for _ in 0..SAMPLES {
+        for p in 0..2 {
+            samples[p].push(nanoseconds(PROGRAMS[p], job, counts[p], input));
+        }
+    }
+    samples.map(|mut s| {
+        s.sort_by(f64::total_cmp);
+        s[SAMPLES / 2]
+    })
+}
+
+/// Lines of the file: stack, job, program, instructions.
+fn instructions(path: &str) -> HashMap<String, f64> {
+    let lines = std::fs::read_to_string(path).expect("the counts of instructions");
+    lines.lines().filter_map(|l| l.rsplit_once(' ')).map(|(key, n)| (key.to_string(), n.parse().expect("a count"))).collect()
+}
+
+fn report(counts: &str, paths: &[String]) {
+    let counts = instructions(counts);
+    println!(
+        "{:8} {:8} {:>13} {:>13} {:>7} {:>15} {:>15} {:>7}",
+        "stack", "job", "proved ns", "plain ns", "ratio", "proved instr", "plain instr", "ratio"
+    );
+    for path in paths {
+        let input = input(path);
+        compare(&input);
+        for job in JOBS {
+            let times = medians(job, &input);
+            print!("{:8} {:8} {:13.0} {:13.0} {:7.2}", input.name, job, times[0], times[1], times[0] / times[1]);
+            let found = PROGRAMS.map(|program| counts.get(&format!("{} {} {}", input.name, job, program)).copied());
+            match found {
+                [Some(proved), Some(plain)] => println!(" {:15.0} {:15.0} {:7.2}", proved, plain, proved / plain),
+                _ => println!(" {:>15} {:>15} {:>7}", "-", "-", "-"),
+            }
+        }
+    }
+}
+
+fn main() {
+    let words: Vec<String> = std::env::args().skip(1).collect();
+    let names: Vec<&str> = words.iter().map(|w| w.as_str()).collect();
+    match names[..] {
+        ["report", counts, _, ..] => report(counts, &words[2..]),
+        ["repeat", program, job, count, path] if PROGRAMS.contains(&program) && JOBS.contains(&job) && count.parse::<u64>().is_ok() => {
+            repeat(program, job, count.parse().unwrap(), &input(path))
+        }
+        _ => {
+            eprintln!("{}", USAGE);
+            std::process::exit(2);
+        }
+    }
+}

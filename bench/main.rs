@@ -1,0 +1,65 @@
+//! `table` and `spread` print what the proved programs print; `generate` makes the inputs of the comparison.
+
+mod inputs;
+mod solver;
+
+use std::io::{Read, Write};
+
+const USAGE: &str = "usage: plain table < STACK
+       plain spread SPREAD < STACK
+       plain generate FOLDER";
+
+fn read_input() -> Vec<u8> {
+    let mut input = Vec::new();
+    std::io::stdin().read_to_end(&mut input).expect("input");
+    input
+}
+
+fn refusal_text(r: solver::Refusal) -> Vec<u8> {
+    format!("{}\t{}\t{}\n", r.0, r.1, r.2).into_bytes()
+}
+
+fn table(text: &[u8]) -> Vec<u8> {
+    let mut space = vec![0; 32768];
+    match solver::table(text, &mut space) {
+        Ok(length) => space[..length].to_vec(),
+        Err(r) => refusal_text(r),
+    }
+}
+
+fn spread(text: &[u8], spread: u32) -> Vec<u8> {
+    match solver::answer(text, spread) {
+        Ok(answer) => {
+            let k = text[6] as usize - 48;
+            let used = [&answer[..=k], &answer[9..=9 + k]].concat();
+            let numbers: String = used.iter().map(|v| format!("\t{}", v)).collect();
+            format!("ROW\t{}{}\n", spread, numbers).into_bytes()
+        }
+        Err(r) => refusal_text(r),
+    }
+}
+
+fn run(words: &[String]) -> Option<Vec<u8>> {
+    match words {
+        [command] if command == "table" => Some(table(&read_input())),
+        [command, number] if command == "spread" => Some(spread(&read_input(), number.parse().ok()?)),
+        [command, folder] if command == "generate" => {
+            for (name, text) in inputs::all() {
+                std::fs::write(format!("{}/{}.stack", folder, name), text).expect("a folder to write in");
+            }
+            Some(Vec::new())
+        }
+        _ => None,
+    }
+}
+
+fn main() {
+    let words: Vec<String> = std::env::args().skip(1).collect();
+    match run(&words) {
+        Some(text) => std::io::stdout().write_all(&text).expect("output"),
+        None => {
+            eprintln!("{}", USAGE);
+            std::process::exit(2);
+        }
+    }
+}

@@ -1,0 +1,423 @@
+//! The proved library's job written for speed in plain Rust: a stack's text in, its table or its answer for one spread out.
+//! It shares no code with reference/.
+
+const CHANNELS: usize = 8;
+const STRIPS: usize = CHANNELS + 1;
+const PAIRS: usize = 32;
+const TOTALS: usize = CHANNELS * PAIRS + 1;
+
+// Columns fit sixteen bits, so that a vector holds many: nine strips of 1,000 are 9,000 wide.
+
+/// No start of a span that is not empty is greater, shifted back or not.
+const REACH: i16 = 10_000;
+/// A shift beyond every position, for a separation that is feasible at no offset or, turned about, at every one.
+const CLOSED: i16 = 14_000;
+/// The start of an empty span, which ends as far on the other side. No shift brings it within reach.
+const NOWHERE: i16 = 16_000;
+
+/// Number, line and field.
+pub type Refusal = (u32, u32, u32);
+
+struct Stack {
+    k: usize,
+    lengths: [i16; STRIPS],
+    counts: [usize; CHANNELS],
+    lower: [[i16; PAIRS]; CHANNELS],
+    upper: [[i16; PAIRS]; CHANNELS],
+}
+
+/// A number's value and what is behind it.
+fn number(text: &[u8]) -> Option<(i16, &[u8])> {
+    let mut value = 0;
+    let mut digits = 0;
+    while let Some(byte @ b'0'..=b'9') = text.get(digits) {
+        if digits == 4 || (digits == 1 && value == 0) {
+            return None;
+        }
+        value = 10 * value + (byte - b'0') as i16;
+        digits += 1;
+    }
+    if digits == 0 {
+        return None;
+    }
+    Some((value, &text[digits..]))
+}
+
+/// The count of numbers behind the word in the text's first line, the first of them kept, and the text behind the line.
+fn line<'a>(text: &'a [u8], word: &[u8], kept: &mut [i16]) -> Option<(usize, &'a [u8])> {
+    let mut rest = text.strip_prefix(word)?;
+    let mut count = 0;
+    loop {
+        match rest {
+            [b'\n', behind @ ..] => return Some((count, behind)),
+            [b'\t', behind @ ..] => {
+                let (value, behind) = number(behind)?;
+                if let Some(place) = kept.get_mut(count) {
+                    *place = value;
+                }
+                count += 1;
+                rest = behind;
+            }
+            _ => return None,
+        }
+    }
+}
+
+/// The one number of a line.
+fn single<'a>(text: &'a [u8], word: &[u8]) -> Option<(i16, &'a [u8])> {
+    let mut kept = [0];
+    let (count, behind) = line(text, word, &mut kept)?;
+    (count == 1).then_some((kept[0], behind))
+}
+
+fn read(text: &[u8]) -> Result<Stack, Refusal> {
+    if text.len() > 8192 {
+        return Err((1, 0, 0));
+    }
+    let (k, mut rest) = single(text, b"STACK").ok_or((2, 1, 0))?;
+    if !(1..=8).contains(&k) {
+        return Err((3, 1, 2));
+    }
+    let k = k as usize;
+    let mut stack = Stack { k, lengths: [0; STRIPS], counts: [0; CHANNELS], lower: [[0; PAIRS]; CHANNELS], upper: [[0; PAIRS]; CHANNELS] };
+    let mut at = 1;
+    for length in &mut stack.lengths[..=k] {
+        at += 1;
+        (*length, rest) = single(rest, b"PART").ok_or((2, at, 0))?;
+        if !(1..=1000).contains(length) {
+            return Err((4, at, 2));
+        }
+    }
+    for i in 0..k {
+        at += 1;
+        let mut kept = [0; 2 * PAIRS];
+        let (count, behind) = line(rest, b"NETS", &mut kept).filter(|found| found.0 % 2 == 0).ok_or((2, at, 0))?;
+        rest = behind;
+        if count > 2 * PAIRS {
+            return Err((3, at, 66));
+        }
+        stack.counts[i] = count / 2;
+        let mut before = [-1, -1];
+        for j in 0..count {
+            let side = j % 2;
+            if kept[j] > stack.lengths[i + side] {
+                return Err((5, at, j as u32 + 2));
+            }
+            if kept[j] <= before[side] {
+                return Err((6, at, j as u32 + 2));
+            }
+            before[side] = kept[j];
+        }
+        for (j, pair) in kept[..count].chunks_exact(2).enumerate() {
+            stack.lower[i][j] = pair[0];
+            stack.upper[i][j] = pair[1];
+        }
+    }
+    if rest.is_empty() {
+        Ok(stack)
+    } else {
+        Err((2, at + 1, 0))
+    }
+}
+
+/// The limits of one channel, that of separation t in place PAIRS - 1 - t, so that limits and spans run the same way when a total is
+/// parted between a separation and the channels above. At a separation of the count of pairs every offset is feasible.
+#[derive(Clone, Copy)]
+struct Limits {
+    low: [i16; PAIRS],
+    high: [i16; PAIRS],
+    least: usize,
+    count: usize,
+}
+
+fn limits(p: &[i16], q: &[i16]) -> Limits {
+    let m = p.len();
+    let mut limits = Limits { low: [CLOSED; PAIRS], high: [-CLOSED; PAIRS], least: m, count: m };
+    for t in (0..m).rev() {
+        let shift = t as i16;
+        let low = p.iter().zip(&q[t..]).map(|(p, q)| p - q).max().unwrap_or(0) + shift;
+        let high = p[t..].iter().zip(q).map(|(p, q)| p - q).min().unwrap_or(0) - shift;
+        if low > high {
+            break;
+        }
+        limits.low[PAIRS - 1 - t] = low;
+        limits.high[PAIRS - 1 - t] = high;
+        limits.least = t;
+    }
+    limits
+}
+
+impl Limits {
+    fn at(&self, t: usize) -> (i16, i16) {
+        if t == self.count {
+            return (-CLOSED, CLOSED);
+        }
+        (self.low[PAIRS - 1 - t], self.high[PAIRS - 1 - t])
+    }
+}
+
+/// The spans of one strip by total, half open: positions from which the strips above can be placed with at most that total.
+/// That of total v is in place PAIRS - 1 + v, behind empty ones.
+#[derive(Clone, Copy)]
+struct Spans {
+    from: [i16; PAIRS - 1 + TOTALS],
+    upto: [i16; PAIRS - 1 + TOTALS],
+}
+
+impl Spans {
+    fn at(&self, v: usize) -> (i16, i16) {
+        (self.from[PAIRS - 1 + v], self.upto[PAIRS - 1 + v])
+    }
+
+    fn set(&mut self, v: usize, span: (i16, i16)) {
+        (self.from[PAIRS - 1 + v], self.upto[PAIRS - 1 + v]) = span;
+    }
+
+    fn is_open(&self, v: usize) -> bool {
+        let (from, upto) = self.at(v);
+        from < upto
+    }
+
+    /// The nearest start and the furthest end of the spans for what separations below their count leave of total v, shifted back by the limits.
+    fn shifted_back(&self, limits: &Limits, v: usize) -> (i16, i16) {
+        let from: &[i16; PAIRS] = self.from[v..v + PAIRS].try_into().unwrap();
+        let upto: &[i16; PAIRS] = self.upto[v..v + PAIRS].try_into().unwrap();
+        let mut nearest = NOWHERE;
+        let mut furthest = -NOWHERE;
+        for place in 0..PAIRS {
+            nearest = nearest.min(from[place] - limits.high[place]);
+            furthest = furthest.max(upto[place] - limits.low[place]);
+        }
+        (nearest, furthest)
+    }
+}
+
+struct Solver {
+    k: usize,
+    lengths: [i16; STRIPS],
+    limits: [Limits; CHANNELS],
+    /// By strip: the sum of the counts of pairs of the channels above it.
+    most: [usize; STRIPS],
+    floor: usize,
+    windows: [i16; STRIPS],
+    spans: [Spans; STRIPS],
+}
+
+struct Placement {
+    total: usize,
+    separations: [usize; CHANNELS],
+    positions: [i16; STRIPS],
+}
+
+impl Solver {
+    fn new(stack: &Stack) -> Solver {
+        let none = Limits { low: [0; PAIRS], high: [0; PAIRS], least: 0, count: 0 };
+        let mut solver = Solver {
+            k: stack.k,
+            lengths: stack.lengths,
+            limits: [none; CHANNELS],
+            most: [0; STRIPS],
+            floor: 0,
+            windows: [0; STRIPS],
+            spans: [Spans { from: [NOWHERE; PAIRS - 1 + TOTALS], upto: [-NOWHERE; PAIRS - 1 + TOTALS] }; STRIPS],
+        };
+        for i in (0..stack.k).rev() {
+            let m = stack.counts[i];
+            solver.limits[i] = limits(&stack.lower[i][..m], &stack.upper[i][..m]);
+            solver.most[i] = solver.most[i + 1] + m;
+            solver.floor += solver.limits[i].least;
+        }
+        solver
+    }
+
+    fn longest(&self) -> i16 {
+        self.lengths.iter().copied().max().unwrap_or(0)
+    }
+
+    fn widest(&self) -> i16 {
+        self.lengths.iter().sum()
+    }
+
+    /// Writes the span of strip i for total v. Answers by how much it is short, NOWHERE if it is not or is far from open.
+    fn cell(&mut self, i: usize, v: usize) -> i16 {
+        let (own, above) = self.spans.split_at_mut(i + 1);
+        let (own, above) = (&mut own[i], &above[0]);
+        let limits = &self.limits[i];
+        let window = self.windows[i];
+        if v > self.most[i] {
+            // More than the channels above can use.
+            own.set(v, own.at(v - 1));
+            return NOWHERE;
+        }
+        if v >= limits.count && above.is_open(v - limits.count) {
+            own.set(v, (0, window));
+            return NOWHERE;
+        }
+        let (nearest, furthest) = above.shifted_back(limits, v);
+        let (from, upto) = (nearest.max(0), furthest.min(window));
+        if from < upto {
+            own.set(v, (from, upto));
+            return NOWHERE;
+        }
+        own.set(v, (NOWHERE, -NOWHERE));
+        if from <= REACH {
+            from + 1 - upto
+        } else {
+            NOWHERE
+        }
+    }
+
+    /// The first total that fits in a spread, and by how much the spread must grow before a smaller one may.
+    fn scan(&mut self, spread: i16) -> (usize, i16) {
+        for i in 0..=self.k {
+            self.windows[i] = spread + 1 - self.lengths[i];
+        }
+        let top = (0, self.windows[self.k]);
+        let mut jump = NOWHERE;
+        for v in 0..=self.most[0] {
+            let mut short = NOWHERE;
+            self.spans[self.k].set(v, top);
+            for i in (0..self.k).rev() {
+                short = short.min(self.cell(i, v));
+            }
+            if self.spans[0].is_open(v) {
+                return (v, jump);
+            }
+            jump = jump.min(short);
+        }
+        unreachable!("at the sum of the counts every position serves")
+    }
+
+    /// The placement for the total that a scan has found, by the tie rule.
+    fn place(&self, total: usize) -> Placement {
+        let k = self.k;
+        let mut placement = Placement { total, separations: [0; CHANNELS], positions: [0; STRIPS] };
+        let mut left = total;
+        let mut span = (0, self.windows[0]);
+        for i in 0..k - 1 {
+            let limits = &self.limits[i];
+            let mut t = limits.least;
+            loop {
+                let (low, high) = limits.at(t);
+                let (from, upto) = self.spans[i + 1].at(left - t);
+                if from.max(span.0 + low) < upto.min(span.1 + high) {
+                    span = ((span.0 + low).max(0), (span.1 + high).min(self.windows[i + 1]));
+                    break;
+                }
+                t += 1;
+            }
+            placement.separations[i] = t;
+            left -= t;
+        }
+        placement.separations[k - 1] = left;
+        let mut starts = [0; STRIPS];
+        for i in (0..k).rev() {
+            let (_, high) = self.limits[i].at(placement.separations[i]);
+            starts[i] = (starts[i + 1] - high).max(0);
+        }
+        placement.positions[0] = starts[0];
+        for i in 0..k {
+            let (low, _) = self.limits[i].at(placement.separations[i]);
+            placement.positions[i + 1] = (placement.positions[i] + low).max(starts[i + 1]);
+        }
+        placement
+    }
+}
+
+/// The total, eight separations and nine positions at a spread; zeros in unused places.
+pub fn answer(text: &[u8], spread: u32) -> Result<[u32; 18], Refusal> {
+    let stack = read(text)?;
+    let mut solver = Solver::new(&stack);
+    if spread < solver.longest() as u32 {
+        return Err((7, 0, 0));
+    }
+    // Leftmost placements never reach beyond the sum of the lengths.
+    let (total, _) = solver.scan(spread.min(solver.widest() as u32) as i16);
+    let placement = solver.place(total);
+    let mut answer = [0; 18];
+    answer[0] = placement.total as u32;
+    for (place, t) in answer[1..9].iter_mut().zip(placement.separations) {
+        *place = t as u32;
+    }
+    for (place, x) in answer[9..].iter_mut().zip(placement.positions) {
+        *place = x as u32;
+    }
+    Ok(answer)
+}
+
+/// A line being written, no longer than a row can be.
+struct Line {
+    bytes: [u8; 96],
+    length: usize,
+}
+
+impl Line {
+    fn new(word: &[u8]) -> Line {
+        let mut line = Line { bytes: [0; 96], length: word.len() };
+        line.bytes[..word.len()].copy_from_slice(word);
+        line
+    }
+
+    /// A tab and a number below 10,000.
+    fn number(&mut self, value: u32) {
+        let digits = [value / 1000, value / 100 % 10, value / 10 % 10, value % 10];
+        let skipped = (value < 10) as usize + (value < 100) as usize + (value < 1000) as usize;
+        self.byte(b'\t');
+        for digit in &digits[skipped..] {
+            self.byte(b'0' + *digit as u8);
+        }
+    }
+
+    fn byte(&mut self, byte: u8) {
+        self.bytes[self.length] = byte;
+        self.length += 1;
+    }
+
+    /// Ends the line and copies it to the output's place `at`; the end of it there.
+    fn end(mut self, out: &mut [u8], at: usize) -> Result<usize, Refusal> {
+        self.byte(b'\n');
+        let space = out.get_mut(at..at + self.length).ok_or((8, 0, 0))?;
+        space.copy_from_slice(&self.bytes[..self.length]);
+        Ok(at + self.length)
+    }
+}
+
+fn write_row(out: &mut [u8], at: usize, k: usize, spread: i16, placement: &Placement) -> Result<usize, Refusal> {
+    let mut line = Line::new(b"ROW");
+    line.number(spread as u32);
+    line.number(placement.total as u32);
+    for t in &placement.separations[..k] {
+        line.number(*t as u32);
+    }
+    for x in &placement.positions[..=k] {
+        line.number(*x as u32);
+    }
+    line.end(out, at)
+}
+
+fn write_table(text: &[u8], out: &mut [u8]) -> Result<usize, Refusal> {
+    let stack = read(text)?;
+    let mut solver = Solver::new(&stack);
+    let mut line = Line::new(b"TABLE");
+    line.number(stack.k as u32);
+    let mut at = line.end(out, 0)?;
+    let mut least = usize::MAX;
+    let mut spread = solver.longest();
+    let widest = solver.widest();
+    while spread <= widest && least > solver.floor {
+        let (total, jump) = solver.scan(spread);
+        if total < least {
+            least = total;
+            at = write_row(out, at, stack.k, spread, &solver.place(total))?;
+        }
+        spread += jump;
+    }
+    Ok(at)
+}
+
+/// Writes the table and zeros behind it, or only zeros; the table's length.
+pub fn table(text: &[u8], out: &mut [u8]) -> Result<usize, Refusal> {
+    let written = write_table(text, out);
+    out[written.unwrap_or(0)..].fill(0);
+    written
+}

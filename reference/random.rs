@@ -1,0 +1,91 @@
+//! Random stacks and their texts, each from a seed.
+
+use crate::channel::Pair;
+use crate::reader::Stack;
+
+/// SplitMix64.
+pub struct Random(pub u64);
+
+impl Random {
+    pub fn next(&mut self) -> u64 {
+        self.0 = self.0.wrapping_add(0x9e3779b97f4a7c15);
+        let mut z = self.0;
+        z = (z ^ (z >> 30)).wrapping_mul(0xbf58476d1ce4e5b9);
+        z = (z ^ (z >> 27)).wrapping_mul(0x94d049bb133111eb);
+        z ^ (z >> 31)
+    }
+
+    /// From 0 to below n.
+    pub fn below(&mut self, n: usize) -> usize {
+        (self.next() % n as u64) as usize
+    }
+
+    /// From a to b inclusive.
+    pub fn between(&mut self, a: i64, b: i64) -> i64 {
+        a + self.below((b - a + 1) as usize) as i64
+    }
+
+    pub fn chance(&mut self, one_in: usize) -> bool {
+        self.below(one_in) == 0
+    }
+
+    /// m rising terminals from 0 to length: anywhere, or bunched in a short part of the edge.
+    fn terminals(&mut self, m: usize, length: i64) -> Vec<i64> {
+        let tight = (m as i64 - 1 + self.between(0, 3)).clamp(m as i64 - 1, length);
+        let (from, upto) = match self.below(5) {
+            0 => (0, tight),
+            1 => (length - tight, length),
+            2 => {
+                let from = self.between(0, length - tight);
+                (from, from + tight)
+            }
+            _ => (0, length),
+        };
+        let mut left: Vec<i64> = (from..=upto).collect();
+        while left.len() > m {
+            left.remove(self.below(left.len()));
+        }
+        left
+    }
+
+    fn channel(&mut self, lower: i64, upper: i64, most: usize) -> Vec<Pair> {
+        let most = most.min(lower as usize + 1).min(upper as usize + 1);
+        let m = if self.chance(8) { 0 } else { self.between(0, most as i64) as usize };
+        if m == 0 {
+            return Vec::new();
+        }
+        let p = self.terminals(m, lower);
+        let q = self.terminals(m, upper);
+        p.into_iter().zip(q).collect()
+    }
+
+    /// A stack of k channels, strips up to a length, and up to so many pairs in each channel.
+    pub fn stack(&mut self, k: usize, longest: i64, pairs: usize) -> Stack {
+        let first = self.between(1, longest);
+        let style = self.below(6);
+        let length = |random: &mut Random| match style {
+            0 => first,
+            1 if random.chance(2) => 1,
+            2 => random.between((longest - 3).max(1), longest),
+            _ => random.between(1, longest),
+        };
+        let lengths: Vec<i64> = (0..=k).map(|_| length(self)).collect();
+        let channels = (0..k).map(|i| self.channel(lengths[i], lengths[i + 1], pairs)).collect();
+        Stack { lengths, channels }
+    }
+}
+
+pub fn text(stack: &Stack) -> Vec<u8> {
+    let mut text = format!("STACK\t{}\n", stack.channels.len());
+    for length in &stack.lengths {
+        text += &format!("PART\t{}\n", length);
+    }
+    for channel in &stack.channels {
+        text += "NETS";
+        for (p, q) in channel {
+            text += &format!("\t{}\t{}", p, q);
+        }
+        text += "\n";
+    }
+    text.into_bytes()
+}

@@ -1,0 +1,178 @@
+//! Damage done to a stack's text, one kind at a time.
+
+use crate::random::Random;
+
+pub const KINDS: [&str; 20] = [
+    "byte changed",
+    "byte dropped",
+    "byte doubled",
+    "byte 0, 13, 32 or 255",
+    "line moved",
+    "line dropped",
+    "line doubled",
+    "line from elsewhere",
+    "field emptied",
+    "field dropped",
+    "field doubled",
+    "number changed",
+    "length changed",
+    "terminal changed",
+    "leading zero",
+    "five digits",
+    "crowded",
+    "cut short",
+    "run on",
+    "about 8,192 bytes",
+];
+
+const BYTES: &[u8] = b"0123456789\t\n\r -+.,/:STACKPARTNETSstackROWTABLE\0\x0b\x7f\x80\xff";
+const ODD_BYTES: [u8; 4] = [0, 13, 32, 255];
+const NUMBERS: [&str; 14] = ["0", "1", "2", "8", "9", "10", "31", "32", "33", "99", "999", "1000", "1001", "9999"];
+const LINES: [&str; 8] = ["\n", "STACK\t1\n", "PART\t4\n", "PART\n", "NETS\n", "NETS\t0\t0\n", "GAP\t1\t1\n", "ROW\t4\t0\t0\t0\n"];
+
+fn lines(text: &[u8]) -> Vec<Vec<u8>> {
+    text.split_inclusive(|b| *b == 10).map(|l| l.to_vec()).collect()
+}
+
+/// The text with one field of one line that begins with the word changed; a field behind the word, where there is one.
+fn with_field(random: &mut Random, text: &[u8], word: &str, change: impl Fn(&mut Random, &mut Vec<Vec<u8>>, usize)) -> Vec<u8> {
+    let mut all = lines(text);
+    let such: Vec<usize> = (0..all.len()).filter(|i| all[*i].starts_with(word.as_bytes())).collect();
+    if such.is_empty() {
+        return text.to_vec();
+    }
+    let at = such[random.below(such.len())];
+    let ended = all[at].last() == Some(&10);
+    let bare = all[at].strip_suffix(b"\n").unwrap_or(&all[at]);
+    let mut fields: Vec<Vec<u8>> = bare.split(|b| *b == 9).map(|f| f.to_vec()).collect();
+    let field = if fields.len() > 1 && !random.chance(12) { 1 + random.below(fields.len() - 1) } else { 0 };
+    change(random, &mut fields, field);
+    all[at] = fields.join(&9);
+    if ended {
+        all[at].push(10);
+    }
+    all.concat()
+}
+
+/// A text whose length is near 8,192: behind an accepted one, or a long line, or one long field.
+fn near_limit(random: &mut Random, text: &[u8]) -> Vec<u8> {
+    let mut long = match random.below(4) {
+        0 => text.to_vec(),
+        1 => b"STACK\t1\nPART\t9\nPART\t9\nNETS".to_vec(),
+        2 => b"STACK\t".to_vec(),
+        _ => Vec::new(),
+    };
+    let length = match random.below(6) {
+        0 => 8191,
+        1 | 2 => 8192,
+        3 | 4 => 8193,
+        _ => 8180 + random.below(300),
+    };
+    let filling: &[u8] = [&b"\t0"[..], b"\n", b"1", b"\t1\t2", b"NETS\n", b"PART\t1\n", b"\0", b"\xff"][random.below(8)];
+    while long.len() < length {
+        long.extend(filling);
+    }
+    long.truncate(length);
+    if random.chance(2) {
+        long[length - 1] = 10;
+    }
+    long
+}
+
+/// The text with damage of one kind.
+pub fn done(random: &mut Random, text: &[u8], kind: usize) -> Vec<u8> {
+    if text.is_empty() {
+        return Vec::new();
+    }
+    let mut new = text.to_vec();
+    let mut all = lines(text);
+    let at = random.below(text.len());
+    let line = random.below(all.len());
+    match KINDS[kind] {
+        "byte changed" => new[at] = if random.chance(4) { random.below(256) as u8 } else { BYTES[random.below(BYTES.len())] },
+        "byte dropped" => {
+            new.remove(at);
+        }
+        "byte doubled" => new.insert(at, text[at]),
+        "byte 0, 13, 32 or 255" => {
+            let byte = ODD_BYTES[random.below(4)];
+            if random.chance(2) {
+                new[at] = byte;
+            } else {
+                // Before a tab or a line feed as often as anywhere.
+                let place = (at..text.len()).find(|i| text[*i] < 11).filter(|_| random.chance(2)).unwrap_or(at);
+                new.insert(place, byte);
+            }
+        }
+        "line moved" => {
+            let moved = all.remove(line);
+            let place = random.below(all.len() + 1);
+            all.insert(place, moved);
+            new = all.concat();
+        }
+        "line dropped" => {
+            all.remove(line);
+            new = all.concat();
+        }
+        "line doubled" => {
+            let again = all[line].clone();
+            all.insert(line, again);
+            new = all.concat();
+        }
+        "line from elsewhere" => {
+            let other = LINES[random.below(LINES.len())].as_bytes().to_vec();
+            if random.chance(2) {
+                all[line] = other;
+            } else {
+                all.insert(line, other);
+            }
+            new = all.concat();
+        }
+        "field emptied" => new = with_field(random, text, "", |_, fields, n| fields[n].clear()),
+        "field dropped" => {
+            new = with_field(random, text, "", |_, fields, n| {
+                fields.remove(n);
+            })
+        }
+        "field doubled" => new = with_field(random, text, "", |_, fields, n| fields.insert(n, fields[n].clone())),
+        "number changed" => {
+            new = with_field(random, text, "", |random, fields, n| fields[n] = NUMBERS[random.below(NUMBERS.len())].as_bytes().to_vec())
+        }
+        "length changed" => {
+            new = with_field(random, text, "PART", |random, fields, n| {
+                let value = [0, 1, 1000, 1001, random.below(10000)][random.below(5)];
+                fields[n] = value.to_string().into_bytes();
+            })
+        }
+        "terminal changed" => {
+            new = with_field(random, text, "NETS", |random, fields, n| {
+                // About the terminal before it on its edge, or after it, or any in the line.
+                let other = [n.saturating_sub(2), n + 2, random.below(fields.len())][random.below(3)];
+                let value = fields.get(other).and_then(|f| std::str::from_utf8(f).ok()).and_then(|f| f.parse::<i64>().ok()).unwrap_or(7);
+                fields[n] = (value + random.between(-1, 1)).max(0).to_string().into_bytes();
+            })
+        }
+        "leading zero" => new = with_field(random, text, "", |_, fields, n| fields[n].insert(0, b'0')),
+        "five digits" => {
+            new = with_field(random, text, "", |random, fields, n| {
+                let digits = 5 + random.below(3);
+                while fields[n].len() < digits {
+                    fields[n].push(b'0' + random.below(10) as u8);
+                }
+            })
+        }
+        "crowded" => {
+            // From 31 to 35 pairs in a line, rising or not.
+            let count = 2 * (31 + random.below(5)) - random.below(8) / 7;
+            let step = random.below(8).min(1);
+            let numbers: String = (0..count).map(|j| format!("\t{}", j / 2 * step)).collect();
+            let place = (line..all.len()).find(|i| all[*i].starts_with(b"NETS")).unwrap_or(line);
+            all[place] = format!("NETS{}\n", numbers).into_bytes();
+            new = all.concat();
+        }
+        "cut short" => new.truncate(if random.chance(3) { text.len() - 1 } else { at }),
+        "run on" => new.extend([&b"\n"[..], b"\t", b"0", b"NETS\n", b"\0", b"NETS\t0\t0\n"][random.below(6)]),
+        _ => new = near_limit(random, text),
+    }
+    new
+}
