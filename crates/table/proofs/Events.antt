@@ -5,7 +5,7 @@ use mathlib.Core.List.{List}
 use Prim.Native.Nat.{ℕ, zero, suc, _+_, _-_, _≤_, _<_}
 use native.Mathlib.Omega.{arith}
 use lib.ListN.{length, getD}
-use Rattle.stack.specs.Stack.{Stack, longest}
+use Rattle.stack.specs.Stack.{Stack, sum, longest}
 use Rattle.stack.specs.Limits.{within-limits}
 use Rattle.stack.specs.Value.{no-terminals, stack-of}
 use Rattle.stack.specs.declared.Stack.{Stack as Stack-struct}
@@ -75,9 +75,18 @@ pub held-counts : (k : Stack-struct) (lows highs : List (List ℕ)) (counts : Li
 held-counts k lows highs counts h =
     record {
       channels = few-channels k (h .good);
-      listed = λ i l. omega (arith, h .limits .counts-are i l, ap length (stack-channel k i l), channel-length (getD (k .channels) i no-terminals), few-pairs k (h .good) i l)
+      listed = λ i l. omega (arith, h .limits .counts-are i l, ap length (stack-channel k i l), channel-length (getD (k .channels) i no-terminals), few-pairs k (h .good) i l);
     }
 
 -- a spread up to the sum of the lengths is small
 pub spread-fits : (k : Stack) (s : ℕ) → within-limits k ≡ true → s ≡ longest (k .strips) → s < 4294967296
 spread-fits k s e h = omega (arith, longest-widest k, widest-small k e)
+
+-- the sum of the lengths as the code has it
+pub sum-widest : (k : Stack-struct) (w : ℕ) → w ≡ sum (stack-of k .strips) → widest (stack-of k) ≡ w
+unfolding widest
+sum-widest k w h = sym h
+
+pub inside-sum : (k : Stack-struct) (w : ℕ) → within-limits (stack-of k) ≡ true → w ≡ sum (stack-of k .strips) → w ≤ 9000
+unfolding widest
+inside-sum k w e h = omega (arith, widest-small (stack-of k) e)

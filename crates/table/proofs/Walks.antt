@@ -56,13 +56,13 @@ module _ (k : Stack) (good : within-limits k ≡ true) where
         written = both .1;
       }
 
-  -- the same with the longest strip's length as the code has it
-  pub begun-at : (s : ℕ) → s ≡ longest (k .strips) → (total jump head at : ℕ) (o₀ o₁ o₂ : List ℕ) → answer-total k s ≡ total → total ≤ 256 → 0 < jump →
+  -- the same with the count of channels and the longest strip's length as the code has them
+  pub begun-at : (n s : ℕ) → n ≡ length (k .channels) → s ≡ longest (k .strips) → (total jump head at : ℕ) (o₀ o₁ o₂ : List ℕ) → answer-total k s ≡ total → total ≤ 256 → 0 < jump →
       ((d : ℕ) → d < jump → s + d ≤ widest k → total ≤ answer-total k (s + d)) →
-      Line-put (table-text (length (k .channels)) []) o₀ o₁ head → Line-put-at head (row-text (row-at k s)) o₁ o₂ at →
+      Line-put (table-text n []) o₀ o₁ head → Line-put-at head (row-text (row-at k s)) o₁ o₂ at →
       Walking k o₂ (record { spread = s; total = total; jump = jump; at = at })
-  begun-at s e total jump head at o₀ o₁ o₂ t few j st h r =
-      rw e (begun total jump head at o₀ o₁ o₂ (longest-widest k) (rw e at t) few j (rw e at st) h (rw e at r))
+  begun-at n s c e total jump head at o₀ o₁ o₂ t few j st h r =
+      rw e (begun total jump head at o₀ o₁ o₂ (longest-widest k) (rw e at t) few j (rw e at st) (rw c at h) (rw e at r))
 
   module _ (o : List ℕ) (w : Walk) (c : Walking k o w) (next jump : ℕ) (more : 0 < jump) (jumped : next ≡ w .spread + w .jump) (inside : next ≤ widest k) where
     stays-below : (d : ℕ) → w .spread + d < next → w .total ≤ answer-total k (w .spread + d)

@@ -7,6 +7,7 @@ use Rattle.stack.specs.Stack.{Stack, longest}
 use Rattle.stack.specs.Value.{stack-of}
 use Rattle.stack.specs.declared.Stack.{Stack as Stack-struct}
 use Rattle.solver.specs.Arrays.{strips-held, Sized}
+use Rattle.solver.specs.Scan.{sums}
 use Rattle.answer.specs.Solve.{answer-total}
 use Rattle.rows.specs.Walk.{rows-walk, widest, rows-of}
 use Rattle.rows.specs.Evaluate.{Held}
@@ -34,10 +35,15 @@ pub record Holding (k : Stack-struct) (lows highs : List (List ℕ)) (counts upt
   pub sized-froms : Sized froms
   pub sized-ends : Sized ends
 
--- the next event lies within the sum of the lengths
-pub record Step-asks (k : Stack-struct) (w : Walk) (next : ℕ) (lows highs : List (List ℕ)) (counts uptos : List ℕ) (froms ends : List (List ℕ)) (out : List ℕ) : Type 0 where
+-- the walk with the arrays it is made in; no total is more than all pairs
+pub record Stepping (k : Stack-struct) (lows highs : List (List ℕ)) (counts uptos : List ℕ) (froms ends : List (List ℕ)) (out : List ℕ) (w : Walk) : Type 0 where
   pub holding : Holding k lows highs counts uptos froms ends
   pub walking : Walking (stack-of k) out w
+  pub capped : w .total ≤ sums counts 0 (k .count)
+
+-- the next event lies within the sum of the lengths
+pub record Step-asks (k : Stack-struct) (w : Walk) (next : ℕ) (lows highs : List (List ℕ)) (counts uptos : List ℕ) (froms ends : List (List ℕ)) (out : List ℕ) : Type 0 where
+  pub here : Stepping k lows highs counts uptos froms ends out w
   pub some : 0 < w .total
   pub jumped : next ≡ w .spread + w .jump
   pub inside : next ≤ widest (stack-of k)

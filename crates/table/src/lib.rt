@@ -8,7 +8,7 @@ ghost use Rattle.rows.specs.Evaluate.{Place-row-asks};
 ghost use Rattle.rows.specs.Walk.{row-at};
 ghost use Rattle.writing.specs.Output.{Line-put-at};
 ghost use Rattle.writing.specs.TableText.{row-text};
-ghost use Rattle.table.specs.Walking.{Walking, Step-asks, Holding, Table-put};
+ghost use Rattle.table.specs.Walking.{Step-asks, Holding, Stepping, Table-put};
 use answer::fill_limits;
 use rows::evaluate;
 use rows::place_row;
@@ -71,7 +71,7 @@ fn begin(
     out: &mut [u8],
 ) -> Walk
     requires { ⌜ Holding stack (now low) (now high) (now counts) (now upto) (now froms) (now uptos) ⌝ }
-    ensures { λ w. ⌜ Walking (stack-of stack) (now (out .exit)) w × Holding stack (now (low .entry)) (now (high .entry)) (now (counts .entry)) (now (upto .exit)) (now (froms .exit)) (now (uptos .exit)) ⌝ }
+    ensures { λ w. ⌜ Stepping stack (now (low .entry)) (now (high .entry)) (now (counts .entry)) (now (upto .exit)) (now (froms .exit)) (now (uptos .exit)) (now (out .exit)) w ⌝ }
 {
     let k = stack.count;
     let spread = stack.longest();
@@ -113,7 +113,7 @@ fn step(
     out: &mut [u8],
 ) -> Walk
     requires { ⌜ Step-asks stack w next (now low) (now high) (now counts) (now upto) (now froms) (now uptos) (now out) ⌝ }
-    ensures { λ r. ⌜ Walking (stack-of stack) (now (out .exit)) r × Holding stack (now (low .entry)) (now (high .entry)) (now (counts .entry)) (now (upto .exit)) (now (froms .exit)) (now (uptos .exit)) × (r .spread ≡ next) ⌝ }
+    ensures { λ r. ⌜ Stepping stack (now (low .entry)) (now (high .entry)) (now (counts .entry)) (now (upto .exit)) (now (froms .exit)) (now (uptos .exit)) (now (out .exit)) r × (r .spread ≡ next) ⌝ }
 {
     let cap = w.total - 1;
     let scan = evaluate(stack, next, cap, low, high, counts, upto, froms, uptos);
@@ -170,11 +170,12 @@ pub fn put_table(stack: Stack, out: &mut [u8]) -> usize
         out,
     );
     while 0 < w.total {
-        let next = w.spread as u64 + w.jump;
-        if widest < next {
+        let further = widest - w.spread as u64;
+        if further < w.jump {
             return w.at;
         }
-        let further = step(
+        let next = w.spread as u64 + w.jump;
+        let stepped = step(
             stack,
             w,
             next as u32,
@@ -186,7 +187,7 @@ pub fn put_table(stack: Stack, out: &mut [u8]) -> usize
             &mut uptos,
             out,
         );
-        w = further;
+        w = stepped;
     }
     w.at
 }

@@ -10,45 +10,34 @@ use Rattle.table.proofs.Walks.{begun-at}
 use borrow.Author.Needs.{needs}
 use Rattle.table.proofs.begin.Statement.{statement}
 use Rattle.table.proofs.begin.Tie as tie
-use Rattle.table.proofs.begin.Reads as reads
-use Rattle.table.proofs.begin.Lts as lts
-use Rattle.rows.proofs.evaluate.Reads as evaluate-reads
-use Rattle.solver.proofs.most_total.Reads as most-total-reads
-use Rattle.stack.proofs.Stack.longest.Reads as longest-reads
-use Rattle.table.proofs.put_placed.Reads as put-placed-reads
-use Rattle.writing.proofs.put_head.Reads as put-head-reads
 
--- src/lib.rt:77:9
 longest-requires : tie.Need-longest-requires
 longest-requires c κs = few-channels (c .before .args .stack) (c .before .pre .held .good)
 
--- src/lib.rt:78:9
 most-total-requires : tie.Need-most-total-requires
 most-total-requires c κs = held-counts (c .before .before .args .stack) _ _ _ (c .before .before .pre .held)
 
--- src/lib.rt:79:9
 evaluate-requires : tie.Need-evaluate-requires
 evaluate-requires c κs = search needs
 
--- src/lib.rt:80:9
 put-head-requires : tie.Need-put-head-requires
 put-head-requires c κs = omega (arith, few-channels (c .before .before .before .before .before .before .before .before .args .stack) (c .before .before .before .before .before .before .before .before .pre .held .good))
 
--- src/lib.rt:81:9
 put-placed-requires : tie.Need-put-placed-requires
 put-placed-requires c κs = (omega (arith, c .before .before .before .before .before .before .put-head .ensures .few), event-place-asks (c .before .before .before .before .before .before .before .before .before .before .before .before .before .before .before .args .stack) (c .before .before .before .before .before .before .before .before .before .before .before .before .before .longest .result) (c .before .before .before .before .before .before .before .before .before .before .before .before .most-total .result) _ _ _ _ _ _ (c .before .before .before .before .before .before .before .before .evaluate .result) (spread-fits (stack-of (c .before .before .before .before .before .before .before .before .before .before .before .before .before .before .before .args .stack)) (c .before .before .before .before .before .before .before .before .before .before .before .before .before .longest .result) (c .before .before .before .before .before .before .before .before .before .before .before .before .before .before .before .pre .held .good) (c .before .before .before .before .before .before .before .before .before .before .before .before .before .longest .ensures)) (omega (arith, c .before .before .before .before .before .before .before .before .before .before .before .before .before .longest .ensures)) (c .before .before .before .before .before .before .before .before .before .before .before .before .before .before .before .pre .held) (c .before .before .before .before .before .before .before .before .evaluate .ensures) (omega (arith, c .before .before .before .before .before .before .before .before .before .before .before .before .most-total .ensures)) (event-whole (c .before .before .before .before .before .before .before .before .before .before .before .before .before .before .before .args .stack) (c .before .before .before .before .before .before .before .before .before .before .before .before .before .longest .result) (c .before .before .before .before .before .before .before .before .before .before .before .before .most-total .result) _ _ _ _ _ _ (c .before .before .before .before .before .before .before .before .evaluate .result) (spread-fits (stack-of (c .before .before .before .before .before .before .before .before .before .before .before .before .before .before .before .args .stack)) (c .before .before .before .before .before .before .before .before .before .before .before .before .before .longest .result) (c .before .before .before .before .before .before .before .before .before .before .before .before .before .before .before .pre .held .good) (c .before .before .before .before .before .before .before .before .before .before .before .before .before .longest .ensures)) (omega (arith, c .before .before .before .before .before .before .before .before .before .before .before .before .before .longest .ensures)) (c .before .before .before .before .before .before .before .before .before .before .before .before .before .before .before .pre .held) (c .before .before .before .before .before .before .before .before .evaluate .ensures) (c .before .before .before .before .before .before .before .before .before .before .before .before .most-total .ensures)))
 
--- src/lib.rt:63:1
 same-length : tie.Need-same-length
 same-length c = search needs
 
--- src/lib.rt:63:1
 returns : tie.Need-returns
 returns c = let found = event-whole (c .before .before .before .before .before .before .before .before .before .before .before .before .before .before .before .before .before .before .args .stack) (c .before .before .before .before .before .before .before .before .before .before .before .before .before .before .before .before .longest .result) (c .before .before .before .before .before .before .before .before .before .before .before .before .before .before .before .most-total .result) _ _ _ _ _ _ (c .before .before .before .before .before .before .before .before .before .before .before .evaluate .result) (spread-fits (stack-of (c .before .before .before .before .before .before .before .before .before .before .before .before .before .before .before .before .before .before .args .stack)) (c .before .before .before .before .before .before .before .before .before .before .before .before .before .before .before .before .longest .result) (c .before .before .before .before .before .before .before .before .before .before .before .before .before .before .before .before .before .before .pre .held .good) (c .before .before .before .before .before .before .before .before .before .before .before .before .before .before .before .before .longest .ensures)) (omega (arith, c .before .before .before .before .before .before .before .before .before .before .before .before .before .before .before .before .longest .ensures)) (c .before .before .before .before .before .before .before .before .before .before .before .before .before .before .before .before .before .before .pre .held) (c .before .before .before .before .before .before .before .before .before .before .before .evaluate .ensures) (c .before .before .before .before .before .before .before .before .before .before .before .before .before .before .before .most-total .ensures) in
     let least = event-least (c .before .before .before .before .before .before .before .before .before .before .before .before .before .before .before .before .before .before .args .stack) (c .before .before .before .before .before .before .before .before .before .before .before .before .before .before .before .before .longest .result) (c .before .before .before .before .before .before .before .before .before .before .before .before .before .before .before .most-total .result) _ _ _ _ _ _ (c .before .before .before .before .before .before .before .before .before .before .before .evaluate .result) (spread-fits (stack-of (c .before .before .before .before .before .before .before .before .before .before .before .before .before .before .before .before .before .before .args .stack)) (c .before .before .before .before .before .before .before .before .before .before .before .before .before .before .before .before .longest .result) (c .before .before .before .before .before .before .before .before .before .before .before .before .before .before .before .before .before .before .pre .held .good) (c .before .before .before .before .before .before .before .before .before .before .before .before .before .before .before .before .longest .ensures)) (omega (arith, c .before .before .before .before .before .before .before .before .before .before .before .before .before .before .before .before .longest .ensures)) (c .before .before .before .before .before .before .before .before .before .before .before .before .before .before .before .before .before .before .pre .held) (c .before .before .before .before .before .before .before .before .before .before .before .evaluate .ensures) (omega (arith, c .before .before .before .before .before .before .before .before .before .before .before .before .before .before .before .most-total .ensures)) found in
-    (begun-at (stack-of (c .before .before .before .before .before .before .before .before .before .before .before .before .before .before .before .before .before .before .args .stack)) (c .before .before .before .before .before .before .before .before .before .before .before .before .before .before .before .before .before .before .pre .held .good) (c .before .before .before .before .before .before .before .before .before .before .before .before .before .before .before .before .longest .result) (c .before .before .before .before .before .before .before .before .before .before .before .before .before .before .before .before .longest .ensures) (c .before .before .before .before .before .before .before .before .before .before .before .evaluate .result .total) (c .before .before .before .before .before .before .before .before .before .before .before .evaluate .result .jump) (c .before .before .before .before .before .before .before .before .before .put-head .result) (c .before .before .put-placed .result) _ _ _
-    (sym least) (omega (arith, event-small (c .before .before .before .before .before .before .before .before .before .before .before .before .before .before .before .before .before .before .args .stack) (c .before .before .before .before .before .before .before .before .before .before .before .before .before .before .before .before .longest .result) (c .before .before .before .before .before .before .before .before .before .before .before .before .before .before .before .most-total .result) _ _ _ _ _ _ (c .before .before .before .before .before .before .before .before .before .before .before .evaluate .result) (spread-fits (stack-of (c .before .before .before .before .before .before .before .before .before .before .before .before .before .before .before .before .before .before .args .stack)) (c .before .before .before .before .before .before .before .before .before .before .before .before .before .before .before .before .longest .result) (c .before .before .before .before .before .before .before .before .before .before .before .before .before .before .before .before .before .before .pre .held .good) (c .before .before .before .before .before .before .before .before .before .before .before .before .before .before .before .before .longest .ensures)) (omega (arith, c .before .before .before .before .before .before .before .before .before .before .before .before .before .before .before .before .longest .ensures)) (c .before .before .before .before .before .before .before .before .before .before .before .before .before .before .before .before .before .before .pre .held) (c .before .before .before .before .before .before .before .before .before .before .before .evaluate .ensures) (omega (arith, c .before .before .before .before .before .before .before .before .before .before .before .before .before .before .before .most-total .ensures)))) (c .before .before .before .before .before .before .before .before .before .before .before .evaluate .ensures .scanned .jump-some) (event-stays (c .before .before .before .before .before .before .before .before .before .before .before .before .before .before .before .before .before .before .args .stack) (c .before .before .before .before .before .before .before .before .before .before .before .before .before .before .before .before .longest .result) (c .before .before .before .before .before .before .before .before .before .before .before .before .before .before .before .most-total .result) _ _ _ _ _ _ (c .before .before .before .before .before .before .before .before .before .before .before .evaluate .result) (spread-fits (stack-of (c .before .before .before .before .before .before .before .before .before .before .before .before .before .before .before .before .before .before .args .stack)) (c .before .before .before .before .before .before .before .before .before .before .before .before .before .before .before .before .longest .result) (c .before .before .before .before .before .before .before .before .before .before .before .before .before .before .before .before .before .before .pre .held .good) (c .before .before .before .before .before .before .before .before .before .before .before .before .before .before .before .before .longest .ensures)) (omega (arith, c .before .before .before .before .before .before .before .before .before .before .before .before .before .before .before .before .longest .ensures)) (c .before .before .before .before .before .before .before .before .before .before .before .before .before .before .before .before .before .before .pre .held) (c .before .before .before .before .before .before .before .before .before .before .before .evaluate .ensures) (sym least)) (rw (stack-channels (c .before .before .before .before .before .before .before .before .before .before .before .before .before .before .before .before .before .before .args .stack)) (c .before .before .before .before .before .before .before .before .before .put-head .ensures)) (c .before .before .put-placed .ensures),
-    holds-on (c .before .before .before .before .before .before .before .before .before .before .before .before .before .before .before .before .before .before .args .stack) (c .before .before .before .before .before .before .before .before .before .before .before .before .before .before .before .before .longest .result) (c .before .before .before .before .before .before .before .before .before .before .before .before .before .before .before .most-total .result) _ _ _ _ _ _ (c .before .before .before .before .before .before .before .before .before .before .before .evaluate .result) (spread-fits (stack-of (c .before .before .before .before .before .before .before .before .before .before .before .before .before .before .before .before .before .before .args .stack)) (c .before .before .before .before .before .before .before .before .before .before .before .before .before .before .before .before .longest .result) (c .before .before .before .before .before .before .before .before .before .before .before .before .before .before .before .before .before .before .pre .held .good) (c .before .before .before .before .before .before .before .before .before .before .before .before .before .before .before .before .longest .ensures)) (omega (arith, c .before .before .before .before .before .before .before .before .before .before .before .before .before .before .before .before .longest .ensures)) (c .before .before .before .before .before .before .before .before .before .before .before .before .before .before .before .before .before .before .pre .held) (c .before .before .before .before .before .before .before .before .before .before .before .evaluate .ensures))
+    record {
+      walking = begun-at (stack-of (c .before .before .before .before .before .before .before .before .before .before .before .before .before .before .before .before .before .before .args .stack)) (c .before .before .before .before .before .before .before .before .before .before .before .before .before .before .before .before .before .before .pre .held .good) (c .before .before .before .before .before .before .before .before .before .before .before .before .before .before .before .before .before .before .args .stack .count) (c .before .before .before .before .before .before .before .before .before .before .before .before .before .before .before .before .longest .result) (sym (stack-channels (c .before .before .before .before .before .before .before .before .before .before .before .before .before .before .before .before .before .before .args .stack))) (c .before .before .before .before .before .before .before .before .before .before .before .before .before .before .before .before .longest .ensures) (c .before .before .before .before .before .before .before .before .before .before .before .evaluate .result .total) (c .before .before .before .before .before .before .before .before .before .before .before .evaluate .result .jump) (c .before .before .before .before .before .before .before .before .before .put-head .result) (c .before .before .put-placed .result) _ _ _
+          (sym least) (omega (arith, event-small (c .before .before .before .before .before .before .before .before .before .before .before .before .before .before .before .before .before .before .args .stack) (c .before .before .before .before .before .before .before .before .before .before .before .before .before .before .before .before .longest .result) (c .before .before .before .before .before .before .before .before .before .before .before .before .before .before .before .most-total .result) _ _ _ _ _ _ (c .before .before .before .before .before .before .before .before .before .before .before .evaluate .result) (spread-fits (stack-of (c .before .before .before .before .before .before .before .before .before .before .before .before .before .before .before .before .before .before .args .stack)) (c .before .before .before .before .before .before .before .before .before .before .before .before .before .before .before .before .longest .result) (c .before .before .before .before .before .before .before .before .before .before .before .before .before .before .before .before .before .before .pre .held .good) (c .before .before .before .before .before .before .before .before .before .before .before .before .before .before .before .before .longest .ensures)) (omega (arith, c .before .before .before .before .before .before .before .before .before .before .before .before .before .before .before .before .longest .ensures)) (c .before .before .before .before .before .before .before .before .before .before .before .before .before .before .before .before .before .before .pre .held) (c .before .before .before .before .before .before .before .before .before .before .before .evaluate .ensures) (omega (arith, c .before .before .before .before .before .before .before .before .before .before .before .before .before .before .before .most-total .ensures)))) (c .before .before .before .before .before .before .before .before .before .before .before .evaluate .ensures .scanned .jump-some) (event-stays (c .before .before .before .before .before .before .before .before .before .before .before .before .before .before .before .before .before .before .args .stack) (c .before .before .before .before .before .before .before .before .before .before .before .before .before .before .before .before .longest .result) (c .before .before .before .before .before .before .before .before .before .before .before .before .before .before .before .most-total .result) _ _ _ _ _ _ (c .before .before .before .before .before .before .before .before .before .before .before .evaluate .result) (spread-fits (stack-of (c .before .before .before .before .before .before .before .before .before .before .before .before .before .before .before .before .before .before .args .stack)) (c .before .before .before .before .before .before .before .before .before .before .before .before .before .before .before .before .longest .result) (c .before .before .before .before .before .before .before .before .before .before .before .before .before .before .before .before .before .before .pre .held .good) (c .before .before .before .before .before .before .before .before .before .before .before .before .before .before .before .before .longest .ensures)) (omega (arith, c .before .before .before .before .before .before .before .before .before .before .before .before .before .before .before .before .longest .ensures)) (c .before .before .before .before .before .before .before .before .before .before .before .before .before .before .before .before .before .before .pre .held) (c .before .before .before .before .before .before .before .before .before .before .before .evaluate .ensures) (sym least)) (c .before .before .before .before .before .before .before .before .before .put-head .ensures) (c .before .before .put-placed .ensures);
+      holding = holds-on (c .before .before .before .before .before .before .before .before .before .before .before .before .before .before .before .before .before .before .args .stack) (c .before .before .before .before .before .before .before .before .before .before .before .before .before .before .before .before .longest .result) (c .before .before .before .before .before .before .before .before .before .before .before .before .before .before .before .most-total .result) _ _ _ _ _ _ (c .before .before .before .before .before .before .before .before .before .before .before .evaluate .result) (spread-fits (stack-of (c .before .before .before .before .before .before .before .before .before .before .before .before .before .before .before .before .before .before .args .stack)) (c .before .before .before .before .before .before .before .before .before .before .before .before .before .before .before .before .longest .result) (c .before .before .before .before .before .before .before .before .before .before .before .before .before .before .before .before .before .before .pre .held .good) (c .before .before .before .before .before .before .before .before .before .before .before .before .before .before .before .before .longest .ensures)) (omega (arith, c .before .before .before .before .before .before .before .before .before .before .before .before .before .before .before .before .longest .ensures)) (c .before .before .before .before .before .before .before .before .before .before .before .before .before .before .before .before .before .before .pre .held) (c .before .before .before .before .before .before .before .before .before .before .before .evaluate .ensures);
+      capped = omega (arith, found, c .before .before .before .before .before .before .before .before .before .before .before .before .before .before .before .most-total .ensures);
+    }
 
 pub begin-spec : {M : Type 1} → statement M
 begin-spec =

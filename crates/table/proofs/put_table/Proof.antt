@@ -1,73 +1,74 @@
+-- put_table meets its contract: the walk from event to event up to the sum of the lengths. Assumes nothing.
+use mathlib.Core.Path.{_≡_, _∙_}
+use Rattle.table.proofs.Events.{inside-sum, sum-widest}
+use Rattle.solver.proofs.Placing.{sized-zeros}
+use lib.ListN.{length}
+use mathlib.Core.Path.{refl}
+use Prim.Native.Nat.{_-_}
+use native.Mathlib.Omega.{arith}
+use Rattle.stack.specs.Value.{stack-of}
+use Rattle.stack.proofs.Within.{few-channels}
+use Rattle.rows.proofs.Settled.{widest-small}
+use Rattle.answer.proofs.Standing.{limits-start}
+use Rattle.table.specs.Walking.{Stepping}
+use Rattle.table.proofs.Walks.{ended-past, ended-zero}
+use borrow.Author.Needs.{needs}
 use Rattle.table.proofs.put_table.Statement.{statement}
 use Rattle.table.proofs.put_table.Tie as tie
-use Rattle.table.proofs.put_table.Reads as reads
-use Rattle.table.proofs.put_table.Lts as lts
-use Rattle.answer.proofs.fill_limits.Reads as fill-limits-reads
-use Rattle.stack.proofs.Stack.lengths_sum.Reads as lengths-sum-reads
-use Rattle.table.proofs.begin.Reads as begin-reads
-use Rattle.table.proofs.step.Reads as step-reads
 
 abbrev Inv-loop : tie.InvT-loop
-Inv-loop stack out₀ low high counts upto₀ froms₀ uptos₀ widest w₀ out upto froms uptos w = ?
+Inv-loop stack out₀ low high counts upto₀ froms₀ uptos₀ widest w₀ out upto froms uptos w = Stepping stack low high counts upto froms uptos out w × (length out ≡ length out₀)
 
 abbrev μ-loop : tie.MeasureT-loop
-μ-loop stack out₀ low high counts upto₀ froms₀ uptos₀ widest w₀ out upto froms uptos w = ?
+μ-loop stack out₀ low high counts upto₀ froms₀ uptos₀ widest w₀ out upto froms uptos w = widest - w .spread
 
--- src/lib.rt:157:5
 fill-limits-requires : tie.Need-fill-limits-requires Inv-loop μ-loop
-fill-limits-requires c κs = ?
+fill-limits-requires c κs = (c .before .before .before .before .pre, limits-start (stack-of (c .before .before .before .before .args .stack)) _ _ _ refl refl refl)
 
--- src/lib.rt:161:9
 lengths-sum-requires : tie.Need-lengths-sum-requires Inv-loop μ-loop
-lengths-sum-requires c κs = ?
+lengths-sum-requires c κs = few-channels (c .before .before .before .before .before .args .stack) (c .before .before .before .before .before .pre)
 
--- src/lib.rt:162:9
 begin-requires : tie.Need-begin-requires Inv-loop μ-loop
-begin-requires c κs = ?
+begin-requires c κs = record { held = record { good = c .before .before .before .before .before .before .before .before .before .before .before .before .before .pre; limits = c .before .before .before .before .before .before .before .before .fill-limits .ensures }; sized-windows = refl; sized-froms = sized-zeros; sized-ends = sized-zeros }
 
--- src/lib.rt:172:5
 loop-holds : tie.Need-loop-holds Inv-loop μ-loop
-loop-holds c = ?
+loop-holds c = (c .before .before .begin .ensures, search needs)
 
--- src/lib.rt:173:20
-cast-next : tie.Need-cast-next Inv-loop μ-loop
-cast-next c = ?
+cast-further : tie.Need-cast-further Inv-loop μ-loop
+cast-further c = search needs
 
--- src/lib.rt:173:20
-add-next : tie.Need-add-next Inv-loop μ-loop
-add-next c = ?
+sub-further : tie.Need-sub-further Inv-loop μ-loop
+sub-further c = omega (arith, c .before .before .before .loop .inv .0 .walking .upto, sum-widest (c .before .before .before .before .before .before .before .before .before .before .before .before .before .before .before .before .before .before .before .before .args .stack) (c .before .before .before .before .before .before .before .before .before .before .before .before .before .before .lengths-sum .result) (c .before .before .before .before .before .before .before .before .before .before .before .before .before .before .lengths-sum .ensures))
 
--- src/lib.rt:175:13
 same-length : tie.Need-same-length Inv-loop μ-loop
-same-length c = ?
+same-length c = c .before .before .before .before .before .loop .inv .1 ∙ search needs
 
--- src/lib.rt:175:13
 returns : tie.Need-returns Inv-loop μ-loop
-returns c = ?
+returns c = ended-past (stack-of (c .before .before .before .before .before .before .before .before .before .before .before .before .before .before .before .before .before .before .before .before .before .before .args .stack)) (c .before .before .before .before .before .before .before .before .before .before .before .before .before .before .before .before .before .before .before .before .before .before .pre) _ _ (c .before .before .before .before .before .loop .inv .0 .walking) (omega (arith, sum-widest (c .before .before .before .before .before .before .before .before .before .before .before .before .before .before .before .before .before .before .before .before .before .before .args .stack) (c .before .before .before .before .before .before .before .before .before .before .before .before .before .before .before .before .lengths-sum .result) (c .before .before .before .before .before .before .before .before .before .before .before .before .before .before .before .before .lengths-sum .ensures), c .if2))
 
--- src/lib.rt:180:13
+cast-next : tie.Need-cast-next Inv-loop μ-loop
+cast-next c = search needs
+
+add-next : tie.Need-add-next Inv-loop μ-loop
+add-next c = omega (arith, inside-sum (c .before .before .before .before .before .before .before .before .before .before .before .before .before .before .before .before .before .before .before .before .before .before .before .before .args .stack) (c .before .before .before .before .before .before .before .before .before .before .before .before .before .before .before .before .before .before .lengths-sum .result) (c .before .before .before .before .before .before .before .before .before .before .before .before .before .before .before .before .before .before .before .before .before .before .before .before .pre) (c .before .before .before .before .before .before .before .before .before .before .before .before .before .before .before .before .before .before .lengths-sum .ensures), c .before .before .if2)
+
 cast-step : tie.Need-cast-step Inv-loop μ-loop
-cast-step c = ?
+cast-step c = omega (arith, inside-sum (c .before .before .before .before .before .before .before .before .before .before .before .before .before .before .before .before .before .before .before .before .before .before .before .before .args .stack) (c .before .before .before .before .before .before .before .before .before .before .before .before .before .before .before .before .before .before .lengths-sum .result) (c .before .before .before .before .before .before .before .before .before .before .before .before .before .before .before .before .before .before .before .before .before .before .before .before .pre) (c .before .before .before .before .before .before .before .before .before .before .before .before .before .before .before .before .before .before .lengths-sum .ensures), c .before .before .if2)
 
--- src/lib.rt:177:13
 step-requires : tie.Need-step-requires Inv-loop μ-loop
-step-requires c κs = ?
+step-requires c κs = record { here = c .before .before .before .before .before .before .before .before .before .before .before .before .before .before .loop .inv .0; some = omega (arith, c .before .before .before .before .before .before .before .before .before .before .before .before .if1); jumped = refl; inside = omega (arith, sum-widest (c .before .before .before .before .before .before .before .before .before .before .before .before .before .before .before .before .before .before .before .before .before .before .before .before .before .before .before .before .before .before .before .args .stack) (c .before .before .before .before .before .before .before .before .before .before .before .before .before .before .before .before .before .before .before .before .before .before .before .before .before .lengths-sum .result) (c .before .before .before .before .before .before .before .before .before .before .before .before .before .before .before .before .before .before .before .before .before .before .before .before .before .lengths-sum .ensures), c .before .before .before .before .before .before .before .before .before .if2) }
 
--- src/lib.rt:172:5
 loop-less : tie.Need-loop-less Inv-loop μ-loop
-loop-less c = ?
+loop-less c = omega (arith, c .before .before .step .ensures .1, c .before .before .before .before .before .before .before .before .before .before .before .before .before .before .before .before .before .loop .inv .0 .walking .jump-some, c .before .before .before .before .before .before .before .before .before .before .before .before .if2)
 
--- src/lib.rt:172:5
 loop-again : tie.Need-loop-again Inv-loop μ-loop
-loop-again c = ?
+loop-again c = (c .before .before .step .ensures .0, search needs)
 
--- src/lib.rt:150:1
 same-length-2 : tie.Need-same-length-2 Inv-loop μ-loop
-same-length-2 c = ?
+same-length-2 c = c .before .before .loop .inv .1 ∙ search needs
 
--- src/lib.rt:150:1
 returns-2 : tie.Need-returns-2 Inv-loop μ-loop
-returns-2 c = ?
+returns-2 c = ended-zero (stack-of (c .before .before .before .before .before .before .before .before .before .before .before .before .before .before .before .before .before .before .before .args .stack)) (c .before .before .before .before .before .before .before .before .before .before .before .before .before .before .before .before .before .before .before .pre) _ _ (c .before .before .loop .inv .0 .walking) (omega (arith, c .if1))
 
 pub put-table-spec : {M : Type 1} → statement M
 put-table-spec =
@@ -79,10 +80,12 @@ put-table-spec =
     lengths-sum-requires
     begin-requires
     loop-holds
-    cast-next
-    add-next
+    cast-further
+    sub-further
     same-length
     returns
+    cast-next
+    add-next
     cast-step
     step-requires
     loop-less
