@@ -1,3 +1,6 @@
 -- The promises proved, and the laws of the entries.
 pub mod Promises
+pub mod Readings
 pub mod Spreads
+pub mod Tables
+pub mod Trials

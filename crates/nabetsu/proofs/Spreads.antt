@@ -22,7 +22,7 @@ use Rattle.text.specs.declared.Outcome.{Outcome}
 use Rattle.text.specs.declared.Refusal.the-variants.{Narrow}
 use Rattle.text.proofs.Within.{or-else-fine, accepted-within}
 use Rattle.text.proofs.Stages.{or-else-refused, or-else-next}
-use Rattle.text.proofs.Places.{refused-number, accepted-fine}
+use Rattle.text.proofs.Places.{accepted-fine}
 use Rattle.solver.specs.Arrays.{padded as solver-padded}
 use Rattle.solver.specs.declared.Placement.{Placement}
 use Rattle.answer.specs.Solve.{answer-total, answer-separations, answer-positions}
@@ -31,6 +31,7 @@ use Rattle.answer.proofs.Answers.{answer-there, answer-sum, legal-lengths}
 use Rattle.nabetsu.specs.Entry.{padded, tracks, columns, spread-refusal, placed-is, Answered, Spread-says}
 use Rattle.nabetsu.specs.Best.{Spread-best}
 use Rattle.nabetsu.specs.declared.SpreadAnswer.{SpreadAnswer}
+use Rattle.nabetsu.proofs.Readings.{refused-text, text-fine, stack-is}
 
 -- where nothing is refused for the spread, nothing is refused of the text
 spread-fine : (bs : List ℕ) (s : ℕ) → spread-refusal bs s .number ≡ 0 → text-refusal bs .number ≡ 0
@@ -44,30 +45,20 @@ answered-refused zero f k s r h p = absurd (h refl)
 answered-refused (suc n) f k s r h p = p
 
 module _ (bs : List ℕ) (s : ℕ) (g : Reading) (d : Stack-read bs g) where
-  refused-text : is-accepted (g .outcome) ≡ false → text-refusal bs .number ≡ 0 → ⊥
-  refused-text h e = refused-number (g .outcome) h (ap (λ (f : Refusal). f .number) (d .outcome) ∙ e)
-
   pub spread-refused : (r : SpreadAnswer) → is-accepted (g .outcome) ≡ false → r .outcome ≡ g .outcome → r .total .0 ≡ 0 → tracks (r .separations) ≡ replicate 8 0 → columns (r .positions) ≡ replicate 9 0 →
       Spread-says bs s r
   unfolding Spread-says spread-refusal placed-is padded
   spread-refused r h o t ss ps =
-      let e : or-else (text-refusal bs) (cond (ltb s (longest (stack-in bs .strips))) (refusal 7 0 0) (refusal 0 0 0)) ≡ text-refusal bs = or-else-refused (text-refusal bs) _ (refused-text h) in
-      rw e (answered-refused (text-refusal bs .number) (text-refusal bs) (stack-in bs) s r (refused-text h) (ap refusal-of o ∙ d .outcome, t, ss, ps))
+      let e : or-else (text-refusal bs) (cond (ltb s (longest (stack-in bs .strips))) (refusal 7 0 0) (refusal 0 0 0)) ≡ text-refusal bs = or-else-refused (text-refusal bs) _ (refused-text bs g d h) in
+      rw e (answered-refused (text-refusal bs .number) (text-refusal bs) (stack-in bs) s r (refused-text bs g d h) (ap refusal-of o ∙ d .outcome, t, ss, ps))
 
   module _ (a : is-accepted (g .outcome) ≡ true) where
-    text-fine : text-refusal bs ≡ fine
-    text-fine = sym (d .outcome) ∙ accepted-fine (g .outcome) a
-
-    stack-is : stack-of (g .stack) ≡ stack-in bs
-    unfolding fine refusal
-    stack-is = d .stack (ap (λ (f : Refusal). f .number) text-fine)
-
     pub spread-narrow : (r : SpreadAnswer) → s < longest (stack-of (g .stack) .strips) → r .outcome ≡ refused Narrow 0 0 → r .total .0 ≡ 0 → tracks (r .separations) ≡ replicate 8 0 → columns (r .positions) ≡ replicate 9 0 →
         Spread-says bs s r
     unfolding Spread-says spread-refusal placed-is padded Answered refusal
     spread-narrow r h o t ss ps =
-        let l : s < longest (stack-in bs .strips) = rw stack-is at h in
-        let e : or-else (text-refusal bs) (cond (ltb s (longest (stack-in bs .strips))) (refusal 7 0 0) (refusal 0 0 0)) ≡ refusal 7 0 0 = or-else-next (text-refusal bs) _ text-fine ∙ rw (lt-ltb s (longest (stack-in bs .strips)) l) in
+        let l : s < longest (stack-in bs .strips) = rw (stack-is bs g d a) at h in
+        let e : or-else (text-refusal bs) (cond (ltb s (longest (stack-in bs .strips))) (refusal 7 0 0) (refusal 0 0 0)) ≡ refusal 7 0 0 = or-else-next (text-refusal bs) _ (text-fine bs g d a) ∙ rw (lt-ltb s (longest (stack-in bs .strips)) l) in
         rw e (ap refusal-of o, t, ss, ps)
 
     pub spread-answered : (r : SpreadAnswer) (p : Placement) → longest (stack-of (g .stack) .strips) ≤ s → Answer-is (stack-of (g .stack)) s p → r .outcome ≡ g .outcome → r .total ≡ p .total → r .separations ≡ p .separations →
@@ -75,9 +66,9 @@ module _ (bs : List ℕ) (s : ℕ) (g : Reading) (d : Stack-read bs g) where
     unfolding Spread-says spread-refusal placed-is padded solver-padded Answered refusal fine
     spread-answered r p h i o t ss ps =
         let k = stack-of (g .stack) in
-        let l : longest (stack-in bs .strips) ≤ s = rw stack-is at h in
-        let e : or-else (text-refusal bs) (cond (ltb s (longest (stack-in bs .strips))) (refusal 7 0 0) (refusal 0 0 0)) ≡ refusal 0 0 0 = or-else-next (text-refusal bs) _ text-fine ∙ rw (le-ltb s (longest (stack-in bs .strips)) l) in
-        rw (e, ← stack-is) (
+        let l : longest (stack-in bs .strips) ≤ s = rw (stack-is bs g d a) at h in
+        let e : or-else (text-refusal bs) (cond (ltb s (longest (stack-in bs .strips))) (refusal 7 0 0) (refusal 0 0 0)) ≡ refusal 0 0 0 = or-else-next (text-refusal bs) _ (text-fine bs g d a) ∙ rw (le-ltb s (longest (stack-in bs .strips)) l) in
+        rw (e, ← stack-is bs g d a) (
           answer-separations k s,
           answer-positions k s,
           answer-there k s (d .within) h,

@@ -1,17 +1,21 @@
 -- TRUSTED. What the entries answer and leave behind. Document 01, "Choosing among equals", "Lines and tabs" and "Sent back at the counter".
 -- Assumes nothing: these are definitions.
 use mathlib.Core.Path.{_≡_}
-use mathlib.Core.Bool.{cond}
+use mathlib.Core.Bool.{Bool, true, false, cond, _&&_}
 use mathlib.Core.List.{List, [], _++_, map}
 use Prim.Native.Nat.{ℕ, zero, suc, _-_}
-use lib.Dec.{ltb}
+use lib.Dec.{ltb, leb, eqb}
 use lib.ListN.{length, replicate}
-use Rattle.stack.specs.Stack.{Stack, Answer, sum, longest}
+use Rattle.stack.specs.Stack.{Stack, Answer, Row, Rows-are, sum, longest}
 use Rattle.stack.specs.declared.Tracks.{Tracks}
 use Rattle.stack.specs.declared.Columns.{Columns}
 use Rattle.text.specs.Text.{Refusal, refusal, or-else, text-refusal, stack-in}
 use Rattle.text.specs.Outcome.{refusal-of}
+use Rattle.writing.specs.TableText.{table-text}
+use Rattle.trial.specs.Legal.{is-legal}
 use Rattle.nabetsu.specs.declared.SpreadAnswer.{SpreadAnswer}
+use Rattle.nabetsu.specs.declared.TableAnswer.{TableAnswer}
+use Rattle.nabetsu.specs.declared.TrialAnswer.{TrialAnswer}
 
 -- zeros in unused places
 unfoldable pub padded : (n : ℕ) → List ℕ → List ℕ
@@ -39,3 +43,26 @@ Answered (suc n) f k s r = placed-is f 0 [] [] r
 
 unfoldable pub Spread-says : List ℕ → (s : ℕ) → SpreadAnswer → Type 0
 Spread-says bs s r = Answered (spread-refusal bs s .number) (spread-refusal bs s) (stack-in bs) s r
+
+-- THE TABLE: its whole text and zeros behind it; or 1 to 6, then 8, with zeros everywhere
+unfoldable pub zeros : List ℕ → List ℕ
+zeros o = replicate (length o) 0
+
+unfoldable pub table-told : Refusal → (written : ℕ) → TableAnswer → Type 0
+table-told f w r = (refusal-of (r .outcome) ≡ f) × (r .written ≡ w)
+
+unfoldable pub Fits : (fits : Bool) → (text : List ℕ) → TableAnswer → (o o-now : List ℕ) → Type 0
+Fits true t r o x = table-told (refusal 0 0 0) (length t) r × (x ≡ t ++ replicate (length o - length t) 0)
+Fits false t r o x = table-told (refusal 8 0 0) 0 r × (x ≡ zeros o)
+
+unfoldable pub Tabled : (number : ℕ) → Refusal → Stack → TableAnswer → (o o-now : List ℕ) → Type 0
+Tabled zero f k r o x =
+    (rs : List Row) × Rows-are k rs × Fits (leb (length (table-text (length (k .channels)) rs)) (length o)) (table-text (length (k .channels)) rs) r o x
+Tabled (suc n) f k r o x = table-told f 0 r × (x ≡ zeros o)
+
+unfoldable pub Table-says : List ℕ → TableAnswer → (o o-now : List ℕ) → Type 0
+Table-says bs r o x = Tabled (text-refusal bs .number) (text-refusal bs) (stack-in bs) r o x
+
+-- THE TRIAL: 1 to 6, else the verdict
+unfoldable pub Trial-says : List ℕ → (s : ℕ) → (ts xs : List ℕ) → TrialAnswer → Type 0
+Trial-says bs s ts xs r = (refusal-of (r .outcome) ≡ text-refusal bs) × (r .legal ≡ (eqb (text-refusal bs .number) 0 && is-legal (stack-in bs) s ts xs))

@@ -1,14 +1,17 @@
-// The public entries: a text and a spread yield their answer.
-ghost use Rattle.nabetsu.specs.Entry.{Spread-says};
+// The public entries: the table of a text, the answer for one spread, the verdict on a placement. Each answers whatever comes in, or refuses.
+ghost use Rattle.nabetsu.specs.Entry.{Spread-says, Table-says, Trial-says, tracks, columns};
 ghost use Rattle.nabetsu.specs.Best.{Spread-best};
 ghost use Rattle.nabetsu.specs.Parts.{Refused-answer};
 use answer::answer;
 use stack::Columns;
 use stack::Stack;
 use stack::Tracks;
+use table::put_table;
 use text::Outcome;
 use text::Refusal;
 use text::read_stack;
+use trial::is_placement_legal;
+use writing::clear_from;
 
 // The answer for one spread: total, separations and positions with zeros in unused places; a refused answer has zeros in all of them.
 pub struct SpreadAnswer {
@@ -54,4 +57,63 @@ pub fn answer_spread(text: &[u8], spread: u32) -> SpreadAnswer
         separations,
         positions,
     }
+}
+
+// How many bytes the table has that was written; none where it is refused.
+pub struct TableAnswer {
+    pub outcome: Outcome,
+    pub written: usize,
+}
+
+// Document 01, "Sent back at the counter": the table of the stack in a text with zeros behind it, or the first refusal that applies, 1 to 6, then 8, and
+// zeros in the whole output.
+pub fn write_table(text: &[u8], output: &mut [u8]) -> TableAnswer
+    ensures { λ r. ⌜ Table-says (now (text .entry)) r (now (output .entry)) (now (output .exit)) ⌝ }
+{
+    let reading = read_stack(text);
+    let outcome = reading.outcome;
+    if !outcome.is_accepted() {
+        clear_from(output, 0);
+        return TableAnswer {
+            outcome,
+            written: 0,
+        };
+    }
+    let written = put_table(reading.stack, output);
+    if output.len() < written {
+        clear_from(output, 0);
+        return TableAnswer {
+            outcome: Outcome::refused(Refusal::ShortSpace, 0, 0),
+            written: 0,
+        };
+    }
+    clear_from(output, written);
+    TableAnswer { outcome, written }
+}
+
+// The verdict on a placement; false where the text is refused.
+pub struct TrialAnswer {
+    pub outcome: Outcome,
+    pub legal: bool,
+}
+
+// Whether a placement of the stack in a text is legal in a spread, or the first refusal that applies, 1 to 6.
+pub fn try_placement(
+    text: &[u8],
+    spread: u32,
+    separations: [Tracks; Stack::MAX_CHANNELS],
+    positions: [Columns; Stack::MAX_CHANNELS + 1],
+) -> TrialAnswer
+    ensures { λ r. ⌜ Trial-says (now (text .entry)) spread (tracks separations) (columns positions) r ⌝ }
+{
+    let reading = read_stack(text);
+    let outcome = reading.outcome;
+    if !outcome.is_accepted() {
+        return TrialAnswer {
+            outcome,
+            legal: false,
+        };
+    }
+    let legal = is_placement_legal(reading.stack, spread, separations, positions);
+    TrialAnswer { outcome, legal }
 }
