@@ -4,3 +4,4 @@ pub mod Readings
 pub mod Spreads
 pub mod Tables
 pub mod Trials
+pub mod Codes

@@ -3,7 +3,7 @@
 use mathlib.Core.Path.{_≡_}
 use mathlib.Core.Bool.{Bool, true, false, cond, _&&_}
 use mathlib.Core.List.{List, [], _++_, map}
-use Prim.Native.Nat.{ℕ, zero, suc, _-_}
+use Prim.Native.Nat.{ℕ, zero, suc, _+_, _*_, _-_}
 use lib.Dec.{ltb, leb, eqb}
 use lib.ListN.{length, replicate}
 use Rattle.stack.specs.Stack.{Stack, Answer, Row, Rows-are, sum, longest}
@@ -66,3 +66,12 @@ Table-says bs r o x = Tabled (text-refusal bs .number) (text-refusal bs) (stack-
 -- THE TRIAL: 1 to 6, else the verdict
 unfoldable pub Trial-says : List ℕ → (s : ℕ) → (ts xs : List ℕ) → TrialAnswer → Type 0
 Trial-says bs s ts xs r = (refusal-of (r .outcome) ≡ text-refusal bs) × (r .legal ≡ (eqb (text-refusal bs .number) 0 && is-legal (stack-in bs) s ts xs))
+
+-- ONE NUMBER for callers in other languages: the value where nothing is refused, else the refusal's number, line and field in places of 2^40, 2^20 and 1
+unfoldable pub code : Refusal → (value : ℕ) → ℕ
+code f v = cond (eqb (f .number) 0) v (f .number * 1099511627776 + f .line * 1048576 + f .field)
+
+pub record Table-coded (bs : List ℕ) (r : ℕ) (o o-now : List ℕ) : Type 0 where
+  pub answer : TableAnswer
+  pub says : Table-says bs answer o o-now
+  pub coded : r ≡ code (refusal-of (answer .outcome)) (answer .written)

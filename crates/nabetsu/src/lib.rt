@@ -1,5 +1,7 @@
 // The public entries: the table of a text, the answer for one spread, the verdict on a placement. Each answers whatever comes in, or refuses.
-ghost use Rattle.nabetsu.specs.Entry.{Spread-says, Table-says, Trial-says, tracks, columns};
+ghost use Rattle.nabetsu.specs.Entry.{Spread-says, Table-says, Trial-says, Table-coded, code, tracks, columns};
+ghost use Rattle.text.specs.Outcome.{refusal-of};
+ghost use mathlib.Core.Path.{_≡_};
 ghost use Rattle.nabetsu.specs.Best.{Spread-best};
 ghost use Rattle.nabetsu.specs.Parts.{Refused-answer};
 use answer::answer;
@@ -116,4 +118,28 @@ pub fn try_placement(
     }
     let legal = is_placement_legal(reading.stack, spread, separations, positions);
     TrialAnswer { outcome, legal }
+}
+
+// An outcome and a value in one number.
+fn code(outcome: Outcome, value: u64) -> u64
+    ensures { λ r. ⌜ r ≡ code (refusal-of outcome) value ⌝ }
+{
+    match outcome {
+        Outcome::Accepted => value,
+        Outcome::Refused(r) => {
+            let why = r.why;
+            let number = why.number() as u64;
+            number * 1099511627776 + r.line as u64 * 1048576 + r.field as u64
+        }
+    }
+}
+
+// write_table for callers in other languages: the table's bytes, or the refusal in one number.
+#[no_mangle]
+pub extern "C" fn nabetsu_write_table(text: &[u8], output: &mut [u8]) -> u64
+    ensures { λ r. ⌜ Table-coded (now (text .entry)) r (now (output .entry)) (now (output .exit)) ⌝ }
+{
+    let answer = write_table(text, output);
+    let outcome = answer.outcome;
+    code(outcome, answer.written as u64)
 }
