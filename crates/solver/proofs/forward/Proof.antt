@@ -1,3 +1,4 @@
+-- forward meets its contract: the window cut to the positions above a span. Assumes nothing.
 use mathlib.Core.Path.{ap₂}
 use Rattle.solver.specs.Spans.{span}
 use borrow.Author.Needs.{needs}

@@ -1,3 +1,4 @@
+-- least_open meets its contract: the least separation whose limit is open. Assumes nothing.
 use Prim.Native.Nat.{suc, _-_}
 use native.Mathlib.Omega.{arith}
 use borrow.Author.Tests.{le-leb, lt-leb}

@@ -1,3 +1,4 @@
+-- next meets its contract: the position of the strip above, as far left as can be. Assumes nothing.
 use native.Mathlib.Omega.{arith}
 use borrow.Author.Needs.{needs}
 use Rattle.solver.proofs.next.Statement.{statement}

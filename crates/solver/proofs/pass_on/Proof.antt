@@ -1,3 +1,4 @@
+-- pass_on meets its contract: the span of the strip above. Assumes nothing.
 use Prim.Native.Nat.{_≤_}
 use native.Mathlib.Omega.{arith}
 use borrow.Author.Needs.{needs}

@@ -1,3 +1,4 @@
+-- place_in meets its contract: the placement for a stated total. Assumes nothing.
 use mathlib.Core.Path.{refl}
 use Rattle.solver.proofs.Placing.{position-asks, placement-is}
 use borrow.Author.Needs.{needs}

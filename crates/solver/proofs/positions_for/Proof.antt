@@ -1,3 +1,4 @@
+-- positions_for meets its contract: the positions, bottom strip first. Assumes nothing.
 use Prim.Native.Nat.{_-_}
 use native.Mathlib.Omega.{arith}
 use Rattle.numbers.proofs.Lists.{map-set}

@@ -1,3 +1,4 @@
+-- pull_back meets its contract: the span of the strip below. Assumes nothing.
 use borrow.Author.Needs.{needs}
 use Rattle.solver.proofs.pull_back.Statement.{statement}
 use Rattle.solver.proofs.pull_back.Tie as tie

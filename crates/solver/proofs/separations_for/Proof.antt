@@ -1,3 +1,4 @@
+-- separations_for meets its contract: the separations, channel 1 first. Assumes nothing.
 use Prim.Native.Nat.{_-_}
 use native.Mathlib.Omega.{arith}
 use Rattle.numbers.proofs.Lists.{map-set}

@@ -1,3 +1,4 @@
+-- serving meets its contract: the least separation that serves with a total. Assumes nothing.
 use Prim.Native.Nat.{_-_, _≤_}
 use native.Mathlib.Omega.{arith}
 use Rattle.solver.specs.Spans.{span}

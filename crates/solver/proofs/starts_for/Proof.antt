@@ -1,3 +1,4 @@
+-- starts_for meets its contract: the first positions under the separations chosen. Assumes nothing.
 use mathlib.Core.Path.{refl}
 use Prim.Native.Nat.{_-_}
 use native.Mathlib.Omega.{arith}
