@@ -5,3 +5,5 @@ pub mod Spreads
 pub mod Tables
 pub mod Trials
 pub mod Codes
+pub mod Copies
+pub mod Numbers

@@ -2,10 +2,11 @@
 -- Assumes nothing: these are definitions.
 use mathlib.Core.Path.{_≡_}
 use mathlib.Core.Bool.{Bool, true, false, cond, _&&_}
-use mathlib.Core.List.{List, [], _++_, map}
+use mathlib.Core.List.{List, [], _∷_, _++_, map}
 use Prim.Native.Nat.{ℕ, zero, suc, _+_, _*_, _-_}
 use lib.Dec.{ltb, leb, eqb}
-use lib.ListN.{length, replicate}
+use lib.ListN.{length, getD, take, drop, replicate}
+use Rattle.numbers.specs.Lists.{tabulate}
 use Rattle.stack.specs.Stack.{Stack, Answer, Row, Rows-are, sum, longest}
 use Rattle.stack.specs.declared.Tracks.{Tracks}
 use Rattle.stack.specs.declared.Columns.{Columns}
@@ -75,3 +76,29 @@ pub record Table-coded (bs : List ℕ) (r : ℕ) (o o-now : List ℕ) : Type 0 w
   pub answer : TableAnswer
   pub says : Table-says bs answer o o-now
   pub coded : r ≡ code (refusal-of (answer .outcome)) (answer .written)
+
+-- THE EIGHTEEN NUMBERS of an answer: total, separations, positions; over so many places, zeros behind them
+unfoldable pub numbers : SpreadAnswer → List ℕ
+numbers a = a .total .0 ∷ (tracks (a .separations) ++ columns (a .positions))
+
+unfoldable pub numbers-in : (places : ℕ) → SpreadAnswer → List ℕ
+numbers-in n a = tabulate n 0 (λ i. getD (numbers a) i 0)
+
+-- an output of fewer than eighteen places is short space, after every other refusal
+unfoldable pub Numbers-put : (fits : Bool) → SpreadAnswer → (r : ℕ) → (o o-now : List ℕ) → Type 0
+Numbers-put true a r o x = (r ≡ code (refusal-of (a .outcome)) 0) × (x ≡ numbers-in (length o) a)
+Numbers-put false a r o x = (r ≡ code (or-else (refusal-of (a .outcome)) (refusal 8 0 0)) 0) × (x ≡ zeros o)
+
+pub record Spread-coded (bs : List ℕ) (s r : ℕ) (o o-now : List ℕ) : Type 0 where
+  pub answer : SpreadAnswer
+  pub says : Spread-says bs s answer
+  pub put : Numbers-put (leb 18 (length o)) answer r o o-now
+
+-- a verdict's number is document 03's: 1 legal, 2 not
+unfoldable pub verdict : Bool → ℕ
+verdict true = 1
+verdict false = 2
+
+-- a placement given as eight separations and nine positions; numbers that are not seventeen are no placement, and so not legal
+unfoldable pub is-legal-numbers : Stack → (s : ℕ) → List ℕ → Bool
+is-legal-numbers k s ns = eqb (length ns) 17 && is-legal k s (take 8 ns) (drop 8 ns)

@@ -1,9 +1,14 @@
 -- What the entries' parts answer. Assumes nothing: these are definitions.
 use mathlib.Core.Path.{_≡_}
-use lib.ListN.{replicate}
+use mathlib.Core.List.{List}
+use Prim.Native.Nat.{ℕ, _<_}
+use lib.ListN.{length, getD, replicate}
+use Rattle.text.specs.Text.{text-refusal, stack-in}
+use Rattle.text.specs.Outcome.{refusal-of}
 use Rattle.text.specs.declared.Outcome.{Outcome}
 use Rattle.nabetsu.specs.declared.SpreadAnswer.{SpreadAnswer}
-use Rattle.nabetsu.specs.Entry.{tracks, columns}
+use Rattle.nabetsu.specs.declared.TrialAnswer.{TrialAnswer}
+use Rattle.nabetsu.specs.Entry.{tracks, columns, is-legal-numbers}
 
 -- an outcome with zeros in every other place
 pub record Refused-answer (o : Outcome) (r : SpreadAnswer) : Type 0 where
@@ -11,3 +16,13 @@ pub record Refused-answer (o : Outcome) (r : SpreadAnswer) : Type 0 where
   pub total-zero : r .total .0 ≡ 0
   pub separations-zero : tracks (r .separations) ≡ replicate 8 0
   pub positions-zero : columns (r .positions) ≡ replicate 9 0
+
+-- the first i numbers are copied
+pub record Copied (from to : List ℕ) (i : ℕ) : Type 0 where
+  pub long : length to ≡ length from
+  pub same : (j : ℕ) → j < i → getD to j 0 ≡ getD from j 0
+
+-- the verdict on a placement given as numbers, beside the text's refusal
+pub record Numbers-tried (bs : List ℕ) (s : ℕ) (ns : List ℕ) (r : TrialAnswer) : Type 0 where
+  pub outcome-is : refusal-of (r .outcome) ≡ text-refusal bs
+  pub legal-is : text-refusal bs .number ≡ 0 → r .legal ≡ is-legal-numbers (stack-in bs) s ns

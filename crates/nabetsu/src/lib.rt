@@ -1,9 +1,12 @@
 // The public entries: the table of a text, the answer for one spread, the verdict on a placement. Each answers whatever comes in, or refuses.
-ghost use Rattle.nabetsu.specs.Entry.{Spread-says, Table-says, Trial-says, Table-coded, code, tracks, columns};
+ghost use Rattle.nabetsu.specs.Entry.{Spread-says, Table-says, Trial-says, Table-coded, Spread-coded, code, tracks, columns, numbers, numbers-in, verdict, is-legal-numbers};
+ghost use Rattle.text.specs.Text.{refusal, or-else, text-refusal, stack-in};
+ghost use lib.ListN.{length, getD, take, drop};
+ghost use mathlib.Core.List.{_∷_, _++_};
 ghost use Rattle.text.specs.Outcome.{refusal-of};
 ghost use mathlib.Core.Path.{_≡_};
 ghost use Rattle.nabetsu.specs.Best.{Spread-best};
-ghost use Rattle.nabetsu.specs.Parts.{Refused-answer};
+ghost use Rattle.nabetsu.specs.Parts.{Refused-answer, Numbers-tried};
 use answer::answer;
 use stack::Columns;
 use stack::Stack;
@@ -14,6 +17,9 @@ use text::Refusal;
 use text::read_stack;
 use trial::is_placement_legal;
 use writing::clear_from;
+
+// How many numbers an answer has: total, separations, positions.
+const NUMBERS: usize = 2 * Stack::MAX_CHANNELS + 2;
 
 // The answer for one spread: total, separations and positions with zeros in unused places; a refused answer has zeros in all of them.
 pub struct SpreadAnswer {
@@ -142,4 +148,126 @@ pub extern "C" fn nabetsu_write_table(text: &[u8], output: &mut [u8]) -> u64
     let answer = write_table(text, output);
     let outcome = answer.outcome;
     code(outcome, answer.written as u64)
+}
+
+// A refusal, or short space where nothing is refused.
+fn or_short(outcome: Outcome) -> Outcome
+    ensures { λ r. ⌜ refusal-of r ≡ or-else (refusal-of outcome) (refusal 8 0 0) ⌝ }
+{
+    match outcome {
+        Outcome::Accepted => Outcome::refused(Refusal::ShortSpace, 0, 0),
+        Outcome::Refused(r) => Outcome::Refused(r),
+    }
+}
+
+// Number i of an answer's eighteen: the total, the separations, the positions; zero behind them.
+fn number_at(
+    total: Tracks,
+    separations: [Tracks; Stack::MAX_CHANNELS],
+    positions: [Columns; Stack::MAX_CHANNELS + 1],
+    i: usize,
+) -> u32
+    ensures { λ r. ⌜ r ≡ getD (total .0 ∷ (tracks separations ++ columns positions)) i 0 ⌝ }
+{
+    if i == 0 {
+        return total.0;
+    }
+    if i <= Stack::MAX_CHANNELS {
+        return separations[i - 1].0;
+    }
+    if i < NUMBERS {
+        return positions[i - Stack::MAX_CHANNELS - 1].0;
+    }
+    0
+}
+
+// The numbers of an answer, and zeros behind them.
+fn put_numbers(answer: SpreadAnswer, output: &mut [u32])
+    ensures { λ r. ⌜ now (output .exit) ≡ numbers-in (length (now (output .entry))) answer ⌝ }
+{
+    let total = answer.total;
+    let separations = answer.separations;
+    let positions = answer.positions;
+    for i in 0..output.len() {
+        output[i] = number_at(total, separations, positions, i);
+    }
+}
+
+// answer_spread for callers in other languages: 0 with the total, eight separations and nine positions in the output and zeros behind them, or the refusal in
+// one number and zeros in the whole output. An output of fewer than eighteen numbers is short space.
+#[no_mangle]
+pub extern "C" fn nabetsu_answer_spread(text: &[u8], spread: u32, output: &mut [u32]) -> u64
+    ensures { λ r. ⌜ Spread-coded (now (text .entry)) spread r (now (output .entry)) (now (output .exit)) ⌝ }
+{
+    let answer = answer_spread(text, spread);
+    let outcome = answer.outcome;
+    if output.len() < NUMBERS {
+        let short = or_short(outcome);
+        put_numbers(refused_answer(short), output);
+        return code(short, 0);
+    }
+    put_numbers(answer, output);
+    code(outcome, 0)
+}
+
+// The separations of a placement's seventeen numbers.
+fn separations_in(placement: &[u32]) -> [Tracks; Stack::MAX_CHANNELS]
+    requires { ⌜ length (now placement) ≡ 17 ⌝ }
+    ensures { λ r. ⌜ tracks r ≡ take 8 (now (placement .entry)) ⌝ }
+{
+    let mut to = [Tracks(0); Stack::MAX_CHANNELS];
+    for i in 0..Stack::MAX_CHANNELS {
+        to[i] = Tracks(placement[i]);
+    }
+    to
+}
+
+// The positions of a placement's seventeen numbers.
+fn positions_in(placement: &[u32]) -> [Columns; Stack::MAX_CHANNELS + 1]
+    requires { ⌜ length (now placement) ≡ 17 ⌝ }
+    ensures { λ r. ⌜ columns r ≡ drop 8 (now (placement .entry)) ⌝ }
+{
+    let mut to = [Columns(0); Stack::MAX_CHANNELS + 1];
+    for i in 0..Stack::MAX_CHANNELS + 1 {
+        to[i] = Columns(placement[i + Stack::MAX_CHANNELS]);
+    }
+    to
+}
+
+// The verdict on a placement given as numbers; numbers that are not seventeen are no placement.
+fn try_numbers(text: &[u8], spread: u32, placement: &[u32]) -> TrialAnswer
+    ensures { λ r. ⌜ Numbers-tried (now (text .entry)) spread (now (placement .entry)) r ⌝ }
+{
+    if placement.len() != NUMBERS - 1 {
+        let reading = read_stack(text);
+        let outcome = reading.outcome;
+        return TrialAnswer {
+            outcome,
+            legal: false,
+        };
+    }
+    let separations = separations_in(placement);
+    let positions = positions_in(placement);
+    try_placement(text, spread, separations, positions)
+}
+
+// Document 03's number for a verdict.
+fn verdict(legal: bool) -> u64
+    ensures { λ r. ⌜ r ≡ verdict legal ⌝ }
+{
+    if legal {
+        return 1;
+    }
+    2
+}
+
+// try_placement for callers in other languages, of eight separations and nine positions: 1 for a legal placement, 2 for another, or the refusal in one number.
+#[no_mangle]
+pub extern "C" fn nabetsu_try_placement(text: &[u8], spread: u32, placement: &[u32]) -> u64
+    ensures { λ r. ⌜ r ≡ code (text-refusal (now (text .entry))) (verdict (is-legal-numbers (stack-in (now (text .entry))) spread (now (placement .entry)))) ⌝ }
+{
+    let answer = try_numbers(text, spread, placement);
+    let outcome = answer.outcome;
+    let legal = answer.legal;
+    code(outcome, verdict(legal))
 }

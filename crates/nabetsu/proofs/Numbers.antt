@@ -1,0 +1,132 @@
+-- The eighteen numbers of an answer place by place, and the laws of the entries for callers in other languages. Assumes nothing.
+use mathlib.Core.Path.{_≡_, refl, sym, ap, _∙_}
+use mathlib.Core.Bool.{Bool, true, false, cond, _&&_}
+use mathlib.Core.List.{List, [], _∷_, _++_}
+use Prim.Native.Nat.{ℕ, zero, suc, _+_, _*_, _-_, _≤_, _<_}
+use native.Mathlib.Omega.{arith}
+use lib.Dec.{leb, eqb}
+use lib.ListN.{length, getD, set, take, drop, replicate, length-append}
+use lib.Seq.{getD-append-add}
+use borrow.Author.Tests.{eqb-true, le-leb, lt-leb, ne-eqb, eq-eqb}
+use Rattle.numbers.specs.Lists.{tabulate}
+use Rattle.numbers.proofs.Lists.{length-tabulate, getD-tabulate, tabulate-same, tabulate-constant}
+use Rattle.stack.specs.declared.Tracks.{Tracks}
+use Rattle.stack.specs.declared.Columns.{Columns}
+use Rattle.trial.proofs.Trying.{track-at, column-at, tracks-long, columns-long}
+use Rattle.text.specs.Text.{Refusal, refusal, fine, or-else, text-refusal, stack-in}
+use Rattle.text.specs.Outcome.{refusal-of, refused}
+use Rattle.text.specs.Driver.{Stack-read}
+use Rattle.text.specs.declared.Reading.{Reading}
+use Rattle.text.specs.declared.Refused.{Refused as Refused-struct}
+use Rattle.text.specs.declared.Outcome.{Outcome}
+use Rattle.text.specs.declared.Outcome.the-variants.{Accepted, Refused}
+use Rattle.text.specs.declared.Refusal.the-variants.{ShortSpace}
+use Rattle.text.proofs.Places.{refused-number}
+use Rattle.text.proofs.Stages.{or-else-refused}
+use Rattle.trial.specs.Legal.{is-legal}
+use Rattle.nabetsu.specs.Entry.{tracks, columns, numbers, numbers-in, zeros, code, verdict, is-legal-numbers, Spread-says, Trial-says, Numbers-put, Spread-coded}
+use Rattle.nabetsu.specs.Parts.{Refused-answer, Copied, Numbers-tried}
+use Rattle.nabetsu.proofs.Copies.{copied-starts, copied-steps, copied-ends}
+use Rattle.nabetsu.specs.declared.SpreadAnswer.{SpreadAnswer}
+use Rattle.nabetsu.specs.declared.TrialAnswer.{TrialAnswer}
+
+front : (xs ys : List ℕ) (i : ℕ) → i < length xs → getD (xs ++ ys) i 0 ≡ getD xs i 0
+front [] ys i h = absurd (omega arith)
+front (x ∷ xs) ys zero h = refl
+front (x ∷ xs) ys (suc i) h = front xs ys i (omega arith)
+
+past : (xs : List ℕ) (i : ℕ) → length xs ≤ i → getD xs i 0 ≡ 0
+past [] i h = refl
+past (x ∷ xs) zero h = absurd (omega arith)
+past (x ∷ xs) (suc i) h = past xs i (omega arith)
+
+module _ (v : ℕ) (ts : List Tracks) (xs : List Columns) (sized : length ts ≡ 8) (sized-columns : length xs ≡ 9) where
+  pub number-track : (i : ℕ) → (i ≡ 0 → ⊥) → i ≤ 8 → getD ts (i - 1) (record { 0 = 0 }) .0 ≡ getD (v ∷ (tracks ts ++ columns xs)) i 0
+  number-track zero n h = absurd (n refl)
+  number-track (suc j) n h =
+      let e : suc j - 1 ≡ j = omega arith in
+      rw e (sym (track-at ts j) ∙ sym (front (tracks ts) (columns xs) j (omega (arith, tracks-long ts 8 sized))))
+
+  pub number-column : (i : ℕ) → 8 < i → getD xs (i - 8 - 1) (record { 0 = 0 }) .0 ≡ getD (v ∷ (tracks ts ++ columns xs)) i 0
+  number-column zero h = absurd (omega arith)
+  number-column (suc j) h =
+      let n = suc j - 8 - 1 in
+      let e : j ≡ length (tracks ts) + n = omega (arith, tracks-long ts 8 sized) in
+      let r : getD (tracks ts ++ columns xs) j 0 ≡ getD (columns xs) n 0 = ap (λ i. getD (tracks ts ++ columns xs) i 0) e ∙ getD-append-add (tracks ts) (columns xs) n 0 in
+      sym (column-at xs n) ∙ sym r
+
+  pub number-past : (i : ℕ) → 18 ≤ i → 0 ≡ getD (v ∷ (tracks ts ++ columns xs)) i 0
+  number-past i h = sym (past (v ∷ (tracks ts ++ columns xs)) i (omega (arith, length-append (tracks ts) (columns xs), tracks-long ts 8 sized, columns-long xs 9 sized-columns)))
+
+-- PUT one by one into an output
+module _ (v : ℕ) (ts : List Tracks) (xs : List Columns) where
+  abbrev pub put-in : (places : ℕ) → List ℕ
+  put-in n = tabulate n 0 (λ i. getD (v ∷ (tracks ts ++ columns xs)) i 0)
+
+  put-long : (n : ℕ) → length (put-in n) ≡ n
+  put-long n = length-tabulate n 0 (λ i. getD (v ∷ (tracks ts ++ columns xs)) i 0)
+
+  pub put-starts : (o : List ℕ) → Copied (put-in (length o)) o 0
+  put-starts o = copied-starts (put-in (length o)) o (sym (put-long (length o)))
+
+  module _ (n : ℕ) (o : List ℕ) (i : ℕ) (c : Copied (put-in n) o i) where
+    pub put-same-length : length o ≡ n
+    put-same-length = c .long ∙ put-long n
+
+    pub put-inside : i < n → i < length o
+    put-inside h = omega (arith, put-same-length)
+
+    pub put-steps : (r : ℕ) → i < n → r ≡ getD (v ∷ (tracks ts ++ columns xs)) i 0 → Copied (put-in n) (set o i r) (i + 1)
+    put-steps r h e = copied-steps (put-in n) o i r (omega (arith, put-long n)) (e ∙ sym (getD-tabulate n i (λ j. getD (v ∷ (tracks ts ++ columns xs)) j 0) 0 h)) c
+
+    pub put-ends : n ≤ i → o ≡ put-in n
+    put-ends h = copied-ends (put-in n) o i (omega (arith, put-long n)) c
+
+-- SHORT SPACE after every other refusal
+pub short-fine : (o r : Outcome) → o ≡ Accepted → r ≡ refused ShortSpace 0 0 → refusal-of r ≡ or-else (refusal-of o) (refusal 8 0 0)
+unfolding or-else refusal fine
+short-fine o r e f = rw (e, f)
+
+pub short-refused : (o : Outcome) (r : Refused-struct) → o ≡ Refused r → refusal-of (Refused r) ≡ or-else (refusal-of o) (refusal 8 0 0)
+short-refused o r e = rw e (sym (or-else-refused (refusal-of (Refused r)) (refusal 8 0 0) (refused-number (Refused r) refl)))
+
+-- a refused answer's numbers are zeros
+zero-at : (n i : ℕ) → _≡_ {A = ℕ} (getD (replicate n 0) i 0) 0
+zero-at zero i = refl
+zero-at (suc n) zero = refl
+zero-at (suc n) (suc i) = zero-at n i
+
+refused-zeros : (n : ℕ) (o : Outcome) (a : SpreadAnswer) → Refused-answer o a → numbers-in n a ≡ replicate n 0
+unfolding numbers-in numbers
+refused-zeros n o a h =
+    let all : a .total .0 ∷ (tracks (a .separations) ++ columns (a .positions)) ≡ replicate 18 0 = rw (h .total-zero, h .separations-zero, h .positions-zero) in
+    ap (λ (ns : List ℕ). tabulate n 0 (λ i. getD ns i 0)) all ∙ (tabulate-same n 0 (λ i. getD (replicate 18 0) i 0) (λ i. 0) (λ i l m. zero-at 18 i) ∙ tabulate-constant n 0 0)
+
+module _ (bs : List ℕ) (s : ℕ) (a : SpreadAnswer) (says : Spread-says bs s a) (o x : List ℕ) (r : ℕ) where
+  pub spread-short : (f : Outcome) (z : SpreadAnswer) → length o < 18 → refusal-of f ≡ or-else (refusal-of (a .outcome)) (refusal 8 0 0) → Refused-answer f z → x ≡ numbers-in (length o) z →
+      r ≡ code (refusal-of f) 0 → Spread-coded bs s r o x
+  unfolding Numbers-put zeros
+  spread-short f z h e i xs rs = record { answer = a; says = says; put = rw (lt-leb 18 (length o) h) (rs ∙ ap (λ (g : Refusal). code g 0) e, xs ∙ refused-zeros (length o) f z i) }
+
+  pub spread-put : 18 ≤ length o → x ≡ numbers-in (length o) a → r ≡ code (refusal-of (a .outcome)) 0 → Spread-coded bs s r o x
+  unfolding Numbers-put
+  spread-put h xs rs = record { answer = a; says = says; put = rw (le-leb 18 (length o) h) (rs, xs) }
+
+-- THE TRIAL of numbers
+module _ (bs : List ℕ) (s : ℕ) (ns : List ℕ) (r : TrialAnswer) where
+  pub numbers-other : (g : Reading) → Stack-read bs g → r .outcome ≡ g .outcome → r .legal ≡ false → (length ns ≡ 17 → ⊥) → Numbers-tried bs s ns r
+  unfolding is-legal-numbers
+  numbers-other g d e v h = record { outcome-is = ap refusal-of e ∙ d .outcome; legal-is = λ f. v ∙ rw (ne-eqb (length ns) 17 h) }
+
+  pub numbers-tried : (ts xs : List ℕ) → length ns ≡ 17 → ts ≡ take 8 ns → xs ≡ drop 8 ns → Trial-says bs s ts xs r → Numbers-tried bs s ns r
+  unfolding Trial-says is-legal-numbers
+  numbers-tried ts xs h e f t = record { outcome-is = t .0; legal-is = λ z. t .1 ∙ rw (e, f, z, eq-eqb (length ns) 17 h) }
+
+-- where a text is refused, its code has no value in it
+pub verdict-coded : (f : Refusal) (a b : Bool) → (f .number ≡ 0 → a ≡ b) → code f (verdict a) ≡ code f (verdict b)
+unfolding code
+verdict-coded f a b h = go (eqb (f .number) 0) refl
+  where
+    go : (t : Bool) → eqb (f .number) 0 ≡ t → cond t (verdict a) (f .number * 1099511627776 + f .line * 1048576 + f .field) ≡ cond t (verdict b) (f .number * 1099511627776 + f .line * 1048576 + f .field)
+    go true e = ap verdict (h (eqb-true (f .number) 0 e))
+    go false e = refl
