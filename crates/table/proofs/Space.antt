@@ -12,12 +12,12 @@ use lib.ListN.{length, getD}
 use borrow.Author.Tests.{leb-true}
 use Rattle.numbers.proofs.Bools.{ands, and-both, impossible}
 use Rattle.numbers.proofs.Orders.{le-or-lt}
-use Rattle.stack.specs.Stack.{Pair, Stack, Row, row, feasible, in-spread, channels-good, legal, sum, total, longest, Answer, Stays, Rows-after, Rows-are}
+use Rattle.stack.specs.Stack.{Pair, Stack, Row, row, feasible, in-spread, channels-good, legal, sum, total, Answer, Stays, Rows-after, Rows-are}
 use Rattle.stack.specs.Limits.{channel-within, within-limits}
 use Rattle.stack.proofs.Within.{channel-in-limits, strips-count, channels-few}
 use Rattle.answer.proofs.Answers.{legal-lengths}
 use Rattle.rows.specs.Walk.{widest, rows-of}
-use Rattle.rows.proofs.Settled.{feasible-open, legal-wider, settled, widest-small, longest-widest}
+use Rattle.rows.proofs.Settled.{feasible-open, settled, widest-small, longest-widest}
 use Rattle.rows.proofs.Rows.{rows-are}
 use Rattle.writing.specs.Output.{row-bytes, table-bytes, Row-limited}
 use Rattle.writing.specs.TableText.{table-text}

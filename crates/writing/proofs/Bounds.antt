@@ -63,7 +63,8 @@ row-below r w =
     let long = joined-length (tabbed (r .spread ∷ [])) (tabbed (total r ∷ [])) (tabbed (r .separations)) (tabbed (r .positions)) (10 ∷ []) in
     rw numbers (omega (arith, long, w .channels, w .strips))
 
-rows-below : (rs : List Row) → ((i : ℕ) → i < length rs → Row-limited (getD rs i (row 0 [] []))) → length (rows-text rs) ≤ row-bytes * length rs
+-- so many such rows
+pub rows-below : (rs : List Row) → ((i : ℕ) → i < length rs → Row-limited (getD rs i (row 0 [] []))) → length (rows-text rs) ≤ row-bytes * length rs
 unfolding rows-text row-bytes
 rows-below [] h = omega arith
 rows-below (r ∷ rs) h =
@@ -76,6 +77,6 @@ pub table-head : (k : ℕ) (rs : List Row) → table-text k rs ≡ table-text k 
 unfolding table-text rows-text
 table-head k rs = simp append-assoc
 
--- a table of so many such rows
+-- a table of them
 pub table-below : (k : ℕ) (rs : List Row) → k ≤ 9 → ((i : ℕ) → i < length rs → Row-limited (getD rs i (row 0 [] []))) → length (table-text k rs) ≤ 8 + row-bytes * length rs
 table-below k rs h l = rw (table-head k rs, length-append) (omega (arith, head-length k h, rows-below rs l))
