@@ -1,4 +1,4 @@
--- write_table meets its contract: a refused text, too little space, or the table. Assumes nothing.
+-- write_table meets its contract: a refused text, too little space, or the table; and TABLE_BYTES are never too little. Assumes nothing.
 use mathlib.Core.Path.{refl, sym, _∙_}
 use borrow.Author.Tests.{not-true, not-false}
 use Rattle.nabetsu.proofs.Tables.{table-refused, table-short, table-fits}
