@@ -7,8 +7,8 @@ extern "C" {
     fn nabetsu_write_table(text: *const u8, text_len: usize, output: *mut u8, output_len: usize) -> u64;
 }
 
-/// What `put_table` promises to suffice for every table.
-const SPACE: usize = 213 * 258;
+/// `TABLE_BYTES` of crates/nabetsu: proved to be enough for every table.
+const SPACE: usize = 21082;
 
 fn main() -> std::io::Result<()> {
     let mut text = Vec::new();

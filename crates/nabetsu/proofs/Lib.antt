@@ -1,5 +1,6 @@
 -- The promises proved, and the laws of the entries.
 pub mod Promises
+pub mod Space
 pub mod Readings
 pub mod Spreads
 pub mod Tables

@@ -96,11 +96,18 @@ zero-at zero i = refl
 zero-at (suc n) zero = refl
 zero-at (suc n) (suc i) = zero-at n i
 
+unfoldable nothing : List ℕ
+nothing = replicate 18 0
+
+none : (n : ℕ) → tabulate n 0 (λ i. getD nothing i 0) ≡ replicate n 0
+unfolding nothing
+none n = tabulate-same n 0 (λ i. getD nothing i 0) (λ i. 0) (λ i l m. zero-at 18 i) ∙ tabulate-constant n 0 0
+
 refused-zeros : (n : ℕ) (o : Outcome) (a : SpreadAnswer) → Refused-answer o a → numbers-in n a ≡ replicate n 0
-unfolding numbers-in numbers
+unfolding numbers-in numbers nothing
 refused-zeros n o a h =
     let all : a .total .0 ∷ (tracks (a .separations) ++ columns (a .positions)) ≡ replicate 18 0 = rw (h .total-zero, h .separations-zero, h .positions-zero) in
-    ap (λ (ns : List ℕ). tabulate n 0 (λ i. getD ns i 0)) all ∙ (tabulate-same n 0 (λ i. getD (replicate 18 0) i 0) (λ i. 0) (λ i l m. zero-at 18 i) ∙ tabulate-constant n 0 0)
+    ap (λ (ns : List ℕ). tabulate n 0 (λ i. getD ns i 0)) all ∙ none n
 
 module _ (bs : List ℕ) (s : ℕ) (a : SpreadAnswer) (says : Spread-says bs s a) (o x : List ℕ) (r : ℕ) where
   pub spread-short : (f : Outcome) (z : SpreadAnswer) → length o < 18 → refusal-of f ≡ or-else (refusal-of (a .outcome)) (refusal 8 0 0) → Refused-answer f z → x ≡ numbers-in (length o) z →

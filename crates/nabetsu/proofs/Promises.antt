@@ -19,7 +19,7 @@ use Rattle.rows.specs.Walk.{rows-of}
 use Rattle.rows.proofs.Rows.{rows-are, rows-alone}
 use Rattle.nabetsu.specs.Promise.{accepted, Answer-drawable, None-smaller, Answer-there, Answer-alone, Rows-there}
 
-stack-within : (bs : List ℕ) → accepted bs ≡ true → within-limits (stack-in bs) ≡ true
+pub stack-within : (bs : List ℕ) → accepted bs ≡ true → within-limits (stack-in bs) ≡ true
 unfolding accepted
 stack-within bs e = accepted-within bs (eqb-true (text-refusal bs .number) 0 (search ands))
 

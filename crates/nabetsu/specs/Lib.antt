@@ -2,4 +2,5 @@
 pub mod Promise
 pub mod Entry
 pub mod Best
+pub mod Space
 pub mod Parts

@@ -7,6 +7,7 @@ ghost use Rattle.text.specs.Outcome.{refusal-of};
 ghost use mathlib.Core.Path.{_≡_};
 ghost use Rattle.nabetsu.specs.Best.{Spread-best};
 ghost use Rattle.nabetsu.specs.Parts.{Refused-answer, Numbers-tried};
+ghost use Rattle.nabetsu.specs.Space.{Space-enough};
 use answer::answer;
 use stack::Columns;
 use stack::Stack;
@@ -67,6 +68,9 @@ pub fn answer_spread(text: &[u8], spread: u32) -> SpreadAnswer
     }
 }
 
+// Enough bytes for the table of every text: a first line of 8, and at most 257 rows of at most 82.
+pub const TABLE_BYTES: usize = 21082;
+
 // How many bytes the table has that was written; none where it is refused.
 pub struct TableAnswer {
     pub outcome: Outcome,
@@ -77,6 +81,7 @@ pub struct TableAnswer {
 // zeros in the whole output.
 pub fn write_table(text: &[u8], output: &mut [u8]) -> TableAnswer
     ensures { λ r. ⌜ Table-says (now (text .entry)) r (now (output .entry)) (now (output .exit)) ⌝ }
+    ensures { λ r. do ⌜ Space-enough (← ⟦TABLE_BYTES⟧ .entry) (now (text .entry)) r (now (output .entry)) ⌝ }
 {
     let reading = read_stack(text);
     let outcome = reading.outcome;

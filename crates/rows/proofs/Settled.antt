@@ -26,7 +26,7 @@ feasible-moved c t x y x′ y′ e f =
     by-pairs-feasible c t x′ y′
     (record { left = λ j i h l. omega (arith, g .left j i h l); right = λ j i h l. omega (arith, g .right j i h l) })
 
-feasible-open : (c : List Pair) (t x y : ℕ) → length c ≤ t → feasible c t x y ≡ true
+pub feasible-open : (c : List Pair) (t x y : ℕ) → length c ≤ t → feasible c t x y ≡ true
 unfolding feasible
 feasible-open c t x y h = or-left _ _ (le-leb (length c) t h)
 

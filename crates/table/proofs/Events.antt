@@ -21,7 +21,7 @@ use Rattle.rows.specs.Evaluate.{arrays, Held, Evaluate-asks, Evaluated, Place-r
 use Rattle.rows.proofs.Settled.{widest-small, longest-widest}
 use Rattle.rows.proofs.Jumps.{total-never-rises}
 use Rattle.rows.proofs.Steps.{scan-passes, scan-stays, scan-whole, scan-most, total-capped}
-use Rattle.rows.proofs.Evaluating.{held-stands, cap-used, cap-small, found-total}
+use Rattle.rows.proofs.Evaluating.{held-stands, cap-used, found-total}
 use Rattle.table.specs.Walking.{Holding}
 
 module _ (k : Stack-struct) (s cap : ℕ) (lows highs : List (List ℕ)) (counts uptos : List ℕ) (froms ends : List (List ℕ)) (r : Scan) (fits : s < 4294967296) (wide : longest (stack-of k .strips) ≤ s)
@@ -66,9 +66,6 @@ module _ (k : Stack-struct) (s cap : ℕ) (lows highs : List (List ℕ)) (counts
   event-capped =
       let h = total-capped (stack-of k) s (arrays lows highs counts uptos) (held-stands k s lows highs counts uptos fits wide held (e .windows)) fits wide cap froms ends r scanned in
       omega (arith, rw (stack-channels k) at h, most-sums (arrays lows highs counts uptos) 0 (k .count))
-
-  pub event-small : cap ≤ sums counts 0 (k .count) → cap ≤ 256
-  event-small c = omega (arith, cap-small k s lows highs counts uptos fits wide held (e .windows) cap c)
 
 -- counts within the arrays
 pub held-counts : (k : Stack-struct) (lows highs : List (List ℕ)) (counts : List ℕ) → Held k lows highs counts → Counts-ask counts (k .count)

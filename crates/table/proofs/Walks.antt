@@ -3,7 +3,7 @@ use mathlib.Core.Path.{_≡_, refl, sym, ap, _∙_}
 use mathlib.Core.Bool.{true}
 use mathlib.Core.Logic.{_⊎_, inl, inr}
 use mathlib.Core.List.{List, [], _∷_, _++_, append-assoc, append-nil}
-use Prim.Native.Nat.{ℕ, zero, suc, _+_, _*_, _-_, _≤_, _<_}
+use Prim.Native.Nat.{ℕ, zero, suc, _+_, _-_, _^_, _≤_, _<_}
 use native.Mathlib.Omega.{arith}
 use lib.ListN.{length, length-append}
 use Rattle.stack.specs.Stack.{Stack, Row, sum, longest}
@@ -12,16 +12,13 @@ use Rattle.answer.specs.Solve.{answer-total}
 use Rattle.rows.specs.Walk.{row-at, rows-walk, widest, rows-of}
 use Rattle.rows.proofs.Settled.{longest-widest}
 use Rattle.rows.proofs.Walks.{walk-zero, walk-on, walk-falls, walk-ends}
-use Rattle.writing.specs.Output.{written, written-at, Written, line-bytes, Line-put, Line-put-at}
+use Rattle.writing.specs.Output.{written, written-at, Written, row-bytes, table-bytes, Line-put, Line-put-at}
 use Rattle.writing.specs.TableText.{table-text, row-text, rows-text}
+use Rattle.writing.proofs.Bounds.{table-head}
 use Rattle.writing.proofs.Lines.{written-starts, written-steps, written-at-start}
 use Rattle.table.specs.Walking.{Walking, Table-put}
 use Rattle.table.specs.declared.Walk.{Walk}
-
--- a table's first line is the text of a table without rows
-table-head : (n : ℕ) (rs : List Row) → table-text n rs ≡ table-text n [] ++ rows-text rs
-unfolding table-text rows-text
-table-head n rs = simp append-assoc
+use Rattle.table.proofs.Space.{table-space}
 
 -- where one line more ends
 written-line : (s t before after : List ℕ) (at r : ℕ) → at ≡ length s → Written s before before → Line-put-at at t before after r → (r ≡ length (s ++ t)) × Written (s ++ t) after after
@@ -33,12 +30,12 @@ written-line s t before after at r e w p =
 
 module _ (k : Stack) (good : within-limits k ≡ true) where
   -- THE FIRST ROW, behind the first line
-  begun : (total jump head at : ℕ) (o₀ o₁ o₂ : List ℕ) → longest (k .strips) ≤ widest k → answer-total k (longest (k .strips)) ≡ total → total ≤ 256 → 0 < jump →
+  begun : (total jump head at : ℕ) (o₀ o₁ o₂ : List ℕ) → longest (k .strips) ≤ widest k → answer-total k (longest (k .strips)) ≡ total → 0 < jump →
       ((d : ℕ) → d < jump → longest (k .strips) + d ≤ widest k → total ≤ answer-total k (longest (k .strips) + d)) →
       Line-put (table-text (length (k .channels)) []) o₀ o₁ head → Line-put-at head (row-text (row-at k (longest (k .strips)))) o₁ o₂ at →
       Walking k o₂ (record { spread = longest (k .strips); total = total; jump = jump; at = at })
   unfolding rows-of rows-text
-  begun total jump head at o₀ o₁ o₂ w t few j st h r =
+  begun total jump head at o₀ o₁ o₂ w t j st h r =
       let s = longest (k .strips) in
       let n = length (k .channels) in
       let first : Written (table-text n []) o₀ o₁ = rw (h .stands, ← written-at-start (table-text n []) o₀) (written-steps {s = []} (table-text n []) (written-starts o₀)) in
@@ -52,17 +49,21 @@ module _ (k : Stack) (good : within-limits k ≡ true) where
         text = table-text n [] ++ row-text (row-at k s);
         whole = table-head n (rows-of k) ∙ (rw t (sym (append-assoc (table-text n []) (row-text (row-at k s)) _)));
         at-is = both .0;
-        few = omega (arith, h .few, r .few);
         written = both .1;
       }
 
   -- the same with the count of channels and the longest strip's length as the code has them
-  pub begun-at : (n s : ℕ) → n ≡ length (k .channels) → s ≡ longest (k .strips) → (total jump head at : ℕ) (o₀ o₁ o₂ : List ℕ) → answer-total k s ≡ total → total ≤ 256 → 0 < jump →
+  pub begun-at : (n s : ℕ) → n ≡ length (k .channels) → s ≡ longest (k .strips) → (total jump head at : ℕ) (o₀ o₁ o₂ : List ℕ) → answer-total k s ≡ total → 0 < jump →
       ((d : ℕ) → d < jump → s + d ≤ widest k → total ≤ answer-total k (s + d)) →
       Line-put (table-text n []) o₀ o₁ head → Line-put-at head (row-text (row-at k s)) o₁ o₂ at →
       Walking k o₂ (record { spread = s; total = total; jump = jump; at = at })
-  begun-at n s c e total jump head at o₀ o₁ o₂ t few j st h r =
-      rw e (begun total jump head at o₀ o₁ o₂ (longest-widest k) (rw e at t) few j (rw e at st) (rw c at h) (rw e at r))
+  begun-at n s c e total jump head at o₀ o₁ o₂ t j st h r =
+      rw e (begun total jump head at o₀ o₁ o₂ (longest-widest k) (rw e at t) j (rw e at st) (rw c at h) (rw e at r))
+
+  -- the text so far is a part of the table's, so it is short
+  pub at-fits : (o : List ℕ) (w : Walk) → Walking k o w → w .at ≤ 2 ^ 32
+  unfolding table-bytes row-bytes
+  at-fits o w c = omega (arith, c .at-is, simp length-append at (ap length (c .whole)), table-space k good)
 
   module _ (o : List ℕ) (w : Walk) (c : Walking k o w) (next jump : ℕ) (more : 0 < jump) (jumped : next ≡ w .spread + w .jump) (inside : next ≤ widest k) where
     stays-below : (d : ℕ) → w .spread + d < next → w .total ≤ answer-total k (w .spread + d)
@@ -84,7 +85,6 @@ module _ (k : Stack) (good : within-limits k ≡ true) where
           text = c .text;
           whole = c .whole ∙ ap (λ (rs : List Row). c .text ++ rows-text rs) (walk-on k good (widest k) (w .spread) (w .total) next further inside stays-below (omega arith));
           at-is = c .at-is;
-          few = c .few;
           written = c .written;
         }
 
@@ -104,7 +104,6 @@ module _ (k : Stack) (good : within-limits k ≡ true) where
           text = c .text ++ row-text (row-at k next);
           whole = c .whole ∙ (ap (λ (rs : List Row). c .text ++ rows-text rs) (walk-falls k good (widest k) (w .spread) (w .total) next further inside stays-below falls) ∙ rw t (sym (append-assoc (c .text) (row-text (row-at k next)) _)));
           at-is = line .0;
-          few = omega (arith, c .few, r .few);
           written = line .1;
         }
 
@@ -112,7 +111,7 @@ module _ (k : Stack) (good : within-limits k ≡ true) where
   unfolding rows-text
   ended o w c none =
       let all : table-text (length (k .channels)) (rows-of k) ≡ c .text = c .whole ∙ (rw none (append-nil (c .text))) in
-      record { counted = c .at-is ∙ ap length (sym all); written = rw all (c .written); few = omega (arith, c .few) }
+      record { counted = c .at-is ∙ ap length (sym all); written = rw all (c .written); few = rw (c .at-is, ← all) (table-space k good) }
 
   -- THE END: the next event lies beyond the sum of the lengths, or nothing can fall any more
   pub ended-past : (o : List ℕ) (w : Walk) → Walking k o w → widest k < w .spread + w .jump → Table-put k o (w .at)

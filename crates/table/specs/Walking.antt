@@ -11,7 +11,7 @@ use Rattle.solver.specs.Scan.{sums}
 use Rattle.answer.specs.Solve.{answer-total}
 use Rattle.rows.specs.Walk.{rows-walk, widest, rows-of}
 use Rattle.rows.specs.Evaluate.{Held}
-use Rattle.writing.specs.Output.{Written, line-bytes}
+use Rattle.writing.specs.Output.{Written, table-bytes}
 use Rattle.writing.specs.TableText.{table-text, rows-text}
 use Rattle.table.specs.declared.Walk.{Walk}
 
@@ -25,7 +25,6 @@ pub record Walking (k : Stack) (out : List ℕ) (w : Walk) : Type 0 where
   pub text : List ℕ
   pub whole : table-text (length (k .channels)) (rows-of k) ≡ text ++ rows-text (rows-walk k (widest k - w .spread) (suc (w .spread)) (w .total))
   pub at-is : w .at ≡ length text
-  pub few : w .at + line-bytes * w .total ≤ line-bytes * 258
   pub written : Written text out out
 
 -- the arrays that are held from spread to spread
@@ -48,8 +47,8 @@ pub record Step-asks (k : Stack-struct) (w : Walk) (next : ℕ) (lows highs : Li
   pub jumped : next ≡ w .spread + w .jump
   pub inside : next ≤ widest (stack-of k)
 
--- THE TABLE: its whole length, and its text if there is space for it
+-- THE TABLE: its whole length, for which a stated number of bytes is enough, and its text if there is space for it
 pub record Table-put (k : Stack) (out : List ℕ) (r : ℕ) : Type 0 where
   pub counted : r ≡ length (table-text (length (k .channels)) (rows-of k))
   pub written : Written (table-text (length (k .channels)) (rows-of k)) out out
-  pub few : r ≤ line-bytes * 258
+  pub few : r ≤ table-bytes

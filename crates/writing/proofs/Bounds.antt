@@ -1,8 +1,8 @@
 -- How long the table's text is: a number below 10 ^ n has at most n digits, since each division by ten takes one from the power; a field is one byte more; the
--- first line has 8 bytes, a row within document 01's limits at most 82, and n such rows at most 82 * n. Assumes nothing.
+-- first line has 8 bytes, a row within document 01's limits at most row-bytes, and a table of n such rows at most 8 + row-bytes * n. Assumes nothing.
 use mathlib.Core.Path.{_≡_, refl}
 use mathlib.Core.Bool.{Bool, true, false, cond}
-use mathlib.Core.List.{List, [], _∷_, _++_}
+use mathlib.Core.List.{List, [], _∷_, _++_, append-assoc}
 use Prim.Native.Nat.{ℕ, zero, suc, _+_, _*_, _-_, _/_, _%_, _^_, _≤_, _<_}
 use native.Mathlib.Nat.{mul-suc}
 use native.Mathlib.Omega.{arith}
@@ -11,7 +11,7 @@ use lib.ListN.{length, getD, length-append}
 use borrow.Author.Tests.{ltb-false, lt-ltb}
 use Rattle.stack.specs.Stack.{Row, row, total}
 use Rattle.writing.specs.TableText.{digits-from, digits, tabbed, row-text, rows-text, table-text}
-use Rattle.writing.specs.Output.{Row-limited}
+use Rattle.writing.specs.Output.{row-bytes, Row-limited}
 use Rattle.writing.proofs.Digits.{two-left, tenth-below, tabbed-one}
 use Rattle.writing.proofs.Rows.{row-numbers}
 
@@ -52,8 +52,8 @@ one-below n v h k = rw tabbed-one (omega (arith, digits-below n v h k))
 joined-length : (a b c d e : List ℕ) → length ((a ++ (b ++ (c ++ d))) ++ e) ≡ length a + (length b + (length c + length d)) + length e
 joined-length a b c d e = simp length-append
 
-pub row-below : (r : Row) → Row-limited r → length (row-text r) ≤ 82
-unfolding row-text
+pub row-below : (r : Row) → Row-limited r → length (row-text r) ≤ row-bytes
+unfolding row-text row-bytes
 row-below r w =
     let spread = one-below 4 (r .spread) (omega arith) (omega (arith, w .spread-below)) in
     let sum = one-below 3 (total r) (omega arith) (omega (arith, w .total-below)) in
@@ -64,10 +64,19 @@ row-below r w =
     rw numbers (omega (arith, long, w .channels, w .strips))
 
 -- so many such rows
-pub rows-below : (rs : List Row) → ((i : ℕ) → i < length rs → Row-limited (getD rs i (row 0 [] []))) → length (rows-text rs) ≤ 82 * length rs
-unfolding rows-text
+pub rows-below : (rs : List Row) → ((i : ℕ) → i < length rs → Row-limited (getD rs i (row 0 [] []))) → length (rows-text rs) ≤ row-bytes * length rs
+unfolding rows-text row-bytes
 rows-below [] h = omega arith
 rows-below (r ∷ rs) h =
     let first = row-below r (h 0 (omega arith)) in
     let rest = rows-below rs (λ i k. h (suc i) (omega arith)) in
     rw length-append (omega arith)
+
+-- a table's first line is the text of a table without rows
+pub table-head : (k : ℕ) (rs : List Row) → table-text k rs ≡ table-text k [] ++ rows-text rs
+unfolding table-text rows-text
+table-head k rs = simp append-assoc
+
+-- a table of them
+pub table-below : (k : ℕ) (rs : List Row) → k ≤ 9 → ((i : ℕ) → i < length rs → Row-limited (getD rs i (row 0 [] []))) → length (table-text k rs) ≤ 8 + row-bytes * length rs
+table-below k rs h l = rw (table-head k rs, length-append) (omega (arith, head-length k h, rows-below rs l))

@@ -42,6 +42,15 @@ pub record Written (text before after : List ℕ) : Type 0 where
 abbrev pub line-bytes : ℕ
 line-bytes = 213
 
+-- the bytes of the longest row within document 01's limits: the word ROW, a line feed, a spread and nine positions of up to four digits, a total of up to
+-- three and eight separations of up to two, each behind a tab
+unfoldable pub row-bytes : ℕ
+row-bytes = 82
+
+-- enough for a table within the limits: the first line's 8 bytes, and a row for each total from 256 to 0
+unfoldable pub table-bytes : ℕ
+table-bytes = 8 + row-bytes * 257
+
 -- what a line's writer leaves and answers
 pub record Line-put (text before after : List ℕ) (r : ℕ) : Type 0 where
   pub stands : after ≡ written text before

@@ -1,7 +1,8 @@
--- write_table meets its contract: a refused text, too little space, or the table. Assumes nothing.
+-- write_table meets its contract: a refused text, too little space, or the table; and TABLE_BYTES are never too little. Assumes nothing.
 use mathlib.Core.Path.{refl, sym, _∙_}
 use borrow.Author.Tests.{not-true, not-false}
 use Rattle.nabetsu.proofs.Tables.{table-refused, table-short, table-fits}
+use Rattle.nabetsu.proofs.Space.{space-enough}
 use borrow.Author.Needs.{needs}
 use Rattle.nabetsu.proofs.write_table.Statement.{statement}
 use Rattle.nabetsu.proofs.write_table.Tie as tie
@@ -19,7 +20,7 @@ same-length : tie.Need-same-length
 same-length c = search needs
 
 returns : tie.Need-returns
-returns c = table-refused (c .before .before .before .before .before .before .before .before .before .args .text .now) (c .before .before .before .before .before .before .read-stack .result) (c .before .before .before .before .before .before .read-stack .ensures) _ _ (c .before .before .before .before .before .before .before .before .before .args .output .now) _ refl (sym (c .before .before .before .before .before .is-accepted .ensures) ∙ not-true _ (c .before .before .before .before .if1 .taken)) refl refl (c .before .before .clear-from .ensures)
+returns c = let says = table-refused (c .before .before .before .before .before .before .before .before .before .args .text .now) (c .before .before .before .before .before .before .read-stack .result) (c .before .before .before .before .before .before .read-stack .ensures) _ _ (c .before .before .before .before .before .before .before .before .before .args .output .now) _ refl (sym (c .before .before .before .before .before .is-accepted .ensures) ∙ not-true _ (c .before .before .before .before .if1 .taken)) refl refl (c .before .before .clear-from .ensures) in (says, space-enough _ _ _ _ says)
 
 put-table-requires : tie.Need-put-table-requires
 put-table-requires c κs = c .before .before .before .read-stack .ensures .within
@@ -34,7 +35,7 @@ same-length-2 : tie.Need-same-length-2
 same-length-2 c = search needs
 
 returns-2 : tie.Need-returns-2
-returns-2 c = table-short (c .before .before .before .before .before .before .before .before .before .before .before .before .before .before .before .args .text .now) (c .before .before .before .before .before .before .before .before .before .before .before .before .read-stack .result) (c .before .before .before .before .before .before .before .before .before .before .before .before .read-stack .ensures) _ _ _ _ (c .before .before .before .before .before .before .before .output2 .given) (sym (c .before .before .before .before .before .before .before .before .before .before .before .is-accepted .ensures) ∙ not-false _ (c .before .before .before .before .before .before .before .before .before .before .if1 .left)) (c .before .before .before .before .before .before .before .before .put-table .result) (c .before .before .before .before .before .before .before .before .put-table .ensures) (c .before .before .before .before .before .if2 .taken) (c .refused .ensures) refl (c .before .before .before .clear-from2 .ensures)
+returns-2 c = let says = table-short (c .before .before .before .before .before .before .before .before .before .before .before .before .before .before .before .args .text .now) (c .before .before .before .before .before .before .before .before .before .before .before .before .read-stack .result) (c .before .before .before .before .before .before .before .before .before .before .before .before .read-stack .ensures) _ _ _ _ (c .before .before .before .before .before .before .before .output2 .given) (sym (c .before .before .before .before .before .before .before .before .before .before .before .is-accepted .ensures) ∙ not-false _ (c .before .before .before .before .before .before .before .before .before .before .if1 .left)) (c .before .before .before .before .before .before .before .before .put-table .result) (c .before .before .before .before .before .before .before .before .put-table .ensures) (c .before .before .before .before .before .if2 .taken) (c .refused .ensures) refl (c .before .before .before .clear-from2 .ensures) in (says, space-enough _ _ _ _ says)
 
 clear-from-requires-3 : tie.Need-clear-from-requires-3
 clear-from-requires-3 c κs = search needs
@@ -43,7 +44,7 @@ same-length-3 : tie.Need-same-length-3
 same-length-3 c = search needs
 
 returns-3 : tie.Need-returns-3
-returns-3 c = table-fits (c .before .before .before .before .before .before .before .before .before .before .before .before .before .before .args .text .now) (c .before .before .before .before .before .before .before .before .before .before .before .read-stack .result) (c .before .before .before .before .before .before .before .before .before .before .before .read-stack .ensures) _ _ _ _ (c .before .before .before .before .before .before .output2 .given) (sym (c .before .before .before .before .before .before .before .before .before .before .is-accepted .ensures) ∙ not-false _ (c .before .before .before .before .before .before .before .before .before .if1 .left)) (c .before .before .before .before .before .before .before .put-table .result) (c .before .before .before .before .before .before .before .put-table .ensures) (c .before .before .before .before .if2 .left) refl refl (c .before .before .clear-from3 .ensures)
+returns-3 c = let says = table-fits (c .before .before .before .before .before .before .before .before .before .before .before .before .before .before .args .text .now) (c .before .before .before .before .before .before .before .before .before .before .before .read-stack .result) (c .before .before .before .before .before .before .before .before .before .before .before .read-stack .ensures) _ _ _ _ (c .before .before .before .before .before .before .output2 .given) (sym (c .before .before .before .before .before .before .before .before .before .before .is-accepted .ensures) ∙ not-false _ (c .before .before .before .before .before .before .before .before .before .if1 .left)) (c .before .before .before .before .before .before .before .put-table .result) (c .before .before .before .before .before .before .before .put-table .ensures) (c .before .before .before .before .if2 .left) refl refl (c .before .before .clear-from3 .ensures) in (says, space-enough _ _ _ _ says)
 
 pub write-table-spec : {M : Type 1} → statement M
 write-table-spec =

@@ -5,7 +5,7 @@ use Rattle.stack.specs.Value.{stack-of}
 use Rattle.stack.proofs.Within.{stack-channels}
 use native.Mathlib.Omega.{arith}
 use Rattle.stack.proofs.Within.{few-channels}
-use Rattle.table.proofs.Events.{held-counts, holds-on, event-stays, event-least, event-whole, event-small, event-place-asks}
+use Rattle.table.proofs.Events.{held-counts, holds-on, event-stays, event-least, event-whole, event-place-asks}
 use Rattle.table.proofs.Walks.{begun-at}
 use borrow.Author.Needs.{needs}
 use Rattle.table.proofs.begin.Statement.{statement}
@@ -34,7 +34,7 @@ returns c = let found = event-whole (c .before .before .before .before .before .
     let least = event-least (c .before .before .before .before .before .before .before .before .before .before .before .before .before .before .before .before .before .before .args .stack) (c .before .before .before .before .before .before .before .before .before .before .before .before .before .before .before .before .longest .result) (c .before .before .before .before .before .before .before .before .before .before .before .before .before .before .before .most-total .result) _ _ _ _ _ _ (c .before .before .before .before .before .before .before .before .before .before .before .evaluate .result) (spread-fits (stack-of (c .before .before .before .before .before .before .before .before .before .before .before .before .before .before .before .before .before .before .args .stack)) (c .before .before .before .before .before .before .before .before .before .before .before .before .before .before .before .before .longest .result) (c .before .before .before .before .before .before .before .before .before .before .before .before .before .before .before .before .before .before .pre .held .good) (c .before .before .before .before .before .before .before .before .before .before .before .before .before .before .before .before .longest .ensures)) (omega (arith, c .before .before .before .before .before .before .before .before .before .before .before .before .before .before .before .before .longest .ensures)) (c .before .before .before .before .before .before .before .before .before .before .before .before .before .before .before .before .before .before .pre .held) (c .before .before .before .before .before .before .before .before .before .before .before .evaluate .ensures) (omega (arith, c .before .before .before .before .before .before .before .before .before .before .before .before .before .before .before .most-total .ensures)) found in
     record {
       walking = begun-at (stack-of (c .before .before .before .before .before .before .before .before .before .before .before .before .before .before .before .before .before .before .args .stack)) (c .before .before .before .before .before .before .before .before .before .before .before .before .before .before .before .before .before .before .pre .held .good) (c .before .before .before .before .before .before .before .before .before .before .before .before .before .before .before .before .before .before .args .stack .count) (c .before .before .before .before .before .before .before .before .before .before .before .before .before .before .before .before .longest .result) (sym (stack-channels (c .before .before .before .before .before .before .before .before .before .before .before .before .before .before .before .before .before .before .args .stack))) (c .before .before .before .before .before .before .before .before .before .before .before .before .before .before .before .before .longest .ensures) (c .before .before .before .before .before .before .before .before .before .before .before .evaluate .result .total) (c .before .before .before .before .before .before .before .before .before .before .before .evaluate .result .jump) (c .before .before .before .before .before .before .before .before .before .put-head .result) (c .before .before .put-placed .result) _ _ _
-          (sym least) (omega (arith, event-small (c .before .before .before .before .before .before .before .before .before .before .before .before .before .before .before .before .before .before .args .stack) (c .before .before .before .before .before .before .before .before .before .before .before .before .before .before .before .before .longest .result) (c .before .before .before .before .before .before .before .before .before .before .before .before .before .before .before .most-total .result) _ _ _ _ _ _ (c .before .before .before .before .before .before .before .before .before .before .before .evaluate .result) (spread-fits (stack-of (c .before .before .before .before .before .before .before .before .before .before .before .before .before .before .before .before .before .before .args .stack)) (c .before .before .before .before .before .before .before .before .before .before .before .before .before .before .before .before .longest .result) (c .before .before .before .before .before .before .before .before .before .before .before .before .before .before .before .before .before .before .pre .held .good) (c .before .before .before .before .before .before .before .before .before .before .before .before .before .before .before .before .longest .ensures)) (omega (arith, c .before .before .before .before .before .before .before .before .before .before .before .before .before .before .before .before .longest .ensures)) (c .before .before .before .before .before .before .before .before .before .before .before .before .before .before .before .before .before .before .pre .held) (c .before .before .before .before .before .before .before .before .before .before .before .evaluate .ensures) (omega (arith, c .before .before .before .before .before .before .before .before .before .before .before .before .before .before .before .most-total .ensures)))) (c .before .before .before .before .before .before .before .before .before .before .before .evaluate .ensures .scanned .jump-some) (event-stays (c .before .before .before .before .before .before .before .before .before .before .before .before .before .before .before .before .before .before .args .stack) (c .before .before .before .before .before .before .before .before .before .before .before .before .before .before .before .before .longest .result) (c .before .before .before .before .before .before .before .before .before .before .before .before .before .before .before .most-total .result) _ _ _ _ _ _ (c .before .before .before .before .before .before .before .before .before .before .before .evaluate .result) (spread-fits (stack-of (c .before .before .before .before .before .before .before .before .before .before .before .before .before .before .before .before .before .before .args .stack)) (c .before .before .before .before .before .before .before .before .before .before .before .before .before .before .before .before .longest .result) (c .before .before .before .before .before .before .before .before .before .before .before .before .before .before .before .before .before .before .pre .held .good) (c .before .before .before .before .before .before .before .before .before .before .before .before .before .before .before .before .longest .ensures)) (omega (arith, c .before .before .before .before .before .before .before .before .before .before .before .before .before .before .before .before .longest .ensures)) (c .before .before .before .before .before .before .before .before .before .before .before .before .before .before .before .before .before .before .pre .held) (c .before .before .before .before .before .before .before .before .before .before .before .evaluate .ensures) (sym least)) (c .before .before .before .before .before .before .before .before .before .put-head .ensures) (c .before .before .put-placed .ensures);
+          (sym least) (c .before .before .before .before .before .before .before .before .before .before .before .evaluate .ensures .scanned .jump-some) (event-stays (c .before .before .before .before .before .before .before .before .before .before .before .before .before .before .before .before .before .before .args .stack) (c .before .before .before .before .before .before .before .before .before .before .before .before .before .before .before .before .longest .result) (c .before .before .before .before .before .before .before .before .before .before .before .before .before .before .before .most-total .result) _ _ _ _ _ _ (c .before .before .before .before .before .before .before .before .before .before .before .evaluate .result) (spread-fits (stack-of (c .before .before .before .before .before .before .before .before .before .before .before .before .before .before .before .before .before .before .args .stack)) (c .before .before .before .before .before .before .before .before .before .before .before .before .before .before .before .before .longest .result) (c .before .before .before .before .before .before .before .before .before .before .before .before .before .before .before .before .before .before .pre .held .good) (c .before .before .before .before .before .before .before .before .before .before .before .before .before .before .before .before .longest .ensures)) (omega (arith, c .before .before .before .before .before .before .before .before .before .before .before .before .before .before .before .before .longest .ensures)) (c .before .before .before .before .before .before .before .before .before .before .before .before .before .before .before .before .before .before .pre .held) (c .before .before .before .before .before .before .before .before .before .before .before .evaluate .ensures) (sym least)) (c .before .before .before .before .before .before .before .before .before .put-head .ensures) (c .before .before .put-placed .ensures);
       holding = holds-on (c .before .before .before .before .before .before .before .before .before .before .before .before .before .before .before .before .before .before .args .stack) (c .before .before .before .before .before .before .before .before .before .before .before .before .before .before .before .before .longest .result) (c .before .before .before .before .before .before .before .before .before .before .before .before .before .before .before .most-total .result) _ _ _ _ _ _ (c .before .before .before .before .before .before .before .before .before .before .before .evaluate .result) (spread-fits (stack-of (c .before .before .before .before .before .before .before .before .before .before .before .before .before .before .before .before .before .before .args .stack)) (c .before .before .before .before .before .before .before .before .before .before .before .before .before .before .before .before .longest .result) (c .before .before .before .before .before .before .before .before .before .before .before .before .before .before .before .before .before .before .pre .held .good) (c .before .before .before .before .before .before .before .before .before .before .before .before .before .before .before .before .longest .ensures)) (omega (arith, c .before .before .before .before .before .before .before .before .before .before .before .before .before .before .before .before .longest .ensures)) (c .before .before .before .before .before .before .before .before .before .before .before .before .before .before .before .before .before .before .pre .held) (c .before .before .before .before .before .before .before .before .before .before .before .evaluate .ensures);
       capped = omega (arith, found, c .before .before .before .before .before .before .before .before .before .before .before .before .before .before .before .most-total .ensures);
     }

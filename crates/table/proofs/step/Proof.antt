@@ -5,7 +5,7 @@ use Rattle.stack.specs.Value.{stack-of}
 use Rattle.rows.proofs.Settled.{widest-small}
 use Rattle.rows.proofs.Jumps.{total-never-rises}
 use Rattle.table.proofs.Events.{holds-on, event-stays, event-least, event-passed, event-place-asks}
-use Rattle.table.proofs.Walks.{stepped-on, stepped-down}
+use Rattle.table.proofs.Walks.{at-fits, stepped-on, stepped-down}
 use borrow.Author.Needs.{needs}
 use Rattle.table.proofs.step.Statement.{statement}
 use Rattle.table.proofs.step.Tie as tie
@@ -21,7 +21,7 @@ returns c = let same = event-passed (c .before .before .before .before .before .
     (record { walking = stepped-on (stack-of (c .before .before .before .before .before .before .before .before .args .stack)) (c .before .before .before .before .before .before .before .before .pre .here .holding .held .good) _ (c .before .before .before .before .before .before .before .before .args .w) (c .before .before .before .before .before .before .before .before .pre .here .walking) (c .before .before .before .before .before .before .before .before .args .next) (c .before .before .evaluate .result .jump) (c .before .before .evaluate .ensures .scanned .jump-some) (c .before .before .before .before .before .before .before .before .pre .jumped) (c .before .before .before .before .before .before .before .before .pre .inside) (same .0) (rw (same .1) at (event-stays (c .before .before .before .before .before .before .before .before .args .stack) (c .before .before .before .before .before .before .before .before .args .next) _ _ _ _ _ _ _ (c .before .before .evaluate .result) (omega (arith, c .before .before .before .before .before .before .before .before .pre .inside, widest-small (stack-of (c .before .before .before .before .before .before .before .before .args .stack)) (c .before .before .before .before .before .before .before .before .pre .here .holding .held .good))) (omega (arith, c .before .before .before .before .before .before .before .before .pre .here .walking .from, c .before .before .before .before .before .before .before .before .pre .jumped)) (c .before .before .before .before .before .before .before .before .pre .here .holding .held) (c .before .before .evaluate .ensures) (same .0 ∙ sym (same .1)))); holding = holds-on (c .before .before .before .before .before .before .before .before .args .stack) (c .before .before .before .before .before .before .before .before .args .next) _ _ _ _ _ _ _ (c .before .before .evaluate .result) (omega (arith, c .before .before .before .before .before .before .before .before .pre .inside, widest-small (stack-of (c .before .before .before .before .before .before .before .before .args .stack)) (c .before .before .before .before .before .before .before .before .pre .here .holding .held .good))) (omega (arith, c .before .before .before .before .before .before .before .before .pre .here .walking .from, c .before .before .before .before .before .before .before .before .pre .jumped)) (c .before .before .before .before .before .before .before .before .pre .here .holding .held) (c .before .before .evaluate .ensures); capped = c .before .before .before .before .before .before .before .before .pre .here .capped }, refl)
 
 put-placed-requires : tie.Need-put-placed-requires
-put-placed-requires c κs = (omega (arith, c .before .before .before .before .before .before .before .before .before .before .before .before .pre .here .walking .few), event-place-asks (c .before .before .before .before .before .before .before .before .before .before .before .before .args .stack) (c .before .before .before .before .before .before .before .before .before .before .before .before .args .next) _ _ _ _ _ _ _ (c .before .before .before .before .before .before .evaluate .result) (omega (arith, c .before .before .before .before .before .before .before .before .before .before .before .before .pre .inside, widest-small (stack-of (c .before .before .before .before .before .before .before .before .before .before .before .before .args .stack)) (c .before .before .before .before .before .before .before .before .before .before .before .before .pre .here .holding .held .good))) (omega (arith, c .before .before .before .before .before .before .before .before .before .before .before .before .pre .here .walking .from, c .before .before .before .before .before .before .before .before .before .before .before .before .pre .jumped)) (c .before .before .before .before .before .before .before .before .before .before .before .before .pre .here .holding .held) (c .before .before .before .before .before .before .evaluate .ensures) (omega (arith, c .before .before .before .before .before .before .before .before .before .before .before .before .pre .here .capped, c .before .before .before .before .before .before .before .before .before .before .before .before .pre .some)) (omega (arith, c .before .before .before .before .if1)))
+put-placed-requires c κs = (at-fits (stack-of (c .before .before .before .before .before .before .before .before .before .before .before .before .args .stack)) (c .before .before .before .before .before .before .before .before .before .before .before .before .pre .here .holding .held .good) _ (c .before .before .before .before .before .before .before .before .before .before .before .before .args .w) (c .before .before .before .before .before .before .before .before .before .before .before .before .pre .here .walking), event-place-asks (c .before .before .before .before .before .before .before .before .before .before .before .before .args .stack) (c .before .before .before .before .before .before .before .before .before .before .before .before .args .next) _ _ _ _ _ _ _ (c .before .before .before .before .before .before .evaluate .result) (omega (arith, c .before .before .before .before .before .before .before .before .before .before .before .before .pre .inside, widest-small (stack-of (c .before .before .before .before .before .before .before .before .before .before .before .before .args .stack)) (c .before .before .before .before .before .before .before .before .before .before .before .before .pre .here .holding .held .good))) (omega (arith, c .before .before .before .before .before .before .before .before .before .before .before .before .pre .here .walking .from, c .before .before .before .before .before .before .before .before .before .before .before .before .pre .jumped)) (c .before .before .before .before .before .before .before .before .before .before .before .before .pre .here .holding .held) (c .before .before .before .before .before .before .evaluate .ensures) (omega (arith, c .before .before .before .before .before .before .before .before .before .before .before .before .pre .here .capped, c .before .before .before .before .before .before .before .before .before .before .before .before .pre .some)) (omega (arith, c .before .before .before .before .if1)))
 
 same-length : tie.Need-same-length
 same-length c = search needs

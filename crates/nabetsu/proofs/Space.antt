@@ -1,0 +1,36 @@
+-- The space that is enough for every table: an accepted text's stack is within the limits, so table-bytes bounds its table, and where that many bytes are
+-- given Table-says leaves no refusal but the text's. Assumes nothing.
+use mathlib.Core.Path.{_≡_, ap}
+use mathlib.Core.Bool.{true}
+use mathlib.Core.List.{List}
+use Prim.Native.Nat.{ℕ, _≤_}
+use native.Mathlib.Omega.{arith}
+use lib.Dec.{leb}
+use lib.ListN.{length}
+use borrow.Author.Tests.{le-leb}
+use Rattle.stack.specs.Stack.{Stack, Row, Rows-are}
+use Rattle.text.specs.Text.{Refusal, refusal, text-refusal, stack-in}
+use Rattle.text.specs.Outcome.{refusal-of}
+use Rattle.text.proofs.Within.{accepted-within}
+use Rattle.writing.specs.Output.{row-bytes, table-bytes}
+use Rattle.writing.specs.TableText.{table-text}
+use Rattle.table.proofs.Space.{rows-space}
+use Rattle.nabetsu.specs.Entry.{table-told, Fits, Tabled, Table-says}
+use Rattle.nabetsu.specs.Space.{Table-space, Space-enough}
+use Rattle.nabetsu.specs.declared.TableAnswer.{TableAnswer}
+use Rattle.nabetsu.proofs.Promises.{stack-within}
+
+pub table-space : Table-space
+unfolding Table-space table-bytes row-bytes
+table-space bs rs e a = rows-space (stack-in bs) (stack-within bs e) rs a
+
+-- a text that fits is written
+fits-fine : (t : List ℕ) (r : TableAnswer) (o x : List ℕ) → length t ≤ length o → Fits (leb (length t) (length o)) t r o x → refusal-of (r .outcome) .number ≡ 0
+unfolding Fits table-told refusal
+fits-fine t r o x h f = let told = rw (le-leb (length t) (length o) h) at f in ap (λ (f : Refusal). f .number) (told .0 .0)
+
+pub space-enough : (bs : List ℕ) (r : TableAnswer) (o x : List ℕ) → Table-says bs r o x → Space-enough 21082 bs r o
+unfolding Table-says Tabled Space-enough table-bytes row-bytes
+space-enough bs r o x says z l =
+    let t = rw z at says in
+    fits-fine (table-text (length (stack-in bs .channels)) (t .0)) r o x (omega (arith, rows-space (stack-in bs) (accepted-within bs z) (t .0) (t .1))) (t .2)

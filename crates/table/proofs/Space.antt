@@ -1,0 +1,147 @@
+-- A stated number of bytes, table-bytes, is enough for every table of a stack within document 01's limits. A separation above its channel's count of pairs
+-- could be cut down to that count, so in an answer none is; a position is within the spread, and no row's spread is past the sum of the lengths: so each row
+-- is within the limits of its numbers. Each further row has a smaller total than the row before it, and the first one's is at most 256: so there are at most
+-- 257 rows. Assumes nothing.
+use mathlib.Core.Path.{_≡_, refl}
+use mathlib.Core.Bool.{true, _&&_}
+use mathlib.Core.Logic.{_⊎_, inl, inr}
+use mathlib.Core.List.{List, [], _∷_}
+use Prim.Native.Nat.{ℕ, zero, suc, _+_, _*_, _≤_, _<_, min}
+use native.Mathlib.Omega.{arith}
+use lib.ListN.{length, getD}
+use borrow.Author.Tests.{leb-true}
+use Rattle.numbers.proofs.Bools.{ands, and-both, impossible}
+use Rattle.numbers.proofs.Orders.{le-or-lt}
+use Rattle.stack.specs.Stack.{Pair, Stack, Row, row, feasible, in-spread, channels-good, legal, sum, total, Answer, Stays, Rows-after, Rows-are}
+use Rattle.stack.specs.Limits.{channel-within, within-limits}
+use Rattle.stack.proofs.Within.{channel-in-limits, strips-count, channels-few}
+use Rattle.answer.proofs.Answers.{legal-lengths}
+use Rattle.rows.specs.Walk.{widest, rows-of}
+use Rattle.rows.proofs.Settled.{feasible-open, settled, widest-small, longest-widest}
+use Rattle.rows.proofs.Rows.{rows-are}
+use Rattle.writing.specs.Output.{row-bytes, table-bytes, Row-limited}
+use Rattle.writing.specs.TableText.{table-text}
+use Rattle.writing.proofs.Bounds.{table-below}
+
+-- separations cut down to their channels' counts of pairs: they are good too, sum to no more, and to as much only if none was above 32
+record Lowered (cs : List (List Pair)) (ts xs : List ℕ) : Type 0 where
+  pub us : List ℕ
+  pub good : channels-good cs us xs ≡ true
+  pub below : sum us ≤ sum ts
+  pub tight : sum ts ≤ sum us → (i : ℕ) → i < length ts → getD ts i 0 ≤ 32
+
+feasible-lowered : (c : List Pair) (t x y : ℕ) → feasible c t x y ≡ true → feasible c (min t (length c)) x y ≡ true
+feasible-lowered c t x y f = go (le-or-lt (length c) t)
+  where
+    go : (length c ≤ t) ⊎ (t < length c) → feasible c (min t (length c)) x y ≡ true
+    go (inl h) = feasible-open c (min t (length c)) x y (omega arith)
+    go (inr h) = let e : min t (length c) ≡ t = omega arith in rw e f
+
+lowered : (cs : List (List Pair)) (ts xs : List ℕ) → ((i : ℕ) → i < length cs → length (getD cs i []) ≤ 32) → channels-good cs ts xs ≡ true → Lowered cs ts xs
+unfolding channels-good sum
+lowered [] [] xs few g = record { us = []; good = refl; below = omega arith; tight = λ h i l. absurd (omega arith) }
+lowered [] (t ∷ ts) xs few g = impossible g
+lowered (c ∷ cs) [] xs few g = impossible g
+lowered (c ∷ cs) (t ∷ ts) [] few g = impossible g
+lowered (c ∷ cs) (t ∷ ts) (x ∷ xs) few g = go (lowered cs ts xs (λ i h. few (suc i) (omega arith)) (search ands))
+  where
+    go : Lowered cs ts xs → Lowered (c ∷ cs) (t ∷ ts) (x ∷ xs)
+    go r =
+        record {
+          us = min t (length c) ∷ r .us;
+          good = and-both (feasible c (min t (length c)) x (getD xs 0 0)) (channels-good cs (r .us) xs) (feasible-lowered c t x (getD xs 0 0) (search ands)) (r .good);
+          below = omega (arith, r .below);
+          tight = λ h i l. each i h l;
+        }
+      where
+        each : (i : ℕ) → t + sum ts ≤ min t (length c) + sum (r .us) → i < suc (length ts) → getD (t ∷ ts) i 0 ≤ 32
+        each zero h l = omega (arith, r .below, few 0 (omega arith))
+        each (suc i) h l = r .tight (omega arith) i (omega arith)
+
+sum-below : (ts : List ℕ) → ((i : ℕ) → i < length ts → getD ts i 0 ≤ 32) → sum ts ≤ 32 * length ts
+unfolding sum
+sum-below [] h = omega arith
+sum-below (t ∷ ts) h = omega (arith, h 0 (omega arith), sum-below ts (λ i l. h (suc i) (omega arith)))
+
+-- a position is at most the spread
+position-below : (s : ℕ) (ls xs : List ℕ) → in-spread s ls xs ≡ true → (i : ℕ) → i < length xs → getD xs i 0 ≤ s
+unfolding in-spread
+position-below s [] [] e i h = absurd (omega arith)
+position-below s [] (x ∷ xs) e i h = impossible e
+position-below s (l ∷ ls) [] e i h = impossible e
+position-below s (l ∷ ls) (x ∷ xs) e zero h = omega (arith, leb-true (x + l) s (search ands))
+position-below s (l ∷ ls) (x ∷ xs) e (suc i) h = position-below s ls xs (search ands) i (omega arith)
+
+module _ (k : Stack) (good : within-limits k ≡ true) where
+  pairs-few : (i : ℕ) → i < length (k .channels) → length (getD (k .channels) i []) ≤ 32
+  unfolding within-limits channel-within
+  pairs-few i h =
+      let w = channel-in-limits (k .strips) (k .channels) i (search ands) h in
+      leb-true (length (getD (k .channels) i [])) 32 (search ands)
+
+  -- no separation of an answer is above 32
+  separations-small : (s : ℕ) (ts xs : List ℕ) → Answer k s ts xs → (i : ℕ) → i < length ts → getD ts i 0 ≤ 32
+  unfolding legal
+  separations-small s ts xs a =
+      let g : (in-spread s (k .strips) xs && channels-good (k .channels) ts xs) ≡ true = a .is-legal in
+      let r = lowered (k .channels) ts xs pairs-few (search ands) in
+      r .tight (a .least (r .us) xs (and-both (in-spread s (k .strips) xs) (channels-good (k .channels) (r .us) xs) (search ands) (r .good)))
+
+  -- a row up to the sum of the lengths is within the limits of its numbers
+  row-limited : (r : Row) → r .spread ≤ widest k → Answer k (r .spread) (r .separations) (r .positions) → Row-limited r
+  unfolding legal total
+  row-limited r h a =
+      let n = legal-lengths k (r .spread) (r .separations) (r .positions) (a .is-legal) in
+      let g : (in-spread (r .spread) (k .strips) (r .positions) && channels-good (k .channels) (r .separations) (r .positions)) ≡ true = a .is-legal in
+      let wide = widest-small k good in
+      let ts = separations-small (r .spread) (r .separations) (r .positions) a in
+      record {
+        channels = omega (arith, channels-few k good);
+        strips = omega (arith, strips-count k good, channels-few k good);
+        spread-below = omega arith;
+        total-below = omega (arith, sum-below (r .separations) ts, channels-few k good);
+        separations-below = ts;
+        positions-below = λ i l. omega (arith, position-below (r .spread) (k .strips) (r .positions) (search ands) i l);
+      }
+
+  -- past the sum of the lengths nothing falls, so no row stands there
+  next-within : (r q : Row) → r .spread ≤ widest k → total q < total r → Stays k (r .spread) (q .spread) (total r) → Answer k (q .spread) (q .separations) (q .positions) → q .spread ≤ widest k
+  unfolding Stays total widest
+  next-within r q h f st a = go (le-or-lt (q .spread) (widest k))
+    where
+      go : (q .spread ≤ sum (k .strips)) ⊎ (sum (k .strips) < q .spread) → q .spread ≤ sum (k .strips)
+      go (inl m) = m
+      go (inr m) =
+          let z = settled k (q .spread) (q .separations) (q .positions) good (a .is-legal) in
+          absurd (omega (arith, st (sum (k .strips)) (q .separations) (z .0) h m (z .1)))
+
+  rows-few : (r : Row) (qs : List Row) → Rows-after k r qs → length qs ≤ total r
+  unfolding Rows-after
+  rows-few r [] a = omega arith
+  rows-few r (q ∷ qs) a = omega (arith, a .1, rows-few q qs (a .4))
+
+  rows-limited : (r : Row) (qs : List Row) → r .spread ≤ widest k → Rows-after k r qs → (i : ℕ) → i < length qs → Row-limited (getD qs i (row 0 [] []))
+  unfolding Rows-after
+  rows-limited r [] h a i l = absurd (omega arith)
+  rows-limited r (q ∷ qs) h a zero l = row-limited q (next-within r q h (a .1) (a .2) (a .3)) (a .3)
+  rows-limited r (q ∷ qs) h a (suc i) l = rows-limited q qs (next-within r q h (a .1) (a .2) (a .3)) (a .4) i (omega arith)
+
+  -- ENOUGH for the table of any list of the stack's rows
+  pub rows-space : (rs : List Row) → Rows-are k rs → length (table-text (length (k .channels)) rs) ≤ table-bytes
+  unfolding Rows-are table-bytes row-bytes
+  rows-space [] a = absurd a
+  rows-space (r ∷ qs) a = omega (arith, table-below (length (k .channels)) (r ∷ qs) (omega (arith, channels-few k good)) (λ i l. each i l), rows-few r qs (a .2), first .total-below)
+    where
+      near : r .spread ≤ widest k
+      near = omega (arith, a .0, longest-widest k)
+
+      first : Row-limited r
+      first = row-limited r near (a .1)
+
+      each : (i : ℕ) → i < suc (length qs) → Row-limited (getD (r ∷ qs) i (row 0 [] []))
+      each zero l = first
+      each (suc i) l = rows-limited r qs near (a .2) i (omega arith)
+
+  -- and so for the rows that the walk finds
+  pub table-space : length (table-text (length (k .channels)) (rows-of k)) ≤ table-bytes
+  table-space = rows-space (rows-of k) (rows-are k good)
