@@ -15,10 +15,15 @@ impl Random {
         self.0 % n
     }
 
-    /// As many rising terminals as a channel has pairs, from one column to another.
+    /// Rising terminals, as many as the limit of pairs, from one column to another.
     fn terminals(&mut self, from: u64, upto: u64) -> Vec<u64> {
+        self.some_terminals(PAIRS, from, upto)
+    }
+
+    /// So many rising terminals from one column to another.
+    fn some_terminals(&mut self, pairs: usize, from: u64, upto: u64) -> Vec<u64> {
         let mut all: Vec<u64> = (from..=upto).collect();
-        while all.len() > PAIRS {
+        while all.len() > pairs {
             all.remove(self.below(all.len() as u64) as usize);
         }
         all
@@ -88,6 +93,16 @@ fn loose() -> String {
     };
     let channels: Vec<_> = (0..CHANNELS).map(|_| (edge(), edge())).collect();
     text(&[1000; CHANNELS + 1], &channels)
+}
+
+/// So many channels of so many pairs between strips of one length; terminals as in `skewed`: within an eighth of the length at opposite ends.
+pub fn sized(channels: usize, pairs: usize, length: u64) -> String {
+    let mut random = Random(7);
+    let bunch = length / 8;
+    let all: Vec<_> = (0..channels)
+        .map(|_| (random.some_terminals(pairs, 0, bunch), random.some_terminals(pairs, length - bunch, length)))
+        .collect();
+    text(&vec![length; channels + 1], &all)
 }
 
 pub fn all() -> [(&'static str, String); 5] {

@@ -1,4 +1,4 @@
-//! `table` and `spread` print what the proved programs print; `generate` makes the inputs of the comparison.
+//! `table` and `spread` print what the proved programs print; `generate` and `sized` make the inputs of the comparison.
 
 mod inputs;
 mod solver;
@@ -7,7 +7,8 @@ use std::io::{Read, Write};
 
 const USAGE: &str = "usage: plain table < STACK
        plain spread SPREAD < STACK
-       plain generate FOLDER";
+       plain generate FOLDER
+       plain sized CHANNELS PAIRS LENGTH";
 
 fn read_input() -> Vec<u8> {
     let mut input = Vec::new();
@@ -48,6 +49,9 @@ fn run(words: &[String]) -> Option<Vec<u8>> {
                 std::fs::write(format!("{}/{}.stack", folder, name), text).expect("a folder to write in");
             }
             Some(Vec::new())
+        }
+        [command, channels, pairs, length] if command == "sized" => {
+            Some(inputs::sized(channels.parse().ok()?, pairs.parse().ok()?, length.parse().ok()?).into_bytes())
         }
         _ => None,
     }

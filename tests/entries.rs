@@ -1,0 +1,314 @@
+//! The three entries of the proved library on texts whose answers are written out here, from document 01. It stops at the first difference.
+
+#[allow(dead_code)]
+#[path = "../reference/channel.rs"]
+mod channel;
+mod library;
+#[allow(dead_code)]
+#[path = "../reference/reader.rs"]
+mod reader;
+#[allow(dead_code)]
+#[path = "../reference/specimens.rs"]
+mod specimens;
+
+use reader::Refusal;
+
+const A: &str = "STACK\t1\nPART\t4\nPART\t4\nNETS\t0\t2\t2\t4\n";
+
+fn code(r: Refusal) -> u64 {
+    ((r.0 as u64) << 40) + ((r.1 as u64) << 20) + r.2 as u64
+}
+
+fn fail(what: &str, text: &[u8], found: String, due: String) -> ! {
+    println!("{}: found {}, due {}; the text:\n{}", what, found, due, text.escape_ascii());
+    std::process::exit(1);
+}
+
+fn same<T: PartialEq + std::fmt::Debug>(what: &str, text: &[u8], found: T, due: T) {
+    if found != due {
+        fail(what, text, format!("{:?}", found), format!("{:?}", due));
+    }
+}
+
+/// The table in a space of 255s: its code, and the space behind it.
+fn table_in(text: &[u8], space: usize) -> (u64, Vec<u8>) {
+    let mut output = vec![255; space];
+    let told = library::write_table(text, &mut output);
+    (told, output)
+}
+
+/// A table with zeros behind it in every longer space, and short space with zeros in every shorter one.
+fn check_table(name: &str, text: &[u8], table: &str) {
+    let length = table.len();
+    for space in [0, 1, length - 1, length, length + 1, length + 100, 21082] {
+        let due = if space < length { (code((8, 0, 0)), vec![0; space]) } else { (length as u64, [table.as_bytes(), &vec![0; space - length]].concat()) };
+        same(&format!("{}, table in {} bytes", name, space), text, table_in(text, space), due);
+    }
+}
+
+/// A refused text: all three entries say so, with zeros in every other place.
+fn check_refused(name: &str, text: &[u8], due: Refusal) {
+    same(&format!("{}, the independent reader", name), text, reader::read(text).map(|_| ()), Err(due));
+    for space in [0, 1, 50, 300] {
+        same(&format!("{}, table in {} bytes", name, space), text, table_in(text, space), (code(due), vec![0; space]));
+    }
+    for spread in [0, 4, 1000, u32::MAX] {
+        let mut answer = [255; 18];
+        let told = library::answer_spread(text, spread, &mut answer);
+        same(&format!("{}, spread {}", name, spread), text, (told, answer), (code(due), [0; 18]));
+        same(&format!("{}, trial at {}", name, spread), text, library::try_placement(text, spread, &[0; 17]), code(due));
+    }
+}
+
+/// The answer for a spread: total, separations, positions.
+fn check_answer(name: &str, text: &str, spread: u32, total: u32, separations: &[u32], positions: &[u32]) {
+    let mut due = [0; 18];
+    due[0] = total;
+    due[1..=separations.len()].copy_from_slice(separations);
+    due[9..9 + positions.len()].copy_from_slice(positions);
+    let mut answer = [255; 18];
+    let told = library::answer_spread(text.as_bytes(), spread, &mut answer);
+    same(&format!("{} at {}", name, spread), text.as_bytes(), (told, answer), (0, due));
+    let mut placement = [0; 17];
+    placement.copy_from_slice(&due[1..]);
+    same(&format!("{} at {}, trial", name, spread), text.as_bytes(), library::try_placement(text.as_bytes(), spread, &placement), 1);
+}
+
+fn check_narrow(name: &str, text: &str, spread: u32) {
+    let mut answer = [255; 18];
+    let told = library::answer_spread(text.as_bytes(), spread, &mut answer);
+    same(&format!("{} at {}", name, spread), text.as_bytes(), (told, answer), (code((7, 0, 0)), [0; 18]));
+}
+
+/// A text of k channels without pairs between strips of one length.
+fn bare(k: usize, length: u32) -> String {
+    format!("STACK\t{}\n{}{}", k, format!("PART\t{}\n", length).repeat(k + 1), "NETS\n".repeat(k))
+}
+
+/// A line put in place of line n, from 1, of A.
+fn with_line(n: usize, line: &str) -> Vec<u8> {
+    let mut lines: Vec<&str> = A.lines().collect();
+    lines[n - 1] = line;
+    (lines.join("\n") + "\n").into_bytes()
+}
+
+fn with_byte(n: usize, line: &str, byte: u8) -> Vec<u8> {
+    let mut text = with_line(n, line);
+    let at = text.iter().position(|b| *b == b'?').expect("a place for the byte");
+    text[at] = byte;
+    text
+}
+
+/// As many bytes as asked for: A with further lines behind it.
+fn long_text(bytes: usize) -> Vec<u8> {
+    let mut text = A.as_bytes().to_vec();
+    text.resize(bytes, b'\n');
+    text
+}
+
+/// Texts that document 01 refuses: number, line and field.
+fn refused() -> Vec<(&'static str, Vec<u8>, Refusal)> {
+    let mut all = vec![
+        ("E: empty text", Vec::new(), (2, 1, 0)),
+        ("F: length 0", with_line(2, "PART\t0"), (4, 2, 2)),
+        ("G: overhang on the upper strip", with_line(4, "NETS\t0\t2\t2\t5"), (5, 4, 5)),
+        ("H: crossing", with_line(4, "NETS\t0\t2\t0\t4"), (6, 4, 4)),
+        ("33 pairs", specimens::tabbed(&specimens::pairs(33)).into_bytes(), (3, 4, 66)),
+        ("33 pairs that cross", format!("STACK\t1\nPART\t40\nPART\t40\nNETS{}\n", "\t1\t1".repeat(33)).into_bytes(), (3, 4, 66)),
+        ("length 1,001", with_line(3, "PART\t1001"), (4, 3, 2)),
+        ("8,193 bytes", long_text(8193), (1, 0, 0)),
+        ("100,000 bytes of 255", vec![255; 100_000], (1, 0, 0)),
+        ("8,192 bytes with extra lines", long_text(8192), (2, 5, 0)),
+        ("a lone line feed", b"\n".to_vec(), (2, 1, 0)),
+        ("a lone zero byte", vec![0], (2, 1, 0)),
+        ("a lone word", b"STACK".to_vec(), (2, 1, 0)),
+        ("only the first line", b"STACK\t1\n".to_vec(), (2, 2, 0)),
+        ("no channel", with_line(1, "STACK\t0"), (3, 1, 2)),
+        ("nine channels", with_line(1, "STACK\t9"), (3, 1, 2)),
+        ("9,999 channels", with_line(1, "STACK\t9999"), (3, 1, 2)),
+        ("STACK in small letters", with_line(1, "stack\t1"), (2, 1, 0)),
+        ("STACK with a letter more", with_line(1, "STACKS\t1"), (2, 1, 0)),
+        ("STACK with a letter less", with_line(1, "STAC\t1"), (2, 1, 0)),
+        ("STACK with a space", with_line(1, "STACK 1"), (2, 1, 0)),
+        ("STACK with two numbers", with_line(1, "STACK\t1\t1"), (2, 1, 0)),
+        ("STACK without a number", with_line(1, "STACK"), (2, 1, 0)),
+        ("STACK with an empty field", with_line(1, "STACK\t"), (2, 1, 0)),
+        ("STACK with a leading zero", with_line(1, "STACK\t01"), (2, 1, 0)),
+        ("STACK with five digits", with_line(1, "STACK\t10000"), (2, 1, 0)),
+        ("STACK with a sign", with_line(1, "STACK\t+1"), (2, 1, 0)),
+        ("an empty line first", [b"\n", A.as_bytes()].concat(), (2, 1, 0)),
+        ("PART for STACK", with_line(1, "PART\t1"), (2, 1, 0)),
+        ("wrong word for PART", with_line(2, "PORT\t4"), (2, 2, 0)),
+        ("NETS for PART", with_line(3, "NETS\t4"), (2, 3, 0)),
+        ("PART without a number", with_line(2, "PART"), (2, 2, 0)),
+        ("PART with an empty field", with_line(2, "PART\t"), (2, 2, 0)),
+        ("PART with two numbers", with_line(3, "PART\t4\t4"), (2, 3, 0)),
+        ("PART with a tab behind", with_line(2, "PART\t4\t"), (2, 2, 0)),
+        ("PART with two tabs", with_line(2, "PART\t\t4"), (2, 2, 0)),
+        ("PART with a leading zero", with_line(2, "PART\t04"), (2, 2, 0)),
+        ("PART with 00", with_line(2, "PART\t00"), (2, 2, 0)),
+        ("PART with five digits", with_line(3, "PART\t00004"), (2, 3, 0)),
+        ("PART with 9,999", with_line(2, "PART\t9999"), (4, 2, 2)),
+        ("an empty line for PART", with_line(3, ""), (2, 3, 0)),
+        ("a PART line less", b"STACK\t1\nPART\t4\nNETS\t0\t2\t2\t4\n".to_vec(), (2, 3, 0)),
+        ("wrong word for NETS", with_line(4, "NET\t0\t2\t2\t4"), (2, 4, 0)),
+        ("NETS with an odd number of terminals", with_line(4, "NETS\t0\t2\t2"), (2, 4, 0)),
+        ("NETS with a tab alone", with_line(4, "NETS\t"), (2, 4, 0)),
+        ("NETS with an empty field", with_line(4, "NETS\t0\t\t2\t4"), (2, 4, 0)),
+        ("NETS with a tab behind", with_line(4, "NETS\t0\t2\t2\t4\t"), (2, 4, 0)),
+        ("NETS with a leading zero", with_line(4, "NETS\t0\t02\t2\t4"), (2, 4, 0)),
+        ("NETS with five digits", with_line(4, "NETS\t0\t2\t2\t40000"), (2, 4, 0)),
+        ("NETS: overhang on the lower strip", with_line(4, "NETS\t5\t2"), (5, 4, 2)),
+        ("NETS: equal terminals below", with_line(4, "NETS\t0\t2\t0\t3"), (6, 4, 4)),
+        ("NETS: equal terminals above", with_line(4, "NETS\t0\t2\t1\t2"), (6, 4, 5)),
+        ("NETS: falling terminals above", with_line(4, "NETS\t0\t2\t1\t1"), (6, 4, 5)),
+        ("no NETS line", b"STACK\t1\nPART\t4\nPART\t4\n".to_vec(), (2, 4, 0)),
+        ("an extra line", [A.as_bytes(), b"NETS\n"].concat(), (2, 5, 0)),
+        ("an extra empty line", [A.as_bytes(), b"\n"].concat(), (2, 5, 0)),
+        ("an extra unended line", [A.as_bytes(), b"x"].concat(), (2, 5, 0)),
+        ("unended NETS", A.as_bytes()[..A.len() - 1].to_vec(), (2, 4, 0)),
+        ("unended PART", b"STACK\t1\nPART\t4\nPART\t4".to_vec(), (2, 3, 0)),
+        ("unended STACK", b"STACK\t1".to_vec(), (2, 1, 0)),
+        ("crossing at an earlier field than overhang", with_line(4, "NETS\t3\t2\t2\t1\t9\t3"), (6, 4, 4)),
+        ("overhang and crossing of one field", with_line(4, "NETS\t0\t4\t9\t3"), (5, 4, 4)),
+        ("crossing, then overhang", with_line(4, "NETS\t0\t2\t0\t9"), (6, 4, 4)),
+        ("layout before overhang in a line", with_line(4, "NETS\t9\t9\t9"), (2, 4, 0)),
+        ("length before a later layout", [&with_line(2, "PART\t0")[..A.len() - 5], b"x"].concat(), (4, 2, 2)),
+        ("NETS fault before the extra line", [&with_line(4, "NETS\t0\t5")[..], b"NETS\n"].concat(), (5, 4, 3)),
+        ("crowd before length", b"STACK\t9\nPART\t0\n".to_vec(), (3, 1, 2)),
+        ("layout of STACK before crowd", b"STACK\t9\t1\n".to_vec(), (2, 1, 0)),
+        ("fault of the second channel", b"STACK\t2\nPART\t4\nPART\t4\nPART\t2\nNETS\t0\t4\nNETS\t4\t3\n".to_vec(), (5, 6, 3)),
+        ("eight channels, one PART less", format!("STACK\t8\n{}{}", "PART\t1\n".repeat(8), "NETS\n".repeat(8)).into_bytes(), (2, 10, 0)),
+        ("eight channels, an extra line", (bare(8, 1) + "NETS\n").into_bytes(), (2, 19, 0)),
+    ];
+    for (name, byte) in [("byte 0", 0), ("byte 13", 13), ("byte 32", 32), ("byte 255", 255)] {
+        all.push((name, with_byte(1, "STACK\t1?", byte), (2, 1, 0)));
+        all.push((name, with_byte(1, "STAC?\t1", byte), (2, 1, 0)));
+        all.push((name, with_byte(2, "PART\t4?", byte), (2, 2, 0)));
+        all.push((name, with_byte(3, "PAR?\t4", byte), (2, 3, 0)));
+        all.push((name, with_byte(4, "NETS\t0\t2\t2\t?", byte), (2, 4, 0)));
+        all.push((name, with_byte(4, "?NETS", byte), (2, 4, 0)));
+    }
+    all
+}
+
+/// Texts that are accepted, with their tables.
+fn accepted() -> Vec<(&'static str, Vec<u8>, String)> {
+    let mut all = Vec::new();
+    for (name, text, table) in specimens::TABLES.iter().filter(|s| s.2.starts_with("TABLE")) {
+        all.push((*name, specimens::tabbed(text).into_bytes(), specimens::tabbed(table)));
+    }
+    let pairs = specimens::tabbed(&specimens::pairs(32)).into_bytes();
+    all.push(("32 pairs", pairs, "TABLE\t1\nROW\t40\t0\t0\t0\t0\n".to_string()));
+    let zeros = "\t0".repeat(8 + 9 + 1);
+    all.push(("eight channels of length 1,000", bare(8, 1000).into_bytes(), format!("TABLE\t8\nROW\t1000{}\n", zeros)));
+    all.push(("eight channels of length 1", bare(8, 1).into_bytes(), format!("TABLE\t8\nROW\t1{}\n", zeros)));
+    all
+}
+
+/// A longer table and then a shorter one in the same space.
+fn check_reused_space() {
+    let (b, c) = (specimens::tabbed(specimens::TABLES[1].1), specimens::tabbed(specimens::TABLES[2].1));
+    let (longer, shorter) = (specimens::tabbed(specimens::TABLES[1].2), specimens::tabbed(specimens::TABLES[2].2));
+    let mut output = [255; 200];
+    same("B", b.as_bytes(), library::write_table(b.as_bytes(), &mut output), longer.len() as u64);
+    same("C in B's space", c.as_bytes(), library::write_table(c.as_bytes(), &mut output), shorter.len() as u64);
+    same("C in B's space", c.as_bytes(), &output[..shorter.len()], shorter.as_bytes());
+    same("behind C in B's space", c.as_bytes(), output[shorter.len()..].iter().all(|b| *b == 0), true);
+}
+
+fn check_answers() {
+    let (b, c, d) = (specimens::tabbed(specimens::TABLES[1].1), specimens::tabbed(specimens::TABLES[2].1), specimens::tabbed(specimens::TABLES[3].1));
+    for spread in 0..4 {
+        check_narrow("A", A, spread);
+        check_narrow("B", &b, spread);
+    }
+    for (spread, total, position) in [(4, 2, 0), (5, 1, 1), (6, 0, 2), (7, 0, 2), (100, 0, 2), (u32::MAX, 0, 2)] {
+        check_answer("A", A, spread, total, &[total], &[position, 0]);
+    }
+    for (spread, total, separations, positions) in [
+        (4, 4, [2, 2], [0, 0, 0]),
+        (5, 3, [1, 2], [1, 0, 0]),
+        (6, 2, [0, 2], [2, 0, 0]),
+        (7, 1, [0, 1], [3, 1, 0]),
+        (8, 0, [0, 0], [4, 2, 0]),
+        (9, 0, [0, 0], [4, 2, 0]),
+        (u32::MAX, 0, [0, 0], [4, 2, 0]),
+    ] {
+        check_answer("B", &b, spread, total, &separations, &positions);
+    }
+    let tie = [1, 1, 0, 0, 0, 0, 0, 0, 2, 1, 0, 0, 0, 0, 0, 0, 0];
+    same("B at 6: separations 1, 1 are legal too", b.as_bytes(), library::try_placement(b.as_bytes(), 6, &tie), 1);
+    check_narrow("C", &c, 4);
+    for spread in [5, 6, 1000] {
+        check_answer("C", &c, spread, 0, &[0], &[0, 0]);
+    }
+    check_answer("D", &d, 1, 1, &[1], &[0, 0]);
+    for spread in [2, 3, u32::MAX] {
+        check_answer("D", &d, spread, 0, &[0], &[0, 1]);
+    }
+}
+
+/// Trials at the ends of every range, and numbers in unused places.
+fn check_trials() {
+    let answer = [0, 0, 0, 0, 0, 0, 0, 0, 2, 0, 0, 0, 0, 0, 0, 0, 0];
+    let judge = |name: &str, spread: u32, places: &[(usize, u32)], due: u64| {
+        let mut placement = answer;
+        for (at, v) in places {
+            placement[*at] = *v;
+        }
+        same(name, A.as_bytes(), library::try_placement(A.as_bytes(), spread, &placement), due);
+    };
+    judge("A's answer at 6", 6, &[], 1);
+    judge("a spread less", 5, &[], 2);
+    judge("at spread 0", 0, &[], 2);
+    judge("a position more", 7, &[(8, 3)], 2);
+    judge("a position less", 6, &[(8, 1)], 2);
+    judge("the offset turned", 6, &[(8, 0), (9, 2)], 2);
+    judge("a separation of 2 at any offset", 6, &[(0, 2), (8, 0)], 1);
+    judge("the greatest separation", 6, &[(0, u32::MAX)], 1);
+    judge("the greatest position", u32::MAX, &[(8, u32::MAX)], 2);
+    judge("the greatest position that lies within", u32::MAX, &[(8, u32::MAX - 4), (9, u32::MAX - 6)], 1);
+    for place in (1..8).chain(10..17) {
+        judge("an unused place that is not zero", 6, &[(place, 1)], 2);
+        judge("an unused place that is not zero", 6, &[(place, u32::MAX)], 2);
+    }
+    for count in [0, 16, 18] {
+        let placement = vec![0; count];
+        same("another count of numbers", A.as_bytes(), library::try_numbers(A.as_bytes(), 6, &placement), 2);
+    }
+}
+
+/// An output of another length than eighteen: short space, or zeros behind.
+fn check_spaces() {
+    for length in [0, 1, 17, 18, 19, 40] {
+        let mut output = vec![255; length];
+        let told = library::answer_in(A.as_bytes(), 6, &mut output);
+        let mut due = vec![0; length];
+        if length >= 18 {
+            due[9] = 2;
+        }
+        same("A at 6 in another space", A.as_bytes(), (told, output), (if length < 18 { code((8, 0, 0)) } else { 0 }, due));
+    }
+    let mut output = [255; 3];
+    same("narrow before short space", A.as_bytes(), library::answer_in(A.as_bytes(), 3, &mut output), code((7, 0, 0)));
+    same("narrow before short space", A.as_bytes(), output, [0; 3]);
+}
+
+fn main() {
+    let (refused, accepted) = (refused(), accepted());
+    for (name, text, due) in &refused {
+        check_refused(name, text, *due);
+    }
+    for (name, text, table) in &accepted {
+        same(&format!("{}, the independent reader", name), text, reader::read(text).is_ok(), true);
+        check_table(name, text, table);
+    }
+    same("A's table", A.as_bytes(), table_in(A.as_bytes(), 51).0, 50);
+    same("A's table in 49 bytes", A.as_bytes(), table_in(A.as_bytes(), 49), (code((8, 0, 0)), vec![0; 49]));
+    check_reused_space();
+    check_answers();
+    check_trials();
+    check_spaces();
+    println!("entries: {} refused texts, {} tables, answers and trials of the specimens: no difference", refused.len(), accepted.len());
+}
