@@ -6,7 +6,7 @@ ghost use mathlib.Core.List.{_∷_, _++_};
 ghost use Rattle.text.specs.Outcome.{refusal-of};
 ghost use mathlib.Core.Path.{_≡_};
 ghost use Rattle.nabetsu.specs.Best.{Spread-best};
-ghost use Rattle.nabetsu.specs.Parts.{Refused-answer, Numbers-tried};
+ghost use Rattle.nabetsu.specs.Parts.{Refused-answer, Refused-table, Numbers-tried};
 ghost use Rattle.nabetsu.specs.Space.{Space-enough};
 use answer::answer;
 use stack::Columns;
@@ -77,6 +77,17 @@ pub struct TableAnswer {
     pub written: usize,
 }
 
+// A refused table: zeros in the whole output.
+fn refused_table(outcome: Outcome, output: &mut [u8]) -> TableAnswer
+    ensures { λ r. ⌜ Refused-table outcome (now (output .entry)) (now (output .exit)) r ⌝ }
+{
+    clear_from(output, 0);
+    TableAnswer {
+        outcome,
+        written: 0,
+    }
+}
+
 // Document 01, "Sent back at the counter": the table of the stack in a text with zeros behind it, or the first refusal that applies, 1 to 6, then 8, and
 // zeros in the whole output.
 pub fn write_table(text: &[u8], output: &mut [u8]) -> TableAnswer
@@ -86,19 +97,11 @@ pub fn write_table(text: &[u8], output: &mut [u8]) -> TableAnswer
     let reading = read_stack(text);
     let outcome = reading.outcome;
     if !outcome.is_accepted() {
-        clear_from(output, 0);
-        return TableAnswer {
-            outcome,
-            written: 0,
-        };
+        return refused_table(outcome, output);
     }
     let written = put_table(reading.stack, output);
     if output.len() < written {
-        clear_from(output, 0);
-        return TableAnswer {
-            outcome: Outcome::refused(Refusal::ShortSpace, 0, 0),
-            written: 0,
-        };
+        return refused_table(Outcome::refused(Refusal::ShortSpace, 0, 0), output);
     }
     clear_from(output, written);
     TableAnswer { outcome, written }

@@ -13,38 +13,38 @@ read-stack-requires c κs = search needs
 is-accepted-requires : tie.Need-is-accepted-requires
 is-accepted-requires c κs = search needs
 
-clear-from-requires : tie.Need-clear-from-requires
-clear-from-requires c κs = search needs
+refused-table-requires : tie.Need-refused-table-requires
+refused-table-requires c κs = search needs
 
 same-length : tie.Need-same-length
 same-length c = search needs
 
 returns : tie.Need-returns
-returns c = let says = table-refused (c .before .before .before .before .before .before .before .before .before .args .text .now) (c .before .before .before .before .before .before .read-stack .result) (c .before .before .before .before .before .before .read-stack .ensures) _ _ (c .before .before .before .before .before .before .before .before .before .args .output .now) _ refl (sym (c .before .before .before .before .before .is-accepted .ensures) ∙ not-true _ (c .before .before .before .before .if1 .taken)) refl refl (c .before .before .clear-from .ensures) in (says, space-enough _ _ _ _ says)
+returns c = let says = table-refused (c .before .before .before .before .before .before .before .before .before .args .text .now) (c .before .before .before .before .before .before .read-stack .result) (c .before .before .before .before .before .before .read-stack .ensures) _ _ (c .before .before .before .before .before .before .before .before .before .args .output .now) _ refl (sym (c .before .before .before .before .before .is-accepted .ensures) ∙ not-true _ (c .before .before .before .before .if1 .taken)) (c .before .before .refused-table .ensures) in (says, space-enough _ _ _ _ says)
 
 put-table-requires : tie.Need-put-table-requires
 put-table-requires c κs = c .before .before .before .read-stack .ensures .within
 
-clear-from-requires-2 : tie.Need-clear-from-requires-2
-clear-from-requires-2 c κs = search needs
-
 refused-requires : tie.Need-refused-requires
 refused-requires c κs = search needs
+
+refused-table-requires-2 : tie.Need-refused-table-requires-2
+refused-table-requires-2 c κs = search needs
 
 same-length-2 : tie.Need-same-length-2
 same-length-2 c = search needs
 
 returns-2 : tie.Need-returns-2
-returns-2 c = let says = table-short (c .before .before .before .before .before .before .before .before .before .before .before .before .before .before .before .args .text .now) (c .before .before .before .before .before .before .before .before .before .before .before .before .read-stack .result) (c .before .before .before .before .before .before .before .before .before .before .before .before .read-stack .ensures) _ _ _ _ (c .before .before .before .before .before .before .before .output2 .given) (sym (c .before .before .before .before .before .before .before .before .before .before .before .is-accepted .ensures) ∙ not-false _ (c .before .before .before .before .before .before .before .before .before .before .if1 .left)) (c .before .before .before .before .before .before .before .before .put-table .result) (c .before .before .before .before .before .before .before .before .put-table .ensures) (c .before .before .before .before .before .if2 .taken) (c .refused .ensures) refl (c .before .before .before .clear-from2 .ensures) in (says, space-enough _ _ _ _ says)
+returns-2 c = let says = table-short (c .before .before .before .before .before .before .before .before .before .before .before .before .before .before .before .args .text .now) (c .before .before .before .before .before .before .before .before .before .before .before .before .read-stack .result) (c .before .before .before .before .before .before .before .before .before .before .before .before .read-stack .ensures) _ _ _ _ (c .before .before .before .before .before .before .before .output2 .given) (sym (c .before .before .before .before .before .before .before .before .before .before .before .is-accepted .ensures) ∙ not-false _ (c .before .before .before .before .before .before .before .before .before .before .if1 .left)) (c .before .before .before .before .before .before .before .before .put-table .result) (c .before .before .before .before .before .before .before .before .put-table .ensures) (c .before .before .before .before .refused .result) (c .before .before .before .before .before .if2 .taken) (c .before .before .before .before .refused .ensures) (c .before .before .refused-table2 .ensures) in (says, space-enough _ _ _ _ says)
 
-clear-from-requires-3 : tie.Need-clear-from-requires-3
-clear-from-requires-3 c κs = search needs
+clear-from-requires : tie.Need-clear-from-requires
+clear-from-requires c κs = search needs
 
 same-length-3 : tie.Need-same-length-3
 same-length-3 c = search needs
 
 returns-3 : tie.Need-returns-3
-returns-3 c = let says = table-fits (c .before .before .before .before .before .before .before .before .before .before .before .before .before .before .args .text .now) (c .before .before .before .before .before .before .before .before .before .before .before .read-stack .result) (c .before .before .before .before .before .before .before .before .before .before .before .read-stack .ensures) _ _ _ _ (c .before .before .before .before .before .before .output2 .given) (sym (c .before .before .before .before .before .before .before .before .before .before .is-accepted .ensures) ∙ not-false _ (c .before .before .before .before .before .before .before .before .before .if1 .left)) (c .before .before .before .before .before .before .before .put-table .result) (c .before .before .before .before .before .before .before .put-table .ensures) (c .before .before .before .before .if2 .left) refl refl (c .before .before .clear-from3 .ensures) in (says, space-enough _ _ _ _ says)
+returns-3 c = let says = table-fits (c .before .before .before .before .before .before .before .before .before .before .before .before .before .before .args .text .now) (c .before .before .before .before .before .before .before .before .before .before .before .read-stack .result) (c .before .before .before .before .before .before .before .before .before .before .before .read-stack .ensures) _ _ _ _ (c .before .before .before .before .before .before .output2 .given) (sym (c .before .before .before .before .before .before .before .before .before .before .is-accepted .ensures) ∙ not-false _ (c .before .before .before .before .before .before .before .before .before .if1 .left)) (c .before .before .before .before .before .before .before .put-table .result) (c .before .before .before .before .before .before .before .put-table .ensures) (c .before .before .before .before .if2 .left) refl refl (c .before .before .clear-from .ensures) in (says, space-enough _ _ _ _ says)
 
 pub write-table-spec : {M : Type 1} → statement M
 write-table-spec =
@@ -52,14 +52,14 @@ write-table-spec =
     (tie.spec
     read-stack-requires
     is-accepted-requires
-    clear-from-requires
+    refused-table-requires
     same-length
     returns
     put-table-requires
-    clear-from-requires-2
     refused-requires
+    refused-table-requires-2
     same-length-2
     returns-2
-    clear-from-requires-3
+    clear-from-requires
     same-length-3
     returns-3)
