@@ -13,12 +13,12 @@ use Rattle.stack.specs.Stack.{Pair, Stack, stack, in-spread, channels-good, leg
 use Rattle.stack.specs.Limits.{channels-within, within-limits}
 use Rattle.channel.specs.Limits.{low-limit, high-limit}
 use Rattle.channel.proofs.Between.{low-open, high-open}
-use Rattle.solver.specs.Spans.{Span, In, Fits}
-use Rattle.solver.specs.Solver.{Level, most, separations, positions, least-total}
-use Rattle.solver.specs.Placed.{Placed, alone, under, Widening, Exactly, Best}
-use Rattle.solver.proofs.Total.{least-total-at-most, least-total-reached}
-use Rattle.solver.proofs.Best.{best, chosen}
-use Rattle.solver.proofs.Order.{not-later-both}
+use Rattle.spans.specs.Spans.{Span, In, Fits}
+use Rattle.spans.specs.Solver.{Level, most, separations, positions, least-total}
+use Rattle.spans.specs.Placed.{Placed, alone, under, Widening, Exactly, Best}
+use Rattle.spans.proofs.Total.{least-total-at-most, least-total-reached}
+use Rattle.spans.proofs.Best.{best, chosen}
+use Rattle.spans.proofs.Order.{not-later-both}
 use Rattle.answer.specs.Solve.{window, channel-limits, stack-levels, bottom, levels-of, total-with, separations-with, positions-with, answer-total, answer-separations, answer-positions}
 use Rattle.answer.proofs.Legal.{in-window, legal-placed, placed-legal, stack-widening, channel-fits-open}
 

@@ -16,11 +16,11 @@ use Rattle.stack.specs.Limits.{rising, on-strips, channel-within, channels-with
 use Rattle.stack.proofs.OnStrips.{terminals-on}
 use Rattle.channel.specs.Limits.{low-limit, low-term, high-limit, Between}
 use Rattle.channel.proofs.Between.{Biased, greatest-at-most, feasible-between, between-feasible, low-widens, high-widens, low-open, high-open}
-use Rattle.solver.specs.Spans.{Span, span, In, Fits, Limit, last, low-at, high-at}
-use Rattle.solver.specs.Solver.{Level, level}
-use Rattle.solver.specs.Placed.{Placed, alone, under, Widens, Widening, none, more}
+use Rattle.spans.specs.Spans.{Span, span, In, Fits, Limit, last, low-at, high-at}
+use Rattle.spans.specs.Solver.{Level, level}
+use Rattle.spans.specs.Placed.{Placed, alone, under, Widens, Widening, none, more}
 use Rattle.solver.specs.Arrays.{limits-from}
-use Rattle.solver.proofs.Limits.{low-capped, high-capped}
+use Rattle.spans.proofs.Limits.{low-capped, high-capped}
 use Rattle.solver.proofs.Levels.{last-of, low-at-of, high-at-of}
 use Rattle.answer.specs.Solve.{window, channel-limits, stack-levels}
 

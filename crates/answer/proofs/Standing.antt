@@ -22,8 +22,8 @@ use Rattle.stack.proofs.Within.{strips-length, channel-in-limits, stack-channel
 use Rattle.channel.specs.Limits.{low-limit, high-limit, Limits-of}
 use Rattle.channel.proofs.Between.{high-bounded}
 use Rattle.channel.specs.declared.Limits.{Limits}
-use Rattle.solver.specs.Spans.{span}
-use Rattle.solver.specs.Solver.{level, most, least-total}
+use Rattle.spans.specs.Spans.{span}
+use Rattle.spans.specs.Solver.{level, most, least-total}
 use Rattle.solver.specs.Scan.{sums, Counts-ask, Scan-asks, Scan-is}
 use Rattle.solver.specs.declared.Scan.{Scan}
 use Rattle.solver.specs.declared.Placement.{Placement}

@@ -5,8 +5,8 @@ use Prim.Native.Nat.{ℕ, suc, _+_, _-_}
 use lib.ListN.{length, getD, drop}
 use Rattle.stack.specs.Stack.{Pair, Stack}
 use Rattle.channel.specs.Limits.{low-limit, high-limit}
-use Rattle.solver.specs.Spans.{Span, span, Limit}
-use Rattle.solver.specs.Solver.{Level, level, least-total, separations, positions}
+use Rattle.spans.specs.Spans.{Span, span, Limit}
+use Rattle.spans.specs.Solver.{Level, level, least-total, separations, positions}
 use Rattle.solver.specs.Arrays.{limits-from}
 
 -- the WINDOW of a strip: its positions within the spread

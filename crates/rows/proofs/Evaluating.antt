@@ -9,7 +9,7 @@ use Rattle.stack.specs.Stack.{longest}
 use Rattle.stack.specs.Value.{stack-of}
 use Rattle.stack.specs.declared.Stack.{Stack as Stack-struct}
 use Rattle.stack.proofs.Within.{stack-channels}
-use Rattle.solver.specs.Solver.{most}
+use Rattle.spans.specs.Solver.{most}
 use Rattle.solver.specs.Arrays.{bias, strips-held, totals-held, levels, Stack-asks, Place-asks, Separate-asks, Placement-is}
 use Rattle.solver.specs.Scan.{sums, Scan-asks, Scan-is}
 use Rattle.solver.specs.declared.Scan.{Scan}

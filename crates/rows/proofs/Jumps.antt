@@ -14,14 +14,14 @@ use Rattle.numbers.proofs.Bools.{ands, impossible}
 use Rattle.numbers.proofs.Orders.{le-or-lt}
 use Rattle.stack.specs.Stack.{Pair, Stack, stack, Row, sum, longest, in-spread, legal, p-at, Answer}
 use Rattle.stack.specs.Limits.{channel-within, channels-within, within-limits}
-use Rattle.solver.specs.Spans.{Span, span, In, low-at, nonempty}
-use Rattle.solver.specs.Solver.{Level, level, most, back, first, first-total, least-total}
-use Rattle.solver.specs.Placed.{Placed}
-use Rattle.solver.specs.Jump.{widened, widened-levels, Grows, Roomy, None-within}
-use Rattle.solver.proofs.First.{first-least}
-use Rattle.solver.proofs.Total.{least-total-at-most}
-use Rattle.solver.proofs.Back.{back-complete}
-use Rattle.solver.proofs.Jump.{back-grows}
+use Rattle.spans.specs.Spans.{Span, span, In, low-at, nonempty}
+use Rattle.spans.specs.Solver.{Level, level, most, back, first, first-total, least-total}
+use Rattle.spans.specs.Placed.{Placed}
+use Rattle.spans.specs.Jump.{widened, widened-levels, Grows, Roomy, None-within}
+use Rattle.spans.proofs.First.{first-least}
+use Rattle.spans.proofs.Total.{least-total-at-most}
+use Rattle.spans.proofs.Back.{back-complete}
+use Rattle.spans.proofs.Jump.{back-grows}
 use Rattle.answer.specs.Solve.{window, channel-limits, stack-levels, bottom, levels-of, total-with, separations-with, positions-with, answer-total, answer-separations, answer-positions}
 use Rattle.answer.proofs.Legal.{channel-low, low-bounded, legal-placed, stack-widening}
 use Rattle.answer.proofs.Answers.{longest-bounds, counts-of, zeros-of, some-placed, answer-with, sum-with, answer-alone, answer-there, answer-sum, total-any-bias}

@@ -9,13 +9,13 @@ use Rattle.numbers.proofs.Orders.{le-or-lt}
 use mathlib.Core.Logic.{_⊎_, inl, inr}
 use Rattle.stack.specs.Stack.{Stack, longest}
 use Rattle.stack.specs.Limits.{within-limits}
-use Rattle.solver.specs.Spans.{nonempty}
-use Rattle.solver.specs.Solver.{most, back, first, first-total, least-total}
-use Rattle.solver.specs.Jump.{None-within}
+use Rattle.spans.specs.Spans.{nonempty}
+use Rattle.spans.specs.Solver.{most, back, first, first-total, least-total}
+use Rattle.spans.specs.Jump.{None-within}
 use Rattle.solver.specs.Arrays.{bias, Given, window-of, level-of, levels}
 use Rattle.solver.specs.Scan.{short-of, Scan-is}
 use Rattle.solver.specs.declared.Scan.{Scan}
-use Rattle.solver.proofs.First.{first-upto, first-holds, first-least}
+use Rattle.spans.proofs.First.{first-upto, first-holds, first-least}
 use Rattle.answer.specs.Solve.{bottom, levels-of, total-with, answer-total}
 use Rattle.answer.proofs.Answers.{total-most, total-any-bias}
 use Rattle.answer.proofs.Standing.{Stands, levels-are, bottom-is}

@@ -8,8 +8,8 @@ use lib.ListN.{length, getD, set, length-set, List·getD-map}
 use lib.Seq.{getD-set-same, getD-set-other}
 use Rattle.stack.specs.declared.Tracks.{Tracks}
 use Rattle.numbers.proofs.Orders.{lt-or-eq}
-use Rattle.solver.specs.Spans.{Span, span, cut, shift-back}
-use Rattle.solver.specs.Solver.{fixed}
+use Rattle.spans.specs.Spans.{Span, span, cut, shift-back}
+use Rattle.spans.specs.Solver.{fixed}
 use Rattle.solver.specs.Arrays.{bias, strips-held, separations-held, entry, spans-of, Given, low-of, high-of, count-of, window-of, levels, Stack-asks, tracks, taken, fixed-from, Starts-are}
 use Rattle.solver.specs.Loops.{Fixing}
 use Rattle.solver.proofs.Levels.{low-at-any, high-at-any}

@@ -7,10 +7,10 @@ use native.Mathlib.Omega.{arith}
 use native.Mathlib.Nat.{add-zero, add-suc, suc-add}
 use lib.Dec.{leb}
 use lib.ListN.{length, getD}
-use Rattle.solver.specs.Spans.{Span, span, Limit, limit, last, low-at, high-at, cut, shift-on, nonempty, join-if, gather}
-use Rattle.solver.specs.Solver.{Level, first, opens, first-open, least-open, most, start, stop, cell, back, serves, first-serving, least-serving, forward}
-use Rattle.solver.proofs.Limits.{low-capped, high-capped}
-use Rattle.solver.proofs.First.{first-hit, first-miss}
+use Rattle.spans.specs.Spans.{Span, span, Limit, limit, last, low-at, high-at, cut, shift-on, nonempty, join-if, gather}
+use Rattle.spans.specs.Solver.{Level, first, opens, first-open, least-open, most, start, stop, cell, back, serves, first-serving, least-serving, forward}
+use Rattle.spans.proofs.Limits.{low-capped, high-capped}
+use Rattle.spans.proofs.First.{first-hit, first-miss}
 use Rattle.solver.specs.Arrays.{bias, entry, Given, low-of, high-of, count-of, window-of, limits-from, level-of, levels}
 
 module _ (low high : ℕ → ℕ) where

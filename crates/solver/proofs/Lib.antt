@@ -1,14 +1,4 @@
 -- The theorems of the solver.
-pub mod Spans
-pub mod First
-pub mod Limits
-pub mod Back
-pub mod Total
-pub mod Order
-pub mod Separations
-pub mod Positions
-pub mod Best
-pub mod Jump
 pub mod Loops
 pub mod Tables
 pub mod Levels
@@ -19,4 +9,3 @@ pub mod Stored
 pub mod Placing
 pub mod Scanning
 pub mod Scans
-pub mod TwoSpans

@@ -7,10 +7,10 @@ use native.Mathlib.Numerals.{add-one}
 use native.Mathlib.Omega.{arith}
 use lib.Dec.{ltb}
 use borrow.Author.Tests.{lt-ltb, le-ltb}
-use Rattle.solver.specs.Spans.{Span, span, cut, shift-on, nonempty}
-use Rattle.solver.specs.Solver.{opens, first, first-open, first-total, stop, serves, first-serving}
+use Rattle.spans.specs.Spans.{Span, span, cut, shift-on, nonempty}
+use Rattle.spans.specs.Solver.{opens, first, first-open, first-total, stop, serves, first-serving}
 use Rattle.solver.specs.Loops.{Searching}
-use Rattle.solver.proofs.First.{first-hit, first-miss}
+use Rattle.spans.proofs.First.{first-hit, first-miss}
 
 pub one-left : (stop q : ℕ) → q < stop → suc (stop - suc q) ≡ stop - q
 one-left stop q h = omega arith

@@ -4,9 +4,9 @@ use mathlib.Core.List.{List, [], _∷_}
 use Prim.Native.Nat.{ℕ, zero, suc, _+_, _-_, _*_, _≤_, _<_, min, max}
 use native.Mathlib.Omega.{arith}
 use lib.ListN.{length, replicate, getD-replicate, length-replicate}
-use Rattle.solver.specs.Spans.{Span, span, nonempty}
-use Rattle.solver.specs.Solver.{Level, first, first-open, most, cell, back, first-total, least-total, forward, separations, lowest, positions-on, positions}
-use Rattle.solver.specs.Placed.{Placed, Exactly, Widening, Chosen}
+use Rattle.spans.specs.Spans.{Span, span, nonempty}
+use Rattle.spans.specs.Solver.{Level, first, first-open, most, cell, back, first-total, least-total, forward, separations, lowest, positions-on, positions}
+use Rattle.spans.specs.Placed.{Placed, Exactly, Widening, Chosen}
 use Rattle.solver.specs.Arrays.{bias, channels-held, strips-held, totals-held, entry, spans-of, row, Sized, span-in, Given, low-of, high-of, count-of, window-of, level-of, levels, Stack-asks, Filled, Separate-asks, store, taken, padded, Position-asks, least-total-of, separations-of, Place-asks, Placement-is, tracks, columns}
 use Rattle.solver.specs.Scan.{Scan-asks, Scan-is}
 use Rattle.solver.specs.declared.Scan.{Scan}
@@ -14,7 +14,7 @@ use Rattle.solver.specs.declared.Placement.{Placement}
 use Rattle.solver.proofs.Levels.{last-of, first-same, cell-back, back-ends}
 use Rattle.solver.proofs.Separating.{most-small}
 use Rattle.solver.proofs.Stored.{store-padded, taken-padded}
-use Rattle.solver.proofs.Best.{chosen, placed-lengths}
+use Rattle.spans.proofs.Best.{chosen, placed-lengths}
 
 -- tables of zeros
 abbrev zeros : ℕ → List ℕ

@@ -5,13 +5,13 @@ use Prim.Native.Nat.{ℕ, zero, suc, _+_, _-_, _*_, _≤_, _<_, min, max}
 use native.Mathlib.Numerals.{add-one}
 use native.Mathlib.Omega.{arith}
 use lib.ListN.{set, replicate}
-use Rattle.solver.specs.Spans.{Span, low-at}
-use Rattle.solver.specs.Solver.{Level, fixed, lowest, positions-on, positions}
-use Rattle.solver.specs.Placed.{Placed, under}
+use Rattle.spans.specs.Spans.{Span, low-at}
+use Rattle.spans.specs.Solver.{Level, fixed, lowest, positions-on, positions}
+use Rattle.spans.specs.Placed.{Placed, under}
 use Rattle.solver.specs.Arrays.{bias, strips-held, entry, row, Given, low-of, high-of, count-of, window-of, level-of, levels, Stack-asks, taken, fixed-from, Starts-are, store, Next-asks, Position-asks}
 use Rattle.solver.specs.Loops.{Positioning}
-use Rattle.solver.proofs.Separations.{bottom-in}
-use Rattle.solver.proofs.Positions.{lowest-placed}
+use Rattle.spans.proofs.Separations.{bottom-in}
+use Rattle.spans.proofs.Positions.{lowest-placed}
 use Rattle.solver.proofs.Levels.{low-at-any}
 
 above-placed : {b : ℕ} {w : Span} {c : Level} {cs : List Level} {t x y : ℕ} {ts ys : List ℕ} → Placed b w (c ∷ cs) (t ∷ ts) x (y ∷ ys) → Placed b (c .window) cs ts y ys

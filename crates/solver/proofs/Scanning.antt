@@ -10,14 +10,14 @@ use lib.Dec.{ltb}
 use lib.ListN.{getD, set}
 use borrow.Author.Tests.{lt-ltb, le-ltb}
 use Rattle.numbers.proofs.Orders.{lt-or-eq, eq-or-not}
-use Rattle.solver.specs.Spans.{Span, span, nonempty}
-use Rattle.solver.specs.Solver.{start, stop, cell}
-use Rattle.solver.specs.Jump.{min-if, max-if, nearest, furthest, between, shortfall, near-of, reach-of, cell-short}
+use Rattle.spans.specs.Spans.{Span, span, nonempty}
+use Rattle.spans.specs.Solver.{start, stop, cell}
+use Rattle.spans.specs.Jump.{min-if, max-if, nearest, furthest, between, shortfall, near-of, reach-of, cell-short}
 use Rattle.solver.specs.Arrays.{bias, entry, spans-of, row}
 use Rattle.solver.specs.Scan.{put, Ends-ask, Ends-are, Stretching, Strip-asks, Strip-done}
 use Rattle.solver.specs.declared.Ends.{Ends}
 use Rattle.solver.proofs.Loops.{one-left, none-left}
-use Rattle.solver.proofs.Jump.{cell-ends}
+use Rattle.spans.proofs.Jump.{cell-ends}
 
 -- one span taken in, or left out
 module _ (b near reach from upto low high : ℕ) where

@@ -12,9 +12,9 @@ use lib.ListN.{length, set, replicate, length-set, length-replicate, getD-replic
 use lib.Seq.{getD-set-same, getD-set-other}
 use borrow.Author.Tests.{eqb-true, eqb-false}
 use Rattle.numbers.proofs.Orders.{lt-or-eq, eq-or-not, le-or-lt}
-use Rattle.solver.specs.Spans.{Span, span, nonempty}
-use Rattle.solver.specs.Solver.{first, first-open, most, start, stop, cell, back, first-total}
-use Rattle.solver.specs.Jump.{nearest, furthest, near-of, reach-of, shortfall, cell-short, short-at, None-within}
+use Rattle.spans.specs.Spans.{Span, span, nonempty}
+use Rattle.spans.specs.Solver.{first, first-open, most, start, stop, cell, back, first-total}
+use Rattle.spans.specs.Jump.{nearest, furthest, near-of, reach-of, shortfall, cell-short, short-at, None-within}
 use Rattle.solver.specs.Arrays.{bias, channels-held, strips-held, separations-held, totals-held, entry, spans-of, row, Sized, span-in, Given, low-of, high-of, count-of, window-of, level-of, levels, Stack-asks, Filled}
 use Rattle.solver.specs.Scan.{put, Strip-asks, Strip-done, jump-if, short-of, sums, Sums-are, Leasts-are, Counts-ask, Scanning, Total-asks, Scan-asks, Scan-is}
 use Rattle.solver.specs.Loops.{Searching}

@@ -6,9 +6,9 @@ use lib.ListN.{length, getD, set, replicate}
 use Rattle.stack.specs.declared.Tracks.{Tracks}
 use Rattle.stack.specs.declared.Columns.{Columns}
 use Rattle.solver.specs.declared.Placement.{Placement}
-use Rattle.solver.specs.Spans.{Span, span, Limit, limit}
-use Rattle.solver.specs.Solver.{Level, level, most, back, least-total, separations, fixed, positions}
-use Rattle.solver.specs.Placed.{Placed, Exactly, Widening}
+use Rattle.spans.specs.Spans.{Span, span, Limit, limit}
+use Rattle.spans.specs.Solver.{Level, level, most, back, least-total, separations, fixed, positions}
+use Rattle.spans.specs.Placed.{Placed, Exactly, Widening}
 
 -- the code's bias, Stack::BIAS
 abbrev pub bias : ℕ

@@ -4,9 +4,9 @@ use mathlib.Core.Bool.{Bool}
 use mathlib.Core.List.{List}
 use Prim.Native.Nat.{ℕ, suc, _+_, _-_, _*_, _≤_, _<_}
 use lib.ListN.{replicate}
-use Rattle.solver.specs.Spans.{Span}
-use Rattle.solver.specs.Solver.{first, most, separations, positions-on, positions}
-use Rattle.solver.specs.Placed.{Placed}
+use Rattle.spans.specs.Spans.{Span}
+use Rattle.spans.specs.Solver.{first, most, separations, positions-on, positions}
+use Rattle.spans.specs.Placed.{Placed}
 use Rattle.solver.specs.Arrays.{bias, channels-held, strips-held, Given, window-of, levels, Filled, store, taken, fixed-from, Starts-are}
 
 -- a search for the first number below stop at which f is true, at q

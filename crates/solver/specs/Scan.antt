@@ -6,9 +6,9 @@ use mathlib.Core.List.{List, []}
 use Prim.Native.Nat.{ℕ, zero, suc, _+_, _-_, _*_, _≤_, _<_, min}
 use lib.Dec.{eqb}
 use lib.ListN.{length, getD, set}
-use Rattle.solver.specs.Spans.{Span, span}
-use Rattle.solver.specs.Solver.{first-open, most, cell, back, first-total}
-use Rattle.solver.specs.Jump.{nearest, furthest, cell-short, short-at}
+use Rattle.spans.specs.Spans.{Span, span}
+use Rattle.spans.specs.Solver.{first-open, most, cell, back, first-total}
+use Rattle.spans.specs.Jump.{nearest, furthest, cell-short, short-at}
 use Rattle.solver.specs.Arrays.{bias, channels-held, strips-held, separations-held, totals-held, entry, spans-of, row, Sized, span-in, Given, low-of, high-of, count-of, window-of, level-of, levels, Stack-asks, Filled}
 use Rattle.solver.specs.declared.Ends.{Ends}
 use Rattle.solver.specs.declared.Scan.{Scan}

@@ -9,10 +9,10 @@ ghost use mathlib.Core.Path.{_≡_};
 ghost use Prim.Native.Nat.{_+_, _-_, _*_, _≤_, _<_, min, max};
 ghost use lib.ListN.{replicate};
 ghost use lib.Dec.{ltb, eqb};
-ghost use Rattle.solver.specs.Spans.{span, cut, shift-back, shift-on};
-ghost use Rattle.solver.specs.Jump.{min-if, max-if};
+ghost use Rattle.spans.specs.Spans.{span, cut, shift-back, shift-on};
+ghost use Rattle.spans.specs.Jump.{min-if, max-if};
 ghost use Rattle.solver.specs.Scan.{Ends-ask, Ends-are, Strip-asks, Strip-done, Counts-ask, sums, Sums-are, Leasts-are, jump-if, Total-asks, Scanning, Scan-asks, Scan-is};
-ghost use Rattle.solver.specs.Solver.{first-open, start, stop, first-serving, separations, positions};
+ghost use Rattle.spans.specs.Solver.{first-open, start, stop, first-serving, separations, positions};
 ghost use Rattle.solver.specs.Arrays.{bias, channels-held, strips-held, separations-held, entry, spans-of, given, Serve-asks, window-of, levels, tracks, store, Separate-asks, Stack-asks, Starts-are, Next-asks, Position-asks, columns, taken, Place-asks, Placement-is};
 
 const SEPARATIONS: usize = Stack::MAX_SEPARATION + 1;

@@ -1,6 +1,6 @@
 -- backward meets its contract: the window cut to the positions below a span. Assumes nothing.
 use mathlib.Core.Path.{ap₂}
-use Rattle.solver.specs.Spans.{span}
+use Rattle.spans.specs.Spans.{span}
 use borrow.Author.Needs.{needs}
 use Rattle.solver.proofs.backward.Statement.{statement}
 use Rattle.solver.proofs.backward.Tie as tie

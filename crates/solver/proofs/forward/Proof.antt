@@ -1,6 +1,6 @@
 -- forward meets its contract: the window cut to the positions above a span. Assumes nothing.
 use mathlib.Core.Path.{ap₂}
-use Rattle.solver.specs.Spans.{span}
+use Rattle.spans.specs.Spans.{span}
 use borrow.Author.Needs.{needs}
 use Rattle.solver.proofs.forward.Statement.{statement}
 use Rattle.solver.proofs.forward.Tie as tie

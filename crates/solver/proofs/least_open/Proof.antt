@@ -3,7 +3,7 @@ use Prim.Native.Nat.{suc, _-_}
 use native.Mathlib.Omega.{arith}
 use borrow.Author.Tests.{le-leb, lt-leb}
 use Rattle.solver.specs.Arrays.{entry}
-use Rattle.solver.specs.Solver.{opens, first-open}
+use Rattle.spans.specs.Solver.{opens, first-open}
 use Rattle.solver.specs.Loops.{Searching}
 use Rattle.solver.proofs.Loops.{opening-start, searching-hit, searching-miss, searching-end}
 use borrow.Author.Needs.{needs}

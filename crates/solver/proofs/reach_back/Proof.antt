@@ -1,7 +1,7 @@
 -- reach_back meets its contract: the loop keeps Stretching. Assumes nothing.
 use Prim.Native.Nat.{ℕ, _-_, _≤_}
 use native.Mathlib.Omega.{arith}
-use Rattle.solver.specs.Jump.{nearest, furthest}
+use Rattle.spans.specs.Jump.{nearest, furthest}
 use Rattle.solver.specs.Arrays.{bias, entry, spans-of}
 use Rattle.solver.specs.Scan.{Stretching}
 use Rattle.solver.proofs.Scanning.{stretching-starts, stretching-steps, stretching-ends}

@@ -2,8 +2,8 @@
 use mathlib.Core.Path.{refl}
 use Prim.Native.Nat.{suc, _+_, _-_, _≤_}
 use native.Mathlib.Omega.{arith}
-use Rattle.solver.specs.Spans.{nonempty}
-use Rattle.solver.specs.Solver.{back, first-total}
+use Rattle.spans.specs.Spans.{nonempty}
+use Rattle.spans.specs.Solver.{back, first-total}
 use Rattle.solver.specs.Arrays.{bias, given, window-of, levels}
 use Rattle.solver.specs.Loops.{Searching}
 use Rattle.solver.specs.Scan.{Scanning}

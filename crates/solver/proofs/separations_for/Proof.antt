@@ -2,7 +2,7 @@
 use Prim.Native.Nat.{_-_}
 use native.Mathlib.Omega.{arith}
 use Rattle.numbers.proofs.Lists.{map-set}
-use Rattle.solver.specs.Spans.{span}
+use Rattle.spans.specs.Spans.{span}
 use Rattle.solver.specs.Arrays.{given, tracks}
 use Rattle.solver.specs.Loops.{Separating}
 use Rattle.solver.proofs.Separating.{pass-on-asks, separating-start, separating-asks, separation-small, above-holds, separating-step, separating-end}

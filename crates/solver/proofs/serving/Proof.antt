@@ -1,8 +1,8 @@
 -- serving meets its contract: the least separation that serves with a total. Assumes nothing.
 use Prim.Native.Nat.{_-_, _≤_}
 use native.Mathlib.Omega.{arith}
-use Rattle.solver.specs.Spans.{span}
-use Rattle.solver.specs.Solver.{first-open, stop, serves, first-serving}
+use Rattle.spans.specs.Spans.{span}
+use Rattle.spans.specs.Solver.{first-open, stop, serves, first-serving}
 use Rattle.solver.specs.Arrays.{bias, entry, spans-of}
 use Rattle.solver.specs.Loops.{Searching}
 use Rattle.solver.proofs.Loops.{serving-start, serves-full, serves-empty, searching-hit, searching-miss, searching-end}

@@ -3,7 +3,7 @@ use mathlib.Core.Path.{refl}
 use Prim.Native.Nat.{_-_}
 use native.Mathlib.Omega.{arith}
 use lib.ListN.{replicate}
-use Rattle.solver.specs.Spans.{span}
+use Rattle.spans.specs.Spans.{span}
 use Rattle.solver.specs.Arrays.{strips-held, given, tracks}
 use Rattle.solver.specs.Loops.{Fixing}
 use Rattle.solver.proofs.Fixing.{track-at, fixing-start, fixing-asks, fixing-step, fixing-end}

@@ -8,11 +8,11 @@ use Prim.Native.Nat.{ℕ, suc, _+_, _-_, _≤_, _<_, min, max}
 use native.Mathlib.Omega.{arith}
 use Rattle.stack.specs.Stack.{sum}
 use Rattle.numbers.proofs.Orders.{le-or-lt}
-use Rattle.solver.specs.Spans.{Span, span, In, Fits, Limit, last, low-at, high-at, cut, gather}
-use Rattle.solver.specs.Solver.{Level, least-open, most, start, stop, cell, back}
-use Rattle.solver.specs.Placed.{Placed, alone, under, Can, Widens, Widening, none, more}
-use Rattle.solver.proofs.Limits.{fits-wider, fits-capped, least-open-least, open-on}
-use Rattle.solver.proofs.Spans.{Partner, Among, Inside, Touch, Touching, shift-back-sound, shift-back-complete, fits-open, cut-both, cut-left, cut-right, in-nonempty, gather-complete, gather-sound}
+use Rattle.spans.specs.Spans.{Span, span, In, Fits, Limit, last, low-at, high-at, cut, gather}
+use Rattle.spans.specs.Solver.{Level, least-open, most, start, stop, cell, back}
+use Rattle.spans.specs.Placed.{Placed, alone, under, Can, Widens, Widening, none, more}
+use Rattle.spans.proofs.Limits.{fits-wider, fits-capped, least-open-least, open-on}
+use Rattle.spans.proofs.Spans.{Partner, Among, Inside, Touch, Touching, shift-back-sound, shift-back-complete, fits-open, cut-both, cut-left, cut-right, in-nonempty, gather-complete, gather-sound}
 
 -- a placement whose first separation, cut down to the last of its list, is t, and whose others sum to u, counts at a separation q in the range of use
 record In-range (t p stop q o u v : ℕ) : Type 0 where

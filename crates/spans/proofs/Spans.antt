@@ -7,7 +7,7 @@ use Prim.Native.Nat.{ℕ, zero, suc, _+_, _-_, _≤_, _<_, min, max}
 use native.Mathlib.Omega.{arith}
 use borrow.Author.Tests.{ltb-true, ltb-false, lt-ltb}
 use Rattle.numbers.proofs.Orders.{le-or-lt, lt-or-eq}
-use Rattle.solver.specs.Spans.{Span, span, In, Fits, cut, shift-back, shift-on, nonempty, join, join-if, gather}
+use Rattle.spans.specs.Spans.{Span, span, In, Fits, cut, shift-back, shift-on, nonempty, join, join-if, gather}
 
 -- a position of the other strip, within the limit
 pub record Partner (b l r : ℕ) (s : Span) (x : ℕ) : Type 0 where

@@ -10,9 +10,9 @@ use native.Mathlib.Omega.{arith}
 use lib.Dec.{ltb}
 use borrow.Author.Tests.{ltb-true, ltb-false, lt-ltb, le-ltb}
 use Rattle.numbers.proofs.Orders.{le-or-lt}
-use Rattle.solver.specs.Spans.{Span, span, Limit, last, low-at, high-at, cut, nonempty, join-if, gather}
-use Rattle.solver.specs.Solver.{Level, level, least-open, most, start, stop, cell, back}
-use Rattle.solver.specs.Jump.{widened, widened-levels, min-if, max-if, nearest, furthest, between, shortfall, near-of, reach-of, cell-short, short-at, Grows, Roomy, None-within}
+use Rattle.spans.specs.Spans.{Span, span, Limit, last, low-at, high-at, cut, nonempty, join-if, gather}
+use Rattle.spans.specs.Solver.{Level, level, least-open, most, start, stop, cell, back}
+use Rattle.spans.specs.Jump.{widened, widened-levels, min-if, max-if, nearest, furthest, between, shortfall, near-of, reach-of, cell-short, short-at, Grows, Roomy, None-within}
 
 -- a start that is no more than another may be taken later
 nearest-min : (b : ℕ) (high : ℕ → ℕ) (f : ℕ → Span) (q n a t : ℕ) → nearest b high f q n (min a t) ≡ min a (nearest b high f q n t)

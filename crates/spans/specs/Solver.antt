@@ -7,7 +7,7 @@ use mathlib.Core.Bool.{Bool, true, false}
 use mathlib.Core.List.{List, [], _∷_}
 use Prim.Native.Nat.{ℕ, zero, suc, _+_, _-_, min, max}
 use lib.Dec.{leb}
-use Rattle.solver.specs.Spans.{Span, span, Limit, last, low-at, high-at, cut, shift-back, shift-on, nonempty, gather}
+use Rattle.spans.specs.Spans.{Span, span, Limit, last, low-at, high-at, cut, shift-back, shift-on, nonempty, gather}
 
 -- a LEVEL: a channel's limits, and the window of the strip on top of that channel. A stack is its bottom strip's window and its levels
 pub record Level : Type 0 where

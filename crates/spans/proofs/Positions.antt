@@ -6,11 +6,11 @@ use mathlib.Core.List.{List, [], _∷_}
 use Prim.Native.Nat.{ℕ, _+_, _-_, _≤_, _<_, max}
 use native.Mathlib.Omega.{arith}
 use Rattle.stack.specs.Stack.{not-later}
-use Rattle.solver.specs.Spans.{Span, In, Fits, low-at, high-at}
-use Rattle.solver.specs.Solver.{Level, fixed, lowest, positions-on}
-use Rattle.solver.specs.Placed.{Placed, alone, under}
-use Rattle.solver.proofs.Order.{not-later-step}
-use Rattle.solver.proofs.Spans.{leftmost, shift-back-complete, fits-open, cut-both, cut-left, cut-right}
+use Rattle.spans.specs.Spans.{Span, In, Fits, low-at, high-at}
+use Rattle.spans.specs.Solver.{Level, fixed, lowest, positions-on}
+use Rattle.spans.specs.Placed.{Placed, alone, under}
+use Rattle.spans.proofs.Order.{not-later-step}
+use Rattle.spans.proofs.Spans.{leftmost, shift-back-complete, fits-open, cut-both, cut-left, cut-right}
 
 module _ (b : ℕ) where
   -- a placement's bottom strip is in the span

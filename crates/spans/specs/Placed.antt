@@ -4,8 +4,8 @@ use mathlib.Core.Bool.{true}
 use mathlib.Core.List.{List, [], _∷_}
 use Prim.Native.Nat.{ℕ, _≤_}
 use Rattle.stack.specs.Stack.{sum, not-later}
-use Rattle.solver.specs.Spans.{Span, In, Fits, Limit, low-at, high-at}
-use Rattle.solver.specs.Solver.{Level}
+use Rattle.spans.specs.Spans.{Span, In, Fits, Limit, low-at, high-at}
+use Rattle.spans.specs.Solver.{Level}
 
 -- a PLACEMENT of the bottom strip, whose window is w, and the levels: separations ts, the bottom strip at x, the strips above it at ys.
 -- Each position is in its window, and each channel's offset is within its limit

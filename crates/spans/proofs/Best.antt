@@ -8,13 +8,13 @@ use Prim.Native.Nat.{ℕ, suc, _≤_}
 use native.Mathlib.Omega.{arith}
 use lib.ListN.{length}
 use Rattle.stack.specs.Stack.{sum, not-later}
-use Rattle.solver.specs.Spans.{Span}
-use Rattle.solver.specs.Solver.{Level, most, least-total, separations, lowest, positions-on}
-use Rattle.solver.specs.Placed.{Placed, alone, under, Exactly, Widening, Chosen, Best}
-use Rattle.solver.proofs.Order.{not-later-both}
-use Rattle.solver.proofs.Total.{no-smaller-total, least-total-at-most, least-total-reached}
-use Rattle.solver.proofs.Separations.{First-with, separations-first}
-use Rattle.solver.proofs.Positions.{lowest-placed, lowest-first}
+use Rattle.spans.specs.Spans.{Span}
+use Rattle.spans.specs.Solver.{Level, most, least-total, separations, lowest, positions-on}
+use Rattle.spans.specs.Placed.{Placed, alone, under, Exactly, Widening, Chosen, Best}
+use Rattle.spans.proofs.Order.{not-later-both}
+use Rattle.spans.proofs.Total.{no-smaller-total, least-total-at-most, least-total-reached}
+use Rattle.spans.proofs.Separations.{First-with, separations-first}
+use Rattle.spans.proofs.Positions.{lowest-placed, lowest-first}
 
 module _ (b : ℕ) (w : Span) where
   -- first separations with some placement become the chosen placement

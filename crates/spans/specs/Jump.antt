@@ -5,8 +5,8 @@ use mathlib.Core.Path.{_≡_}
 use mathlib.Core.Bool.{Bool, true, false}
 use mathlib.Core.List.{List, [], _∷_}
 use Prim.Native.Nat.{ℕ, zero, suc, _+_, _*_, _-_, _≤_, _<_, min, max}
-use Rattle.solver.specs.Spans.{Span, span, last, low-at, high-at, nonempty}
-use Rattle.solver.specs.Solver.{Level, level, least-open, most, start, stop, back}
+use Rattle.spans.specs.Spans.{Span, span, last, low-at, high-at, nonempty}
+use Rattle.spans.specs.Solver.{Level, level, least-open, most, start, stop, back}
 
 -- a window in a spread wider by d
 abbrev pub widened : (d : ℕ) → Span → Span

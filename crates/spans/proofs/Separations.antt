@@ -10,14 +10,14 @@ use lib.Dec.{ltb, eqb}
 use borrow.Author.Tests.{lt-ltb, le-ltb, eq-eqb}
 use Rattle.stack.specs.Stack.{sum, not-later}
 use Rattle.numbers.proofs.Orders.{lt-or-eq}
-use Rattle.solver.specs.Spans.{Span, In, Fits, last, low-at, high-at, cut, shift-on, nonempty}
-use Rattle.solver.specs.Solver.{Level, least-open, most, stop, back, serves, first-serving, least-serving, forward, separations}
-use Rattle.solver.specs.Placed.{Placed, alone, under, Can, Widens, Widening, none, more}
-use Rattle.solver.proofs.Order.{not-later-step}
-use Rattle.solver.proofs.First.{first-from, first-holds, first-least}
-use Rattle.solver.proofs.Limits.{fits-wider, fits-capped, least-open-least, open-on}
-use Rattle.solver.proofs.Spans.{Partner-below, shift-on-sound, shift-on-complete, fits-open, cut-both, cut-left, cut-right, in-nonempty, nonempty-in}
-use Rattle.solver.proofs.Back.{Capped, capped, back-complete, back-sound}
+use Rattle.spans.specs.Spans.{Span, In, Fits, last, low-at, high-at, cut, shift-on, nonempty}
+use Rattle.spans.specs.Solver.{Level, least-open, most, stop, back, serves, first-serving, least-serving, forward, separations}
+use Rattle.spans.specs.Placed.{Placed, alone, under, Can, Widens, Widening, none, more}
+use Rattle.spans.proofs.Order.{not-later-step}
+use Rattle.spans.proofs.First.{first-from, first-holds, first-least}
+use Rattle.spans.proofs.Limits.{fits-wider, fits-capped, least-open-least, open-on}
+use Rattle.spans.proofs.Spans.{Partner-below, shift-on-sound, shift-on-complete, fits-open, cut-both, cut-left, cut-right, in-nonempty, nonempty-in}
+use Rattle.spans.proofs.Back.{Capped, capped, back-complete, back-sound}
 
 -- the bottom strip's window may be any that holds its position
 pub in-window : {b : ℕ} {w : Span} {cs : List Level} {ts : List ℕ} {x : ℕ} {ys : List ℕ} → (f : Span) → In f x → Placed b w cs ts x ys → Placed b f cs ts x ys

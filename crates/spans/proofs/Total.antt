@@ -6,13 +6,13 @@ use mathlib.Core.List.{List, [], _∷_}
 use Prim.Native.Nat.{ℕ, suc, _+_, _-_, _≤_}
 use native.Mathlib.Omega.{arith}
 use Rattle.stack.specs.Stack.{sum}
-use Rattle.solver.specs.Spans.{Span, In, nonempty}
-use Rattle.solver.specs.Solver.{Level, most, back, first-total, least-total}
-use Rattle.solver.specs.Placed.{Placed, under, Can, Exactly, Widening, more}
-use Rattle.solver.proofs.First.{first-holds, first-least}
-use Rattle.solver.proofs.Limits.{fits-wider}
-use Rattle.solver.proofs.Spans.{in-nonempty, nonempty-in}
-use Rattle.solver.proofs.Back.{Capped, capped, back-complete, back-sound}
+use Rattle.spans.specs.Spans.{Span, In, nonempty}
+use Rattle.spans.specs.Solver.{Level, most, back, first-total, least-total}
+use Rattle.spans.specs.Placed.{Placed, under, Can, Exactly, Widening, more}
+use Rattle.spans.proofs.First.{first-holds, first-least}
+use Rattle.spans.proofs.Limits.{fits-wider}
+use Rattle.spans.proofs.Spans.{in-nonempty, nonempty-in}
+use Rattle.spans.proofs.Back.{Capped, capped, back-complete, back-sound}
 
 -- what can be placed with at most v can be placed with v: the first separation is raised by what is left
 pub raise : (b : ℕ) (w : Span) (c : Level) (cs : List Level) (v x : ℕ) → Widening (c ∷ cs) → Can b w (c ∷ cs) v x → Exactly b w (c ∷ cs) v

@@ -5,7 +5,7 @@ use mathlib.Core.Logic.{_⊎_, inl, inr}
 use Prim.Native.Nat.{ℕ, zero, suc, _+_, _≤_, _<_}
 use native.Mathlib.Omega.{arith}
 use Rattle.numbers.proofs.Orders.{lt-or-eq}
-use Rattle.solver.specs.Solver.{first}
+use Rattle.spans.specs.Solver.{first}
 
 module _ (f : ℕ → Bool) where
   pub first-hit : (q n : ℕ) → f q ≡ true → first f q (suc n) ≡ q

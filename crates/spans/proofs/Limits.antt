@@ -7,10 +7,10 @@ use Prim.Native.Nat.{ℕ, suc, _+_, _≤_, _<_, min}
 use native.Mathlib.Omega.{arith}
 use lib.ListN.{getD}
 use borrow.Author.Tests.{leb-true, le-leb}
-use Rattle.solver.specs.Spans.{Limit, limit, Fits, last, low-at, high-at}
-use Rattle.solver.specs.Solver.{opens, first-open, least-open}
-use Rattle.solver.specs.Placed.{Widens}
-use Rattle.solver.proofs.First.{first-holds, first-least}
+use Rattle.spans.specs.Spans.{Limit, limit, Fits, last, low-at, high-at}
+use Rattle.spans.specs.Solver.{opens, first-open, least-open}
+use Rattle.spans.specs.Placed.{Widens}
+use Rattle.spans.proofs.First.{first-holds, first-least}
 
 module _ (c : List Limit) where
   pub low-capped : (q : ℕ) → low-at c (min q (last c)) ≡ low-at c q
