@@ -1,0 +1,2 @@
+-- The statements of specs/, proved, and wrong versions that break the promises.
+pub mod Alone

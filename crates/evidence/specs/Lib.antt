@@ -1,0 +1,2 @@
+-- What shows the promises to be the right ones: the trusted statements.
+pub mod Alone
