@@ -1,30 +1,26 @@
 -- The statements of Alone.antt, proved: there is but one answer for a spread and but one list of rows, and everything else in a promise is an equation. The
 -- trial's verdict is the test legal, which by the routing theorem is drawable. Assumes nothing.
-use mathlib.Core.Path.{_≡_, refl, sym, ap, _∙_}
-use mathlib.Core.Bool.{Bool, true, false, _&&_}
+use mathlib.Core.Path.{_≡_, sym, _∙_}
+use mathlib.Core.Bool.{Bool, true, false}
 use mathlib.Core.List.{List, [], _++_}
-use mathlib.Core.Logic.{_↔_}
 use Prim.Native.Nat.{ℕ, zero, suc, _-_}
-use lib.Dec.{leb, eqb}
-use lib.ListN.{length, take, drop, replicate}
-use borrow.Author.Tests.{eq-eqb}
-use Rattle.numbers.proofs.Bools.{ands, and-both}
+use lib.Dec.{leb}
+use lib.ListN.{length, take, replicate}
+use Rattle.numbers.proofs.Bools.{ands}
 use Rattle.stack.specs.Stack.{Stack, legal}
 use Rattle.stack.specs.Limits.{all-rising}
 use Rattle.stack.proofs.Within.{within-rising}
 use Rattle.routing.proofs.Drawable.{drawable-legal, legal-drawable}
-use Rattle.text.specs.Text.{Refusal, refusal, text-refusal, stack-in}
-use Rattle.text.specs.Outcome.{refusal-of}
+use Rattle.text.specs.Text.{Refusal, stack-in}
 use Rattle.text.proofs.Within.{accepted-within}
 use Rattle.answer.proofs.Answers.{answer-alone}
 use Rattle.rows.proofs.Rows.{rows-alone}
 use Rattle.writing.specs.TableText.{table-text}
-use Rattle.trial.specs.Legal.{all-zero, is-legal}
+use Rattle.trial.specs.Legal.{is-legal}
 use Rattle.nabetsu.specs.Entry.{placed-is, Answered, Spread-says, zeros, table-told, Fits, Tabled, Table-says, Trial-says}
 use Rattle.nabetsu.specs.declared.SpreadAnswer.{SpreadAnswer}
 use Rattle.nabetsu.specs.declared.TableAnswer.{TableAnswer}
-use Rattle.nabetsu.specs.declared.TrialAnswer.{TrialAnswer}
-use Rattle.evidence.specs.Alone.{Same-spread, Spread-alone, Same-table, Table-alone, Same-trial, Trial-alone, Placement-drawable, Trial-drawable}
+use Rattle.evidence.specs.Alone.{Same-spread, Spread-alone, Same-table, Table-alone, Trial-alone, Placement-drawable, Trial-drawable}
 
 -- ONE SPREAD
 placed-alone : (f : Refusal) (v : ℕ) (ts xs : List ℕ) (r q : SpreadAnswer) → placed-is f v ts xs r → placed-is f v ts xs q → Same-spread r q

@@ -1,2 +1,4 @@
 -- The statements of specs/, proved, and wrong versions that break the promises.
 pub mod Alone
+pub mod Replies
+pub mod Specimens
