@@ -1,8 +1,9 @@
--- Every promised result is the reply that the executable definitions of Replies.antt give: they are an answer and rows, and there is but one answer and but
--- one list of rows. Assumes nothing.
+-- A result is promised exactly if it is the reply that the executable definitions of Replies.antt give: they are an answer and rows, and there is but one
+-- answer and but one list of rows. Assumes nothing.
 use mathlib.Core.Path.{_≡_, refl}
 use mathlib.Core.Bool.{Bool, true, false, cond}
 use mathlib.Core.List.{List, [], _∷_}
+use mathlib.Core.Logic.{_↔_}
 use Prim.Native.Nat.{ℕ, zero, suc}
 use lib.Dec.{ltb, leb}
 use lib.ListN.{length}
@@ -63,13 +64,18 @@ tables-equal a b e =
 abbrev pub replied : Spread-reply → SpreadAnswer → Type 0
 replied y r = placed-is (y .refused) (y .total) (y .separations) (y .positions) r
 
-answered-replied : (n : ℕ) (f : Refusal) (k : Stack) (s : ℕ) (r : SpreadAnswer) → (n ≡ 0 → Answer k s (answer-separations k s) (answer-positions k s)) →
-    Answered n f k s r → replied (placement-for n f k s) r
-unfolding Answered placement-for placement
-answered-replied zero f k s r there a =
-    let same = answer-alone k s (a .0) (a .1) (answer-separations k s) (answer-positions k s) (a .2) (there refl) in
-    rw (same .0, same .1) at (a .3)
-answered-replied (suc n) f k s r there a = a
+module _ (f : Refusal) (k : Stack) (s : ℕ) (r : SpreadAnswer) where
+  answered-replied : (n : ℕ) → (n ≡ 0 → Answer k s (answer-separations k s) (answer-positions k s)) → Answered n f k s r → replied (placement-for n f k s) r
+  unfolding Answered placement-for placement
+  answered-replied zero there a =
+      let same = answer-alone k s (a .0) (a .1) (answer-separations k s) (answer-positions k s) (a .2) (there refl) in
+      rw (same .0, same .1) at (a .3)
+  answered-replied (suc n) there a = a
+
+  replied-answered : (n : ℕ) → (n ≡ 0 → Answer k s (answer-separations k s) (answer-positions k s)) → replied (placement-for n f k s) r → Answered n f k s r
+  unfolding Answered placement-for placement
+  replied-answered zero there p = (answer-separations k s, answer-positions k s, there refl, p)
+  replied-answered (suc n) there p = p
 
 spread-there : (bs : List ℕ) (s : ℕ) → spread-refusal bs s .number ≡ 0 → Answer (stack-in bs) s (answer-separations (stack-in bs) s) (answer-positions (stack-in bs) s)
 unfolding spread-refusal
@@ -78,28 +84,45 @@ spread-there bs s e =
     let fine = or-else-fine (text-refusal bs) (cond (ltb s l) (refusal 7 0 0) (refusal 0 0 0)) e in
     answer-there (stack-in bs) s (accepted-within bs (fine .0)) (ltb-false s l (when-fine (ltb s l) 6 0 0 (refusal 0 0 0) (fine .1) .0))
 
-pub spread-replied : (bs : List ℕ) (s : ℕ) (r : SpreadAnswer) → Spread-says bs s r → replied (spread-reply bs s) r
+pub spread-replied : (bs : List ℕ) (s : ℕ) (r : SpreadAnswer) → Spread-says bs s r ↔ replied (spread-reply bs s) r
 unfolding Spread-says spread-reply
-spread-replied bs s r a = answered-replied (spread-refusal bs s .number) (spread-refusal bs s) (stack-in bs) s r (spread-there bs s) a
+spread-replied bs s r =
+    let f = spread-refusal bs s in
+    (answered-replied f (stack-in bs) s r (f .number) (spread-there bs s), replied-answered f (stack-in bs) s r (f .number) (spread-there bs s))
 
 -- THE TABLE
 abbrev pub tabled : Table-reply → TableAnswer → (output : List ℕ) → Type 0
 tabled y r x = table-told (y .refused) (y .written) r × (x ≡ y .output)
 
-fits-tabled : (b : Bool) (t : List ℕ) (r : TableAnswer) (o x : List ℕ) → Fits b t r o x → tabled (if-fits b t (length o)) r x
-unfolding Fits if-fits writes refuses zeros
-fits-tabled true t r o x a = a
-fits-tabled false t r o x a = a
+module _ (r : TableAnswer) (o x : List ℕ) where
+  fits-tabled : (b : Bool) (t : List ℕ) → Fits b t r o x → tabled (if-fits b t (length o)) r x
+  unfolding Fits if-fits writes refuses zeros
+  fits-tabled true t a = a
+  fits-tabled false t a = a
 
-tabled-replied : (n : ℕ) (f : Refusal) (k : Stack) (r : TableAnswer) (o x : List ℕ) → (n ≡ 0 → within-limits k ≡ true) → Tabled n f k r o x →
-    tabled (table-for n f k (length o)) r x
-unfolding Tabled table-for refuses zeros
-tabled-replied zero f k r o x w a =
-    let t = table-text (length (k .channels)) (rows-of k) in
-    let same = rows-alone k (a .0) (rows-of k) (a .1) (rows-are k (w refl)) in
-    fits-tabled (leb (length t) (length o)) t r o x (rw same at (a .2))
-tabled-replied (suc n) f k r o x w a = a
+  tabled-fits : (b : Bool) (t : List ℕ) → tabled (if-fits b t (length o)) r x → Fits b t r o x
+  unfolding Fits if-fits writes refuses zeros
+  tabled-fits true t a = a
+  tabled-fits false t a = a
 
-pub table-replied : (bs : List ℕ) (r : TableAnswer) (o x : List ℕ) → Table-says bs r o x → tabled (table-reply bs (length o)) r x
+  module _ (f : Refusal) (k : Stack) where
+    whole : List ℕ
+    whole = table-text (length (k .channels)) (rows-of k)
+
+    tabled-replied : (n : ℕ) → (n ≡ 0 → within-limits k ≡ true) → Tabled n f k r o x → tabled (table-for n f k (length o)) r x
+    unfolding Tabled table-for refuses zeros whole
+    tabled-replied zero w a =
+        let same = rows-alone k (a .0) (rows-of k) (a .1) (rows-are k (w refl)) in
+        fits-tabled (leb (length whole) (length o)) whole (rw same at (a .2))
+    tabled-replied (suc n) w a = a
+
+    replied-tabled : (n : ℕ) → (n ≡ 0 → within-limits k ≡ true) → tabled (table-for n f k (length o)) r x → Tabled n f k r o x
+    unfolding Tabled table-for refuses zeros whole
+    replied-tabled zero w a = (rows-of k, rows-are k (w refl), tabled-fits (leb (length whole) (length o)) whole a)
+    replied-tabled (suc n) w a = a
+
+pub table-replied : (bs : List ℕ) (r : TableAnswer) (o x : List ℕ) → Table-says bs r o x ↔ tabled (table-reply bs (length o)) r x
 unfolding Table-says table-reply
-table-replied bs r o x a = tabled-replied (text-refusal bs .number) (text-refusal bs) (stack-in bs) r o x (accepted-within bs) a
+table-replied bs r o x =
+    let f = text-refusal bs in
+    (tabled-replied r o x f (stack-in bs) (f .number) (accepted-within bs), replied-tabled r o x f (stack-in bs) (f .number) (accepted-within bs))

@@ -1,5 +1,5 @@
--- What the entries answer, as executable definitions of their inputs. Assumes nothing: these are definitions. proofs/Replies.antt proves that every promised
--- result is the reply; nobody has to believe them.
+-- What the entries answer, as executable definitions of their inputs. Assumes nothing: these are definitions. proofs/Replies.antt proves that a result
+-- is promised exactly if it is the reply; nobody has to believe them.
 use mathlib.Core.Bool.{Bool, true, false, _&&_}
 use mathlib.Core.List.{List, [], _++_}
 use Prim.Native.Nat.{ℕ, zero, suc, _-_}

@@ -3,6 +3,7 @@
 use mathlib.Core.Path.{_≡_}
 use mathlib.Core.Bool.{Bool, true, false, cond}
 use mathlib.Core.List.{List, [], _∷_, _++_}
+use mathlib.Core.Logic.{_↔_}
 use Prim.Native.Nat.{ℕ, _-_}
 use Prim.Native.Char.{code}
 use Prim.Native.String.{String, [] as end-of, _∷_ as _then_}
@@ -36,19 +37,20 @@ pub data Specimen : Type 0 where
   trial-gives : (text : List String) → (s : ℕ) → (separations positions : List ℕ) → (verdict : Bool) → Specimen
   trial-refused : (text : List String) → (s : ℕ) → (separations positions : List ℕ) → (number line field : ℕ) → Specimen
 
--- what a specimen says of every result that is promised
+-- what a specimen says of an entry: a result is promised exactly if it is the reply
 unfoldable pub Holds : Specimen → Type 0
-Holds (spread-gives t s v ts xs) = (r : SpreadAnswer) → Spread-says (text-shown t) s r → placed-is (refusal 0 0 0) v ts xs r
-Holds (spread-refused t s n l f) = (r : SpreadAnswer) → Spread-says (text-shown t) s r → placed-is (refusal n l f) 0 [] [] r
+Holds (spread-gives t s v ts xs) = (r : SpreadAnswer) → Spread-says (text-shown t) s r ↔ placed-is (refusal 0 0 0) v ts xs r
+Holds (spread-refused t s n l f) = (r : SpreadAnswer) → Spread-says (text-shown t) s r ↔ placed-is (refusal n l f) 0 [] [] r
 Holds (table-gives t n a) =
-    (r : TableAnswer) (o x : List ℕ) → length o ≡ n → Table-says (text-shown t) r o x →
-    table-told (refusal 0 0 0) (length (text-shown a)) r × (x ≡ text-shown a ++ replicate (n - length (text-shown a)) 0)
+    (r : TableAnswer) (o x : List ℕ) → length o ≡ n →
+    Table-says (text-shown t) r o x
+    ↔ (table-told (refusal 0 0 0) (length (text-shown a)) r × (x ≡ text-shown a ++ replicate (n - length (text-shown a)) 0))
 Holds (table-refused t n m l f) =
-    (r : TableAnswer) (o x : List ℕ) → length o ≡ n → Table-says (text-shown t) r o x → table-told (refusal m l f) 0 r × (x ≡ replicate n 0)
+    (r : TableAnswer) (o x : List ℕ) → length o ≡ n → Table-says (text-shown t) r o x ↔ (table-told (refusal m l f) 0 r × (x ≡ replicate n 0))
 Holds (trial-gives t s ts xs v) =
-    (r : TrialAnswer) → Trial-says (text-shown t) s (padded 8 ts) (padded 9 xs) r → (refusal-of (r .outcome) ≡ refusal 0 0 0) × (r .legal ≡ v)
+    (r : TrialAnswer) → Trial-says (text-shown t) s (padded 8 ts) (padded 9 xs) r ↔ ((refusal-of (r .outcome) ≡ refusal 0 0 0) × (r .legal ≡ v))
 Holds (trial-refused t s ts xs n l f) =
-    (r : TrialAnswer) → Trial-says (text-shown t) s (padded 8 ts) (padded 9 xs) r → (refusal-of (r .outcome) ≡ refusal n l f) × (r .legal ≡ false)
+    (r : TrialAnswer) → Trial-says (text-shown t) s (padded 8 ts) (padded 9 xs) r ↔ ((refusal-of (r .outcome) ≡ refusal n l f) × (r .legal ≡ false))
 
 unfoldable pub All-hold : List Specimen → Type 0
 All-hold [] = Unit
@@ -151,11 +153,11 @@ specimens =
     ∷ spread-gives text-b 8 0 (0 ∷ 0 ∷ []) (4 ∷ 2 ∷ 0 ∷ [])
     ∷ spread-gives text-b 9 0 (0 ∷ 0 ∷ []) (4 ∷ 2 ∷ 0 ∷ [])
     -- C
-    ∷ table-gives text-c 22 table-c
+    ∷ table-gives text-c 50 table-c
     ∷ spread-gives text-c 5 0 (0 ∷ []) (0 ∷ 0 ∷ [])
     ∷ spread-gives text-c 6 0 (0 ∷ []) (0 ∷ 0 ∷ [])
     -- D
-    ∷ table-gives text-d 36 table-d
+    ∷ table-gives text-d 50 table-d
     ∷ spread-gives text-d 1 1 (1 ∷ []) (0 ∷ 0 ∷ [])
     ∷ spread-gives text-d 2 0 (0 ∷ []) (0 ∷ 1 ∷ [])
     ∷ spread-gives text-d 3 0 (0 ∷ []) (0 ∷ 1 ∷ [])
