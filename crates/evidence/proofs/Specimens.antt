@@ -3,10 +3,12 @@
 use mathlib.Core.Path.{_≡_, refl, sym}
 use mathlib.Core.Bool.{Bool, true, false, _&&_, not}
 use mathlib.Core.List.{List, [], _∷_}
+use Prim.Native.String.{String}
 use lib.Dec.{eqb}
 use borrow.Author.Tests.{not-true}
 use Rattle.numbers.proofs.Bools.{ands}
 use Rattle.stack.specs.Stack as stacks
+use Rattle.stack.specs.Stack.{Stack}
 use Rattle.text.specs.Text as texts
 use Rattle.text.specs.Text.{refusal, text-refusal, stack-in}
 use Rattle.channel.specs.Limits as limits
@@ -73,15 +75,19 @@ unfolding all-right All-hold
 all-hold [] e = tt
 all-hold (m ∷ ms) e = (right-holds m (search ands), all-hold ms (search ands))
 
--- THE TEST PASSES
-test-passes : all-right specimens ≡ true
-unfolding all-right is-right same-verdict specimens text-a table-a text-b table-b text-c table-c text-d table-d text-e text-f text-g text-h text-32 text-33
-    text-1000 text-1001 text-between table-between byte-shown line-shown text-shown
+-- THE TEST PASSES: to unfold reading is to unfold every definition that reads a text
+unfoldable pub reading : List String → Stack
+unfolding byte-shown line-shown text-shown stacks.pair stacks.stack
     texts.refusal texts.fine texts.or-else texts.line texts.to-front texts.lines texts.into-field texts.fields texts.is-digit texts.all-digits
     texts.is-number texts.value-of texts.value texts.all-numbers texts.values texts.same-bytes texts.stack-word texts.part-word texts.nets-word
     texts.no-line texts.line-at texts.shape texts.numbers-of texts.head-refusal texts.k-of texts.part-refusal texts.parts-refusal
     texts.terminals-refusal texts.length-at texts.nets-refusal texts.all-nets-refusal texts.text-refusal texts.strips-in texts.pairs-of
     texts.channels-in texts.stack-in
+reading t = stack-in (text-shown t)
+
+test-passes : all-right specimens ≡ true
+unfolding reading all-right is-right same-verdict specimens text-a table-a text-b table-b text-c table-c text-d table-d text-e text-f text-g text-h text-32 text-33
+    text-1000 text-1001 text-between table-between
     stacks.pair stacks.stack stacks.p-at stacks.q-at stacks.every stacks.left-good stacks.right-good stacks.feasible stacks.in-spread
     stacks.channels-good stacks.legal stacks.sum stacks.longest stacks.row stacks.total
     limits.low-term limits.high-term limits.greatest limits.least limits.low-limit limits.high-limit spans.last spans.low-at spans.high-at
