@@ -20,7 +20,7 @@ use Rattle.trial.specs.Legal.{is-legal}
 use Rattle.nabetsu.specs.Entry.{placed-is, Answered, Spread-says, zeros, table-told, Fits, Tabled, Table-says, Trial-says}
 use Rattle.nabetsu.specs.declared.SpreadAnswer.{SpreadAnswer}
 use Rattle.nabetsu.specs.declared.TableAnswer.{TableAnswer}
-use Rattle.evidence.specs.Alone.{Same-spread, Spread-alone, Same-table, Table-alone, Trial-alone, Placement-drawable, Trial-drawable}
+use Rattle.evidence.specs.Alone.{Same-spread, Spread-alone, Same-table, Table-alone, Coded-alone, Trial-alone, Placement-drawable, Trial-drawable}
 
 -- ONE SPREAD
 placed-alone : (f : Refusal) (v : ℕ) (ts xs : List ℕ) (r q : SpreadAnswer) → placed-is f v ts xs r → placed-is f v ts xs q → Same-spread r q
@@ -65,6 +65,12 @@ tabled-alone (suc n) f k r q o p x y l a b = told-alone f 0 r q x y (zeros o) (a
 pub table-alone : Table-alone
 unfolding Table-alone Table-says
 table-alone bs r q o p x y l a b = tabled-alone _ _ (stack-in bs) r q o p x y l a b
+
+pub coded-alone : Coded-alone
+unfolding Coded-alone Table-alone
+coded-alone bs r q o p x y l a b =
+    let same = table-alone bs (a .answer) (b .answer) o p x y l (a .says) (b .says) in
+    (a .coded ∙ (rw (same .refusals, same .written) (sym (b .coded))), same .outputs)
 
 -- THE TRIAL
 pub trial-alone : Trial-alone

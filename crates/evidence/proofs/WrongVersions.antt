@@ -20,7 +20,8 @@ use Rattle.nabetsu.specs.Best.{Spread-best}
 use Rattle.nabetsu.specs.declared.SpreadAnswer.{SpreadAnswer}
 use Rattle.nabetsu.specs.declared.TableAnswer.{TableAnswer}
 use Rattle.evidence.specs.Specimens.{text-shown, Specimen, spread-gives, table-gives, table-refused, Holds, All-hold, text-a, table-a, text-b, text-c, table-c, text-d, table-d, text-e, text-between, specimens, Specimens-right}
-use Rattle.evidence.proofs.Specimens.{reading, specimens-right}
+use Rattle.evidence.proofs.Opened.{reading}
+use Rattle.evidence.proofs.Specimens.{specimens-right}
 
 -- THE SPECIMENS that are cited
 Entry-holds : (i : ℕ) → List Specimen → Type 0
@@ -97,27 +98,27 @@ unfolding Holds placed-is padded same-bytes
 full-count-breaks r w a = differ (padded 8 (2 ∷ [])) (padded 8 (0 ∷ [])) refl (sym w ∙ a-at-100 r .0 a .2)
 
 a-drawn : Drawable (stack-in (text-shown text-a)) 100 (0 ∷ []) (2 ∷ 0 ∷ [])
-unfolding reading text-a in-spread point paths.same-column paths.same-point paths.chain paths.is-path paths.on-path paths.apart paths.apart-from-all paths.none-meet paths.all-paths paths.Channels-drawn
+unfolding reading in-spread point paths.same-column paths.same-point paths.chain paths.is-path paths.on-path paths.apart paths.apart-from-all paths.none-meet paths.all-paths paths.Channels-drawn
 a-drawn =
     record { within = refl; drawn = (record { paths = (point (pos 2) 0 ∷ []) ∷ (point (pos 4) 0 ∷ []) ∷ []; led = refl; clear = refl }, refl) }
 
 pub full-count-not-least : (r : SpreadAnswer) → r .total .0 ≡ 2 → Spread-best (text-shown text-a) 100 r → ⊥
-unfolding reading text-a spread-refusal longest sum
+unfolding reading spread-refusal longest sum
 full-count-not-least r w b = omega (arith, b .none-smaller refl (0 ∷ []) (2 ∷ 0 ∷ []) a-drawn)
 
 -- FIRST ROW RIGHT and then repeated
 pub repeated-row-breaks : (r : TableAnswer) (o x : List ℕ) → length o ≡ 50 →
     x ≡ text-shown ("TABLE 1" ∷ "ROW 4 2 2 0 0" ∷ "ROW 4 2 2 0 0" ∷ "ROW 4 2 2 0 0" ∷ []) → Table-says (text-shown text-a) r o x → ⊥
-unfolding Holds reading text-a table-a same-bytes
+unfolding Holds reading
 repeated-row-breaks r o x l w a = differ _ _ refl (sym w ∙ a-in-50 r o x l .0 a .1)
 
 -- THE SAME ROW for all stacks: C's table for D; and no output serves both A and C
 pub same-row-breaks : (r : TableAnswer) (o x : List ℕ) → length o ≡ 50 → x ≡ text-shown table-c ++ replicate 28 0 → Table-says (text-shown text-d) r o x → ⊥
-unfolding Holds reading table-c table-d same-bytes
+unfolding Holds reading
 same-row-breaks r o x l w a = differ _ _ refl (sym w ∙ d-in-50 r o x l .0 a .1)
 
 pub same-output-breaks : (r q : TableAnswer) (o x : List ℕ) → length o ≡ 50 → Table-says (text-shown text-a) r o x → Table-says (text-shown text-c) q o x → ⊥
-unfolding Holds reading table-a table-c same-bytes
+unfolding Holds reading
 same-output-breaks r q o x l a c = differ _ _ refl (sym (a-in-50 r o x l .0 a .1) ∙ c-in-50 q o x l .0 c .1)
 
 -- A TOTAL that is not its separations' sum, for every text and spread; and in a row of A's table
@@ -141,7 +142,7 @@ other-total-breaks bs s r w a = omega (arith, total-is-sum bs s r a)
 
 pub other-total-row-breaks : (r : TableAnswer) (o x : List ℕ) → length o ≡ 50 →
     x ≡ text-shown ("TABLE 1" ∷ "ROW 4 3 2 0 0" ∷ "ROW 5 1 1 1 0" ∷ "ROW 6 0 0 2 0" ∷ []) → Table-says (text-shown text-a) r o x → ⊥
-unfolding Holds reading table-a same-bytes
+unfolding Holds reading
 other-total-row-breaks r o x l w a = differ _ _ refl (sym w ∙ a-in-50 r o x l .0 a .1)
 
 -- ALL SENT BACK: A is refused neither at spread 100 nor in 50 bytes
@@ -155,7 +156,7 @@ sent-back-breaks-table r o x l w a = w (ap (λ (f : Refusal). f .number) (a-in-5
 
 -- SPACE LEFT UNTOUCHED: behind A's table, where the space is short, and where the text is refused
 pub untouched-behind-breaks : (r : TableAnswer) → Table-says (text-shown text-a) r (replicate 51 255) (text-shown table-a ++ (255 ∷ [])) → ⊥
-unfolding Holds reading table-a same-bytes
+unfolding Holds reading
 untouched-behind-breaks r a = differ _ _ refl (a-in-51 r (replicate 51 255) _ refl .0 a .1)
 
 pub untouched-short-breaks : (r : TableAnswer) → Table-says (text-shown text-a) r (replicate 49 255) (replicate 49 255) → ⊥

@@ -12,7 +12,7 @@ use Rattle.routing.specs.Paths.{Drawable}
 use Rattle.text.specs.Text.{text-refusal, stack-in}
 use Rattle.text.specs.Outcome.{refusal-of}
 use Rattle.trial.specs.Legal.{all-zero}
-use Rattle.nabetsu.specs.Entry.{tracks, columns, Spread-says, Table-says, Trial-says}
+use Rattle.nabetsu.specs.Entry.{tracks, columns, Spread-says, Table-says, Trial-says, Table-coded}
 use Rattle.nabetsu.specs.declared.SpreadAnswer.{SpreadAnswer}
 use Rattle.nabetsu.specs.declared.TableAnswer.{TableAnswer}
 use Rattle.nabetsu.specs.declared.TrialAnswer.{TrialAnswer}
@@ -36,6 +36,11 @@ pub record Same-table (r q : TableAnswer) (x y : List ℕ) : Type 0 where
 unfoldable pub Table-alone : Type 0
 Table-alone =
     (bs : List ℕ) (r q : TableAnswer) (o p x y : List ℕ) → length o ≡ length p → Table-says bs r o x → Table-says bs q p y → Same-table r q x y
+
+-- the same in one number
+unfoldable pub Coded-alone : Type 0
+Coded-alone =
+    (bs : List ℕ) (r q : ℕ) (o p x y : List ℕ) → length o ≡ length p → Table-coded bs r o x → Table-coded bs q p y → (r ≡ q) × (x ≡ y)
 
 -- THE TRIAL: refusal and verdict
 pub record Same-trial (r q : TrialAnswer) : Type 0 where

@@ -57,16 +57,16 @@ All-hold [] = Unit
 All-hold (m ∷ ms) = Holds m × All-hold ms
 
 -- THE CARDS
-unfoldable pub text-a : List String
+abbrev pub text-a : List String
 text-a = "STACK 1" ∷ "PART 4" ∷ "PART 4" ∷ "NETS 0 2 2 4" ∷ []
 
-unfoldable pub table-a : List String
+abbrev pub table-a : List String
 table-a = "TABLE 1" ∷ "ROW 4 2 2 0 0" ∷ "ROW 5 1 1 1 0" ∷ "ROW 6 0 0 2 0" ∷ []
 
-unfoldable pub text-b : List String
+abbrev pub text-b : List String
 text-b = "STACK 2" ∷ "PART 4" ∷ "PART 4" ∷ "PART 4" ∷ "NETS 0 2 2 4" ∷ "NETS 0 2 2 4" ∷ []
 
-unfoldable pub table-b : List String
+abbrev pub table-b : List String
 table-b =
     "TABLE 2"
     ∷ "ROW 4 4 2 2 0 0 0"
@@ -76,32 +76,32 @@ table-b =
     ∷ "ROW 8 0 0 0 4 2 0"
     ∷ []
 
-unfoldable pub text-c : List String
+abbrev pub text-c : List String
 text-c = "STACK 1" ∷ "PART 3" ∷ "PART 5" ∷ "NETS" ∷ []
 
-unfoldable pub table-c : List String
+abbrev pub table-c : List String
 table-c = "TABLE 1" ∷ "ROW 5 0 0 0 0" ∷ []
 
-unfoldable pub text-d : List String
+abbrev pub text-d : List String
 text-d = "STACK 1" ∷ "PART 1" ∷ "PART 1" ∷ "NETS 1 0" ∷ []
 
-unfoldable pub table-d : List String
+abbrev pub table-d : List String
 table-d = "TABLE 1" ∷ "ROW 1 1 1 0 0" ∷ "ROW 2 0 0 0 1" ∷ []
 
-unfoldable pub text-e : List String
+abbrev pub text-e : List String
 text-e = []
 
-unfoldable pub text-f : List String
+abbrev pub text-f : List String
 text-f = "STACK 1" ∷ "PART 0" ∷ "PART 4" ∷ "NETS 0 2 2 4" ∷ []
 
-unfoldable pub text-g : List String
+abbrev pub text-g : List String
 text-g = "STACK 1" ∷ "PART 4" ∷ "PART 4" ∷ "NETS 0 2 2 5" ∷ []
 
-unfoldable pub text-h : List String
+abbrev pub text-h : List String
 text-h = "STACK 1" ∷ "PART 4" ∷ "PART 4" ∷ "NETS 0 2 0 4" ∷ []
 
 -- 32 pairs and 33
-unfoldable pub text-32 : List String
+abbrev pub text-32 : List String
 text-32 =
     "STACK 1"
     ∷ "PART 40"
@@ -109,7 +109,7 @@ text-32 =
     ∷ "NETS 0 0 1 1 2 2 3 3 4 4 5 5 6 6 7 7 8 8 9 9 10 10 11 11 12 12 13 13 14 14 15 15 16 16 17 17 18 18 19 19 20 20 21 21 22 22 23 23 24 24 25 25 26 26 27 27 28 28 29 29 30 30 31 31"
     ∷ []
 
-unfoldable pub text-33 : List String
+abbrev pub text-33 : List String
 text-33 =
     "STACK 1"
     ∷ "PART 40"
@@ -118,17 +118,17 @@ text-33 =
     ∷ []
 
 -- lengths 1,000 and 1,001
-unfoldable pub text-1000 : List String
+abbrev pub text-1000 : List String
 text-1000 = "STACK 1" ∷ "PART 1000" ∷ "PART 4" ∷ "NETS 0 2 2 4" ∷ []
 
-unfoldable pub text-1001 : List String
+abbrev pub text-1001 : List String
 text-1001 = "STACK 1" ∷ "PART 1001" ∷ "PART 4" ∷ "NETS 0 2 2 4" ∷ []
 
 -- not of document 01: at spread 3, between two rows, the total is the row's and the placement is not
-unfoldable pub text-between : List String
+abbrev pub text-between : List String
 text-between = "STACK 2" ∷ "PART 2" ∷ "PART 1" ∷ "PART 1" ∷ "NETS 0 1" ∷ "NETS 0 1" ∷ []
 
-unfoldable pub table-between : List String
+abbrev pub table-between : List String
 table-between = "TABLE 2" ∷ "ROW 2 1 1 0 0 1 0" ∷ "ROW 4 0 0 0 2 1 0" ∷ []
 
 -- THE SPECIMENS
