@@ -98,7 +98,8 @@ unfolding Holds placed-is padded same-bytes
 full-count-breaks r w a = differ (padded 8 (2 ∷ [])) (padded 8 (0 ∷ [])) refl (sym w ∙ a-at-100 r .0 a .2)
 
 a-drawn : Drawable (stack-in (text-shown text-a)) 100 (0 ∷ []) (2 ∷ 0 ∷ [])
-unfolding reading in-spread point paths.same-column paths.same-point paths.chain paths.is-path paths.on-path paths.apart paths.apart-from-all paths.none-meet paths.all-paths paths.Channels-drawn
+unfolding reading in-spread point paths.same-column paths.same-point paths.chain paths.is-path paths.on-path paths.apart paths.apart-from-all
+    paths.none-meet paths.all-paths paths.Channels-drawn
 a-drawn =
     record { within = refl; drawn = (record { paths = (point (pos 2) 0 ∷ []) ∷ (point (pos 4) 0 ∷ []) ∷ []; led = refl; clear = refl }, refl) }
 
