@@ -1,0 +1,98 @@
+-- The statements of Alone.antt, proved: there is but one answer for a spread and but one list of rows, and everything else in a promise is an equation. The
+-- trial's verdict is the test legal, which by the routing theorem is drawable. Assumes nothing.
+use mathlib.Core.Path.{_≡_, sym, _∙_}
+use mathlib.Core.Bool.{Bool, true, false}
+use mathlib.Core.List.{List, [], _++_}
+use Prim.Native.Nat.{ℕ, zero, suc, _-_}
+use lib.Dec.{leb}
+use lib.ListN.{length, take, replicate}
+use Rattle.numbers.proofs.Bools.{ands}
+use Rattle.stack.specs.Stack.{Stack, legal}
+use Rattle.stack.specs.Limits.{all-rising}
+use Rattle.stack.proofs.Within.{within-rising}
+use Rattle.routing.proofs.Drawable.{drawable-legal, legal-drawable}
+use Rattle.text.specs.Text.{Refusal, stack-in}
+use Rattle.text.proofs.Within.{accepted-within}
+use Rattle.answer.proofs.Answers.{answer-alone}
+use Rattle.rows.proofs.Rows.{rows-alone}
+use Rattle.writing.specs.TableText.{table-text}
+use Rattle.trial.specs.Legal.{is-legal}
+use Rattle.nabetsu.specs.Entry.{placed-is, Answered, Spread-says, zeros, table-told, Fits, Tabled, Table-says, Trial-says}
+use Rattle.nabetsu.specs.declared.SpreadAnswer.{SpreadAnswer}
+use Rattle.nabetsu.specs.declared.TableAnswer.{TableAnswer}
+use Rattle.evidence.specs.Alone.{Same-spread, Spread-alone, Same-table, Table-alone, Coded-alone, Trial-alone, Placement-drawable, Trial-drawable}
+
+-- ONE SPREAD
+placed-alone : (f : Refusal) (v : ℕ) (ts xs : List ℕ) (r q : SpreadAnswer) → placed-is f v ts xs r → placed-is f v ts xs q → Same-spread r q
+unfolding placed-is
+placed-alone f v ts xs r q a b =
+    record { refusals = a .0 ∙ sym (b .0); totals = a .1 ∙ sym (b .1); separations = a .2 ∙ sym (b .2); positions = a .3 ∙ sym (b .3) }
+
+answered-alone : (n : ℕ) (f : Refusal) (k : Stack) (s : ℕ) (r q : SpreadAnswer) → Answered n f k s r → Answered n f k s q → Same-spread r q
+unfolding Answered
+answered-alone zero f k s r q a b =
+    let same = answer-alone k s (a .0) (a .1) (b .0) (b .1) (a .2) (b .2) in
+    placed-alone f _ (b .0) (b .1) r q (rw (same .0, same .1) at (a .3)) (b .3)
+answered-alone (suc n) f k s r q a b = placed-alone f 0 [] [] r q a b
+
+pub spread-alone : Spread-alone
+unfolding Spread-alone Spread-says
+spread-alone bs s r q a b = answered-alone _ _ (stack-in bs) s r q a b
+
+-- THE TABLE
+told-alone : (f : Refusal) (w : ℕ) (r q : TableAnswer) (x y z : List ℕ) → table-told f w r → table-told f w q → x ≡ z → y ≡ z → Same-table r q x y
+unfolding table-told
+told-alone f w r q x y z a b e h = record { refusals = a .0 ∙ sym (b .0); written = a .1 ∙ sym (b .1); outputs = e ∙ sym h }
+
+zeros-alone : (o p : List ℕ) → length o ≡ length p → zeros p ≡ zeros o
+unfolding zeros
+zeros-alone o p l = rw l
+
+fits-alone : (b : Bool) (t : List ℕ) (r q : TableAnswer) (o p x y : List ℕ) → length o ≡ length p → Fits b t r o x → Fits b t q p y → Same-table r q x y
+unfolding Fits
+fits-alone true t r q o p x y l a b = told-alone _ (length t) r q x y (t ++ replicate (length o - length t) 0) (a .0) (b .0) (a .1) (rw l (b .1))
+fits-alone false t r q o p x y l a b = told-alone _ 0 r q x y (zeros o) (a .0) (b .0) (a .1) (b .1 ∙ zeros-alone o p l)
+
+tabled-alone : (n : ℕ) (f : Refusal) (k : Stack) (r q : TableAnswer) (o p x y : List ℕ) → length o ≡ length p → Tabled n f k r o x → Tabled n f k q p y →
+    Same-table r q x y
+unfolding Tabled
+tabled-alone zero f k r q o p x y l a b =
+    let t = table-text (length (k .channels)) (b .0) in
+    let same = rows-alone k (a .0) (b .0) (a .1) (b .1) in
+    fits-alone (leb (length t) (length p)) t r q o p x y l (rw (same, l) at (a .2)) (b .2)
+tabled-alone (suc n) f k r q o p x y l a b = told-alone f 0 r q x y (zeros o) (a .0) (b .0) (a .1) (b .1 ∙ zeros-alone o p l)
+
+pub table-alone : Table-alone
+unfolding Table-alone Table-says
+table-alone bs r q o p x y l a b = tabled-alone _ _ (stack-in bs) r q o p x y l a b
+
+pub coded-alone : Coded-alone
+unfolding Coded-alone Table-alone
+coded-alone bs r q o p x y l a b =
+    let same = table-alone bs (a .answer) (b .answer) o p x y l (a .says) (b .says) in
+    (a .coded ∙ (rw (same .refusals, same .written) (sym (b .coded))), same .outputs)
+
+-- THE TRIAL
+pub trial-alone : Trial-alone
+unfolding Trial-alone Trial-says
+trial-alone bs s ts xs r q a b = record { refusals = a .0 ∙ sym (b .0); verdicts = a .1 ∙ sym (b .1) }
+
+legal-placement : (k : Stack) (s : ℕ) (ts xs : List ℕ) → all-rising (k .channels) ≡ true → is-legal k s ts xs ≡ true → Placement-drawable k s ts xs
+unfolding is-legal
+legal-placement k s ts xs r e =
+    let n = length (k .channels) in
+    record { separations-unused = search ands; positions-unused = search ands; drawable = legal-drawable k s (take n ts) (take (suc n) xs) r (search ands) }
+
+placement-legal : (k : Stack) (s : ℕ) (ts xs : List ℕ) → all-rising (k .channels) ≡ true → Placement-drawable k s ts xs → is-legal k s ts xs ≡ true
+unfolding is-legal
+placement-legal k s ts xs r d =
+    let n = length (k .channels) in
+    rw (d .separations-unused, d .positions-unused) (drawable-legal k s (take n ts) (take (suc n) xs) r (d .drawable))
+
+pub trial-drawable : Trial-drawable
+unfolding Trial-drawable Trial-says
+trial-drawable bs s ts xs r z a =
+    let k = stack-in bs in
+    let rises = within-rising k (accepted-within bs z) in
+    let verdict : r .legal ≡ is-legal k s ts xs = a .1 ∙ rw z in
+    (λ e. legal-placement k s ts xs rises (sym verdict ∙ e), λ d. verdict ∙ placement-legal k s ts xs rises d)

@@ -1,0 +1,41 @@
+-- Names for all the definitions that a computation runs through: to unfold reading is to unfold every definition that reads a text, and to unfold replying
+-- every definition that makes a reply of it. Assumes nothing.
+use mathlib.Core.Bool.{Bool}
+use mathlib.Core.List.{List}
+use Prim.Native.Nat.{ℕ}
+use Prim.Native.String.{String}
+use Rattle.stack.specs.Stack as stacks
+use Rattle.stack.specs.Stack.{Stack}
+use Rattle.channel.specs.Limits as limits
+use Rattle.spans.specs.Spans as spans
+use Rattle.spans.specs.Solver as solver
+use Rattle.solver.specs.Arrays.{limits-from}
+use Rattle.answer.specs.Solve as solve
+use Rattle.rows.specs.Walk as walk
+use Rattle.text.specs.Text as texts
+use Rattle.writing.specs.TableText as table-texts
+use Rattle.trial.specs.Legal.{all-zero, is-legal}
+use Rattle.nabetsu.specs.Entry.{padded, spread-refusal}
+use Rattle.evidence.specs.Replies.{Spread-reply, placement, placement-for, spread-reply, Table-reply, writes, refuses, if-fits, table-for, table-reply}
+use Rattle.evidence.specs.Specimens.{byte-shown, line-shown, text-shown}
+
+unfoldable pub reading : List String → Stack
+unfolding byte-shown line-shown text-shown stacks.pair stacks.stack
+    texts.refusal texts.fine texts.or-else texts.line texts.to-front texts.lines texts.into-field texts.fields texts.is-digit texts.all-digits
+    texts.is-number texts.value-of texts.value texts.all-numbers texts.values texts.same-bytes texts.stack-word texts.part-word texts.nets-word
+    texts.no-line texts.line-at texts.shape texts.numbers-of texts.head-refusal texts.k-of texts.part-refusal texts.parts-refusal
+    texts.terminals-refusal texts.length-at texts.nets-refusal texts.all-nets-refusal texts.text-refusal texts.strips-in texts.pairs-of
+    texts.channels-in texts.stack-in
+reading t = texts.stack-in (text-shown t)
+
+unfoldable pub replying : List ℕ → (s space : ℕ) → (ts xs : List ℕ) → Spread-reply × Table-reply × Bool
+unfolding stacks.p-at stacks.q-at stacks.every stacks.left-good stacks.right-good stacks.feasible stacks.in-spread stacks.channels-good stacks.legal
+    stacks.sum stacks.longest stacks.row stacks.total
+    limits.low-term limits.high-term limits.greatest limits.least limits.low-limit limits.high-limit spans.last spans.low-at spans.high-at
+    spans.gather solver.first solver.first-open solver.most solver.cell solver.back solver.first-total solver.least-total solver.serves
+    solver.first-serving solver.forward solver.separations solver.fixed solver.positions-on solver.lowest solver.positions limits-from
+    solve.window solve.channel-limits solve.stack-levels solve.bottom solve.levels-of solve.total-with solve.separations-with solve.positions-with
+    solve.answer-total solve.answer-separations solve.answer-positions walk.row-at walk.rows-walk walk.widest walk.rows-of
+    table-texts.digits-from table-texts.digits table-texts.tabbed table-texts.row-text table-texts.rows-text table-texts.table-text
+    padded spread-refusal all-zero is-legal placement placement-for spread-reply writes refuses if-fits table-for table-reply
+replying bs s n ts xs = (spread-reply bs s, table-reply bs n, is-legal (texts.stack-in bs) s (padded 8 ts) (padded 9 xs))

@@ -1,0 +1,76 @@
+-- Document 01's specimens hold: one computed test over the whole table, which sets each reply beside the executable definitions, and one law that turns a
+-- passed test into what the specimen says of the entry. Assumes nothing.
+use mathlib.Core.Path.{_≡_, refl, sym}
+use mathlib.Core.Bool.{Bool, true, false, _&&_, not}
+use mathlib.Core.List.{List, [], _∷_}
+use lib.Dec.{eqb}
+use borrow.Author.Tests.{not-true}
+use Rattle.numbers.proofs.Bools.{ands}
+use Rattle.text.specs.Text.{refusal, text-refusal, stack-in}
+use Rattle.trial.specs.Legal.{is-legal}
+use Rattle.nabetsu.specs.Entry.{padded, Trial-says}
+use Rattle.evidence.specs.Replies.{same-refusal, placement, same-placement, spread-reply, writes, refuses, same-table, table-reply}
+use Rattle.evidence.specs.Specimens.{text-shown, Specimen, spread-gives, spread-refused, table-gives, table-refused, trial-gives, trial-refused, Holds, All-hold, specimens, Specimens-right}
+use Rattle.evidence.proofs.Opened.{reading, replying}
+use Rattle.evidence.proofs.Replies.{refusals-equal, placements-equal, tables-equal, spread-replied, table-replied}
+
+-- THE TEST of a specimen
+same-verdict : (a b : Bool) → Bool
+same-verdict true b = b
+same-verdict false b = not b
+
+is-right : Specimen → Bool
+is-right (spread-gives t s v ts xs) = same-placement (spread-reply (text-shown t) s) (placement (refusal 0 0 0) v ts xs)
+is-right (spread-refused t s n l f) = same-placement (spread-reply (text-shown t) s) (placement (refusal n l f) 0 [] [])
+is-right (table-gives t n a) = same-table (table-reply (text-shown t) n) (writes (text-shown a) n)
+is-right (table-refused t n m l f) = same-table (table-reply (text-shown t) n) (refuses (refusal m l f) n)
+is-right (trial-gives t s ts xs v) =
+    same-refusal (text-refusal (text-shown t)) (refusal 0 0 0) && same-verdict (is-legal (stack-in (text-shown t)) s (padded 8 ts) (padded 9 xs)) v
+is-right (trial-refused t s ts xs n l f) = not (eqb n 0) && same-refusal (text-refusal (text-shown t)) (refusal n l f)
+
+all-right : List Specimen → Bool
+all-right [] = true
+all-right (m ∷ ms) = is-right m && all-right ms
+
+-- THE LAW
+verdicts-equal : (a b : Bool) → same-verdict a b ≡ true → a ≡ b
+unfolding same-verdict
+verdicts-equal true true e = refl
+verdicts-equal true false e = sym e
+verdicts-equal false true e = e
+verdicts-equal false false e = refl
+
+right-holds : (m : Specimen) → is-right m ≡ true → Holds m
+unfolding is-right Holds placement writes refuses refusal Trial-says
+right-holds (spread-gives t s v ts xs) e =
+    λ r. rw (placements-equal (spread-reply (text-shown t) s) (placement (refusal 0 0 0) v ts xs) e) at (spread-replied (text-shown t) s r)
+right-holds (spread-refused t s n l f) e =
+    λ r. rw (placements-equal (spread-reply (text-shown t) s) (placement (refusal n l f) 0 [] []) e) at (spread-replied (text-shown t) s r)
+right-holds (table-gives t n w) e =
+    λ r o x h. rw (h, tables-equal (table-reply (text-shown t) n) (writes (text-shown w) n) e) at (table-replied (text-shown t) r o x)
+right-holds (table-refused t n m l f) e =
+    λ r o x h. rw (h, tables-equal (table-reply (text-shown t) n) (refuses (refusal m l f) n) e) at (table-replied (text-shown t) r o x)
+right-holds (trial-gives t s ts xs v) e =
+    let bs = text-shown t in
+    let same : text-refusal bs ≡ refusal 0 0 0 = refusals-equal (text-refusal bs) (refusal 0 0 0) (search ands) in
+    let verdict : is-legal (stack-in bs) s (padded 8 ts) (padded 9 xs) ≡ v = verdicts-equal _ v (search ands) in
+    λ r. rw (same, verdict) (λ a. a, λ a. a)
+right-holds (trial-refused t s ts xs n l f) e =
+    let bs = text-shown t in
+    let same : text-refusal bs ≡ refusal n l f = refusals-equal (text-refusal bs) (refusal n l f) (search ands) in
+    λ r. rw (same, not-true (eqb n 0) (search ands)) (λ a. a, λ a. a)
+
+all-hold : (ms : List Specimen) → all-right ms ≡ true → All-hold ms
+unfolding all-right All-hold
+all-hold [] e = tt
+all-hold (m ∷ ms) e = (right-holds m (search ands), all-hold ms (search ands))
+
+-- THE TEST PASSES
+test-passes : all-right specimens ≡ true
+unfolding reading replying all-right is-right same-verdict same-refusal same-placement same-table specimens
+test-passes = refl
+
+-- EVERY SPECIMEN HOLDS
+pub specimens-right : Specimens-right
+unfolding Specimens-right
+specimens-right = all-hold specimens test-passes

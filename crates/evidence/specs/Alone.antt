@@ -1,0 +1,62 @@
+-- TRUSTED. What the entries answer follows from their inputs alone, refusals too: two results promised for one input are the same, and of the output as it was
+-- before only its length matters. And a trial says legal exactly if the placement can be drawn. Each statement is a type; proofs/Alone.antt proves it.
+-- Document 01, "Reviewer's checklist" and "When a channel can be wired". Assumes nothing: these are definitions.
+use mathlib.Core.Path.{_≡_}
+use mathlib.Core.Bool.{true}
+use mathlib.Core.List.{List}
+use mathlib.Core.Logic.{_↔_}
+use Prim.Native.Nat.{ℕ, suc}
+use lib.ListN.{length, take, drop}
+use Rattle.stack.specs.Stack.{Stack}
+use Rattle.routing.specs.Paths.{Drawable}
+use Rattle.text.specs.Text.{text-refusal, stack-in}
+use Rattle.text.specs.Outcome.{refusal-of}
+use Rattle.trial.specs.Legal.{all-zero}
+use Rattle.nabetsu.specs.Entry.{tracks, columns, Spread-says, Table-says, Trial-says, Table-coded}
+use Rattle.nabetsu.specs.declared.SpreadAnswer.{SpreadAnswer}
+use Rattle.nabetsu.specs.declared.TableAnswer.{TableAnswer}
+use Rattle.nabetsu.specs.declared.TrialAnswer.{TrialAnswer}
+
+-- ONE SPREAD: refusal, total, separations and positions
+pub record Same-spread (r q : SpreadAnswer) : Type 0 where
+  pub refusals : refusal-of (r .outcome) ≡ refusal-of (q .outcome)
+  pub totals : r .total .0 ≡ q .total .0
+  pub separations : tracks (r .separations) ≡ tracks (q .separations)
+  pub positions : columns (r .positions) ≡ columns (q .positions)
+
+unfoldable pub Spread-alone : Type 0
+Spread-alone = (bs : List ℕ) (s : ℕ) (r q : SpreadAnswer) → Spread-says bs s r → Spread-says bs s q → Same-spread r q
+
+-- THE TABLE: refusal, bytes written and every byte of the output
+pub record Same-table (r q : TableAnswer) (x y : List ℕ) : Type 0 where
+  pub refusals : refusal-of (r .outcome) ≡ refusal-of (q .outcome)
+  pub written : r .written ≡ q .written
+  pub outputs : x ≡ y
+
+unfoldable pub Table-alone : Type 0
+Table-alone =
+    (bs : List ℕ) (r q : TableAnswer) (o p x y : List ℕ) → length o ≡ length p → Table-says bs r o x → Table-says bs q p y → Same-table r q x y
+
+-- the same in one number
+unfoldable pub Coded-alone : Type 0
+Coded-alone =
+    (bs : List ℕ) (r q : ℕ) (o p x y : List ℕ) → length o ≡ length p → Table-coded bs r o x → Table-coded bs q p y → (r ≡ q) × (x ≡ y)
+
+-- THE TRIAL: refusal and verdict
+pub record Same-trial (r q : TrialAnswer) : Type 0 where
+  pub refusals : refusal-of (r .outcome) ≡ refusal-of (q .outcome)
+  pub verdicts : r .legal ≡ q .legal
+
+unfoldable pub Trial-alone : Type 0
+Trial-alone = (bs : List ℕ) (s : ℕ) (ts xs : List ℕ) (r q : TrialAnswer) → Trial-says bs s ts xs r → Trial-says bs s ts xs q → Same-trial r q
+
+-- zeros in the unused places, and the placement in the others can be drawn
+pub record Placement-drawable (k : Stack) (s : ℕ) (ts xs : List ℕ) : Type 0 where
+  pub separations-unused : all-zero (drop (length (k .channels)) ts) ≡ true
+  pub positions-unused : all-zero (drop (suc (length (k .channels))) xs) ≡ true
+  pub drawable : Drawable k s (take (length (k .channels)) ts) (take (suc (length (k .channels))) xs)
+
+unfoldable pub Trial-drawable : Type 0
+Trial-drawable =
+    (bs : List ℕ) (s : ℕ) (ts xs : List ℕ) (r : TrialAnswer) → text-refusal bs .number ≡ 0 → Trial-says bs s ts xs r →
+    (r .legal ≡ true) ↔ Placement-drawable (stack-in bs) s ts xs

@@ -1,0 +1,66 @@
+-- What the entries answer, as executable definitions of their inputs. Assumes nothing: these are definitions. proofs/Replies.antt proves that a result
+-- is promised exactly if it is the reply; nobody has to believe them.
+use mathlib.Core.Bool.{Bool, true, false, _&&_}
+use mathlib.Core.List.{List, [], _++_}
+use Prim.Native.Nat.{ℕ, zero, suc, _-_}
+use lib.Dec.{leb, eqb}
+use lib.ListN.{length, replicate}
+use Rattle.stack.specs.Stack.{Stack, sum}
+use Rattle.text.specs.Text.{Refusal, refusal, same-bytes, text-refusal, stack-in}
+use Rattle.answer.specs.Solve.{answer-separations, answer-positions}
+use Rattle.rows.specs.Walk.{rows-of}
+use Rattle.writing.specs.TableText.{table-text}
+use Rattle.nabetsu.specs.Entry.{spread-refusal}
+
+unfoldable pub same-refusal : (a b : Refusal) → Bool
+same-refusal a b = eqb (a .number) (b .number) && (eqb (a .line) (b .line) && eqb (a .field) (b .field))
+
+-- ONE SPREAD
+pub record Spread-reply : Type 0 where
+  pub refused : Refusal
+  pub total : ℕ
+  pub separations : List ℕ
+  pub positions : List ℕ
+
+unfoldable pub placement : Refusal → (total : ℕ) → (ts xs : List ℕ) → Spread-reply
+placement f v ts xs = record { refused = f; total = v; separations = ts; positions = xs }
+
+unfoldable pub same-placement : (a b : Spread-reply) → Bool
+same-placement a b =
+    same-refusal (a .refused) (b .refused)
+    && (eqb (a .total) (b .total) && (same-bytes (a .separations) (b .separations) && same-bytes (a .positions) (b .positions)))
+
+unfoldable pub placement-for : (number : ℕ) → Refusal → Stack → (s : ℕ) → Spread-reply
+placement-for zero f k s = placement f (sum (answer-separations k s)) (answer-separations k s) (answer-positions k s)
+placement-for (suc n) f k s = placement f 0 [] []
+
+unfoldable pub spread-reply : List ℕ → (s : ℕ) → Spread-reply
+spread-reply bs s = placement-for (spread-refusal bs s .number) (spread-refusal bs s) (stack-in bs) s
+
+-- THE TABLE
+pub record Table-reply : Type 0 where
+  pub refused : Refusal
+  pub written : ℕ
+  pub output : List ℕ
+
+unfoldable pub writes : (text : List ℕ) → (space : ℕ) → Table-reply
+writes t n = record { refused = refusal 0 0 0; written = length t; output = t ++ replicate (n - length t) 0 }
+
+unfoldable pub refuses : Refusal → (space : ℕ) → Table-reply
+refuses f n = record { refused = f; written = 0; output = replicate n 0 }
+
+unfoldable pub same-table : (a b : Table-reply) → Bool
+same-table a b = same-refusal (a .refused) (b .refused) && (eqb (a .written) (b .written) && same-bytes (a .output) (b .output))
+
+unfoldable pub if-fits : (fits : Bool) → (text : List ℕ) → (space : ℕ) → Table-reply
+if-fits true t n = writes t n
+if-fits false t n = refuses (refusal 8 0 0) n
+
+unfoldable pub table-for : (number : ℕ) → Refusal → Stack → (space : ℕ) → Table-reply
+table-for zero f k n =
+    let t = table-text (length (k .channels)) (rows-of k) in
+    if-fits (leb (length t) n) t n
+table-for (suc m) f k n = refuses f n
+
+unfoldable pub table-reply : List ℕ → (space : ℕ) → Table-reply
+table-reply bs n = table-for (text-refusal bs .number) (text-refusal bs) (stack-in bs) n

@@ -1,0 +1,192 @@
+-- TRUSTED. Document 01's specimen cards: one table of texts, questions and replies, and what each says of an entry's result. proofs/Specimens.antt proves all
+-- of them. Document 01, "Specimen cards". Assumes nothing: these are definitions.
+use mathlib.Core.Path.{_≡_}
+use mathlib.Core.Bool.{Bool, true, false, cond}
+use mathlib.Core.List.{List, [], _∷_, _++_}
+use mathlib.Core.Logic.{_↔_}
+use Prim.Native.Nat.{ℕ, _-_}
+use Prim.Native.Char.{code}
+use Prim.Native.String.{String, [] as end-of, _∷_ as _then_}
+use lib.Dec.{eqb}
+use lib.ListN.{length, replicate}
+use Rattle.text.specs.Text.{refusal}
+use Rattle.text.specs.Outcome.{refusal-of}
+use Rattle.nabetsu.specs.Entry.{padded, placed-is, table-told, Spread-says, Table-says, Trial-says}
+use Rattle.nabetsu.specs.declared.SpreadAnswer.{SpreadAnswer}
+use Rattle.nabetsu.specs.declared.TableAnswer.{TableAnswer}
+use Rattle.nabetsu.specs.declared.TrialAnswer.{TrialAnswer}
+
+-- TEXTS as document 01 prints them: a list of lines, tabs shown as spaces
+unfoldable pub byte-shown : (code : ℕ) → ℕ
+byte-shown c = cond (eqb c 32) 9 c
+
+unfoldable pub line-shown : String → List ℕ
+line-shown end-of = 10 ∷ []
+line-shown (c then s) = byte-shown (code c) ∷ line-shown s
+
+unfoldable pub text-shown : List String → List ℕ
+text-shown [] = []
+text-shown (l ∷ ls) = line-shown l ++ text-shown ls
+
+-- a SPECIMEN: a text, what is asked of it, and the reply
+pub data Specimen : Type 0 where
+  spread-gives : (text : List String) → (s : ℕ) → (total : ℕ) → (separations positions : List ℕ) → Specimen
+  spread-refused : (text : List String) → (s : ℕ) → (number line field : ℕ) → Specimen
+  table-gives : (text : List String) → (space : ℕ) → (table : List String) → Specimen
+  table-refused : (text : List String) → (space : ℕ) → (number line field : ℕ) → Specimen
+  trial-gives : (text : List String) → (s : ℕ) → (separations positions : List ℕ) → (verdict : Bool) → Specimen
+  trial-refused : (text : List String) → (s : ℕ) → (separations positions : List ℕ) → (number line field : ℕ) → Specimen
+
+-- what a specimen says of an entry: a result is promised exactly if it is the reply
+unfoldable pub Holds : Specimen → Type 0
+Holds (spread-gives t s v ts xs) = (r : SpreadAnswer) → Spread-says (text-shown t) s r ↔ placed-is (refusal 0 0 0) v ts xs r
+Holds (spread-refused t s n l f) = (r : SpreadAnswer) → Spread-says (text-shown t) s r ↔ placed-is (refusal n l f) 0 [] [] r
+Holds (table-gives t n a) =
+    (r : TableAnswer) (o x : List ℕ) → length o ≡ n →
+    Table-says (text-shown t) r o x
+    ↔ (table-told (refusal 0 0 0) (length (text-shown a)) r × (x ≡ text-shown a ++ replicate (n - length (text-shown a)) 0))
+Holds (table-refused t n m l f) =
+    (r : TableAnswer) (o x : List ℕ) → length o ≡ n → Table-says (text-shown t) r o x ↔ (table-told (refusal m l f) 0 r × (x ≡ replicate n 0))
+Holds (trial-gives t s ts xs v) =
+    (r : TrialAnswer) → Trial-says (text-shown t) s (padded 8 ts) (padded 9 xs) r ↔ ((refusal-of (r .outcome) ≡ refusal 0 0 0) × (r .legal ≡ v))
+Holds (trial-refused t s ts xs n l f) =
+    (r : TrialAnswer) → Trial-says (text-shown t) s (padded 8 ts) (padded 9 xs) r ↔ ((refusal-of (r .outcome) ≡ refusal n l f) × (r .legal ≡ false))
+
+unfoldable pub All-hold : List Specimen → Type 0
+All-hold [] = Unit
+All-hold (m ∷ ms) = Holds m × All-hold ms
+
+-- THE CARDS
+abbrev pub text-a : List String
+text-a = "STACK 1" ∷ "PART 4" ∷ "PART 4" ∷ "NETS 0 2 2 4" ∷ []
+
+abbrev pub table-a : List String
+table-a = "TABLE 1" ∷ "ROW 4 2 2 0 0" ∷ "ROW 5 1 1 1 0" ∷ "ROW 6 0 0 2 0" ∷ []
+
+abbrev pub text-b : List String
+text-b = "STACK 2" ∷ "PART 4" ∷ "PART 4" ∷ "PART 4" ∷ "NETS 0 2 2 4" ∷ "NETS 0 2 2 4" ∷ []
+
+abbrev pub table-b : List String
+table-b =
+    "TABLE 2"
+    ∷ "ROW 4 4 2 2 0 0 0"
+    ∷ "ROW 5 3 1 2 1 0 0"
+    ∷ "ROW 6 2 0 2 2 0 0"
+    ∷ "ROW 7 1 0 1 3 1 0"
+    ∷ "ROW 8 0 0 0 4 2 0"
+    ∷ []
+
+abbrev pub text-c : List String
+text-c = "STACK 1" ∷ "PART 3" ∷ "PART 5" ∷ "NETS" ∷ []
+
+abbrev pub table-c : List String
+table-c = "TABLE 1" ∷ "ROW 5 0 0 0 0" ∷ []
+
+abbrev pub text-d : List String
+text-d = "STACK 1" ∷ "PART 1" ∷ "PART 1" ∷ "NETS 1 0" ∷ []
+
+abbrev pub table-d : List String
+table-d = "TABLE 1" ∷ "ROW 1 1 1 0 0" ∷ "ROW 2 0 0 0 1" ∷ []
+
+abbrev pub text-e : List String
+text-e = []
+
+abbrev pub text-f : List String
+text-f = "STACK 1" ∷ "PART 0" ∷ "PART 4" ∷ "NETS 0 2 2 4" ∷ []
+
+abbrev pub text-g : List String
+text-g = "STACK 1" ∷ "PART 4" ∷ "PART 4" ∷ "NETS 0 2 2 5" ∷ []
+
+abbrev pub text-h : List String
+text-h = "STACK 1" ∷ "PART 4" ∷ "PART 4" ∷ "NETS 0 2 0 4" ∷ []
+
+-- 32 pairs and 33
+abbrev pub text-32 : List String
+text-32 =
+    "STACK 1"
+    ∷ "PART 40"
+    ∷ "PART 40"
+    ∷ "NETS 0 0 1 1 2 2 3 3 4 4 5 5 6 6 7 7 8 8 9 9 10 10 11 11 12 12 13 13 14 14 15 15 16 16 17 17 18 18 19 19 20 20 21 21 22 22 23 23 24 24 25 25 26 26 27 27 28 28 29 29 30 30 31 31"
+    ∷ []
+
+abbrev pub text-33 : List String
+text-33 =
+    "STACK 1"
+    ∷ "PART 40"
+    ∷ "PART 40"
+    ∷ "NETS 0 0 1 1 2 2 3 3 4 4 5 5 6 6 7 7 8 8 9 9 10 10 11 11 12 12 13 13 14 14 15 15 16 16 17 17 18 18 19 19 20 20 21 21 22 22 23 23 24 24 25 25 26 26 27 27 28 28 29 29 30 30 31 31 32 32"
+    ∷ []
+
+-- lengths 1,000 and 1,001
+abbrev pub text-1000 : List String
+text-1000 = "STACK 1" ∷ "PART 1000" ∷ "PART 4" ∷ "NETS 0 2 2 4" ∷ []
+
+abbrev pub text-1001 : List String
+text-1001 = "STACK 1" ∷ "PART 1001" ∷ "PART 4" ∷ "NETS 0 2 2 4" ∷ []
+
+-- not of document 01: at spread 3, between two rows, the total is the row's and the placement is not
+abbrev pub text-between : List String
+text-between = "STACK 2" ∷ "PART 2" ∷ "PART 1" ∷ "PART 1" ∷ "NETS 0 1" ∷ "NETS 0 1" ∷ []
+
+abbrev pub table-between : List String
+table-between = "TABLE 2" ∷ "ROW 2 1 1 0 0 1 0" ∷ "ROW 4 0 0 0 2 1 0" ∷ []
+
+-- THE SPECIMENS
+unfoldable pub specimens : List Specimen
+specimens =
+    -- A
+    table-gives text-a 50 table-a
+    ∷ table-gives text-a 51 table-a
+    ∷ table-refused text-a 49 8 0 0
+    ∷ spread-refused text-a 3 7 0 0
+    ∷ spread-gives text-a 4 2 (2 ∷ []) (0 ∷ 0 ∷ [])
+    ∷ spread-gives text-a 5 1 (1 ∷ []) (1 ∷ 0 ∷ [])
+    ∷ spread-gives text-a 6 0 (0 ∷ []) (2 ∷ 0 ∷ [])
+    ∷ spread-gives text-a 100 0 (0 ∷ []) (2 ∷ 0 ∷ [])
+    -- B
+    ∷ table-gives text-b 98 table-b
+    ∷ spread-gives text-b 4 4 (2 ∷ 2 ∷ []) (0 ∷ 0 ∷ 0 ∷ [])
+    ∷ spread-gives text-b 5 3 (1 ∷ 2 ∷ []) (1 ∷ 0 ∷ 0 ∷ [])
+    ∷ spread-gives text-b 6 2 (0 ∷ 2 ∷ []) (2 ∷ 0 ∷ 0 ∷ [])
+    ∷ trial-gives text-b 6 (1 ∷ 1 ∷ []) (2 ∷ 1 ∷ 0 ∷ []) true
+    ∷ spread-gives text-b 7 1 (0 ∷ 1 ∷ []) (3 ∷ 1 ∷ 0 ∷ [])
+    ∷ spread-gives text-b 8 0 (0 ∷ 0 ∷ []) (4 ∷ 2 ∷ 0 ∷ [])
+    ∷ spread-gives text-b 9 0 (0 ∷ 0 ∷ []) (4 ∷ 2 ∷ 0 ∷ [])
+    -- C
+    ∷ table-gives text-c 50 table-c
+    ∷ spread-gives text-c 5 0 (0 ∷ []) (0 ∷ 0 ∷ [])
+    ∷ spread-gives text-c 6 0 (0 ∷ []) (0 ∷ 0 ∷ [])
+    -- D
+    ∷ table-gives text-d 50 table-d
+    ∷ spread-gives text-d 1 1 (1 ∷ []) (0 ∷ 0 ∷ [])
+    ∷ spread-gives text-d 2 0 (0 ∷ []) (0 ∷ 1 ∷ [])
+    ∷ spread-gives text-d 3 0 (0 ∷ []) (0 ∷ 1 ∷ [])
+    -- E to H
+    ∷ table-refused text-e 50 2 1 0
+    ∷ spread-refused text-e 100 2 1 0
+    ∷ trial-refused text-e 100 [] [] 2 1 0
+    ∷ table-refused text-f 50 4 2 2
+    ∷ spread-refused text-f 100 4 2 2
+    ∷ table-refused text-g 50 5 4 5
+    ∷ spread-refused text-g 100 5 4 5
+    ∷ table-refused text-h 50 6 4 4
+    ∷ spread-refused text-h 100 6 4 4
+    -- the limits
+    ∷ spread-gives text-32 40 0 (0 ∷ []) (0 ∷ 0 ∷ [])
+    ∷ table-refused text-33 50 3 4 66
+    ∷ spread-refused text-33 40 3 4 66
+    ∷ spread-gives text-1000 1000 2 (2 ∷ []) (0 ∷ 0 ∷ [])
+    ∷ table-refused text-1001 50 4 2 2
+    ∷ spread-refused text-1001 1001 4 2 2
+    -- between two rows
+    ∷ table-gives text-between 44 table-between
+    ∷ spread-gives text-between 2 1 (1 ∷ 0 ∷ []) (0 ∷ 1 ∷ 0 ∷ [])
+    ∷ spread-gives text-between 3 1 (0 ∷ 1 ∷ []) (1 ∷ 0 ∷ 0 ∷ [])
+    -- a number in an unused place
+    ∷ trial-gives text-a 6 (0 ∷ []) (2 ∷ 0 ∷ []) true
+    ∷ trial-gives text-a 6 (0 ∷ 1 ∷ []) (2 ∷ 0 ∷ []) false
+    ∷ []
+
+-- every one of them holds
+unfoldable pub Specimens-right : Type 0
+Specimens-right = All-hold specimens
