@@ -1,11 +1,12 @@
 -- The statements of Alone.antt, proved: there is but one answer for a spread and but one list of rows, and everything else in a promise is an equation. The
 -- trial's verdict is the test legal, which by the routing theorem is drawable. Assumes nothing.
-use mathlib.Core.Path.{_≡_, sym, _∙_}
+use mathlib.Core.Path.{_≡_, sym, ap, _∙_}
 use mathlib.Core.Bool.{Bool, true, false}
-use mathlib.Core.List.{List, [], _++_}
+use mathlib.Core.List.{List, [], _∷_, _++_}
 use Prim.Native.Nat.{ℕ, zero, suc, _-_}
 use lib.Dec.{leb}
-use lib.ListN.{length, take, replicate}
+use lib.ListN.{length, getD, take, replicate}
+use Rattle.numbers.specs.Lists.{tabulate}
 use Rattle.numbers.proofs.Bools.{ands}
 use Rattle.stack.specs.Stack.{Stack, legal}
 use Rattle.stack.specs.Limits.{all-rising}
@@ -17,10 +18,10 @@ use Rattle.answer.proofs.Answers.{answer-alone}
 use Rattle.rows.proofs.Rows.{rows-alone}
 use Rattle.writing.specs.TableText.{table-text}
 use Rattle.trial.specs.Legal.{is-legal}
-use Rattle.nabetsu.specs.Entry.{placed-is, Answered, Spread-says, zeros, table-told, Fits, Tabled, Table-says, Trial-says}
+use Rattle.nabetsu.specs.Entry.{tracks, columns, numbers, numbers-in, Numbers-put, placed-is, Answered, Spread-says, zeros, table-told, Fits, Tabled, Table-says, Trial-says}
 use Rattle.nabetsu.specs.declared.SpreadAnswer.{SpreadAnswer}
 use Rattle.nabetsu.specs.declared.TableAnswer.{TableAnswer}
-use Rattle.evidence.specs.Alone.{Same-spread, Spread-alone, Same-table, Table-alone, Coded-alone, Trial-alone, Placement-drawable, Trial-drawable}
+use Rattle.evidence.specs.Alone.{Same-spread, Spread-alone, Spread-coded-alone, Same-table, Table-alone, Coded-alone, Trial-alone, Placement-drawable, Trial-drawable}
 
 -- ONE SPREAD
 placed-alone : (f : Refusal) (v : ℕ) (ts xs : List ℕ) (r q : SpreadAnswer) → placed-is f v ts xs r → placed-is f v ts xs q → Same-spread r q
@@ -39,14 +40,30 @@ pub spread-alone : Spread-alone
 unfolding Spread-alone Spread-says
 spread-alone bs s r q a b = answered-alone _ _ (stack-in bs) s r q a b
 
--- THE TABLE
-told-alone : (f : Refusal) (w : ℕ) (r q : TableAnswer) (x y z : List ℕ) → table-told f w r → table-told f w q → x ≡ z → y ≡ z → Same-table r q x y
-unfolding table-told
-told-alone f w r q x y z a b e h = record { refusals = a .0 ∙ sym (b .0); written = a .1 ∙ sym (b .1); outputs = e ∙ sym h }
+numbers-alone : (n : ℕ) (r q : SpreadAnswer) → Same-spread r q → numbers-in n r ≡ numbers-in n q
+unfolding numbers-in numbers
+numbers-alone n r q e =
+    let same : r .total .0 ∷ (tracks (r .separations) ++ columns (r .positions)) ≡ q .total .0 ∷ (tracks (q .separations) ++ columns (q .positions)) = rw (e .totals, e .separations, e .positions) in
+    ap (λ (ns : List ℕ). tabulate n 0 (λ i. getD ns i 0)) same
 
 zeros-alone : (o p : List ℕ) → length o ≡ length p → zeros p ≡ zeros o
 unfolding zeros
 zeros-alone o p l = rw l
+
+put-alone : (b : Bool) (a c : SpreadAnswer) (r q : ℕ) (o p x y : List ℕ) → length o ≡ length p → Same-spread a c → Numbers-put b a r o x → Numbers-put b c q p y → (r ≡ q) × (x ≡ y)
+unfolding Numbers-put
+put-alone true a c r q o p x y l e d f = (d .0 ∙ rw (e .refusals) (sym (f .0)), d .1 ∙ (numbers-alone (length o) a c e ∙ rw l (sym (f .1))))
+put-alone false a c r q o p x y l e d f = (d .0 ∙ rw (e .refusals) (sym (f .0)), d .1 ∙ sym (f .1 ∙ zeros-alone o p l))
+
+pub spread-coded-alone : Spread-coded-alone
+unfolding Spread-coded-alone Spread-alone
+spread-coded-alone bs s r q o p x y l a b =
+    put-alone (leb 18 (length p)) (a .answer) (b .answer) r q o p x y l (spread-alone bs s (a .answer) (b .answer) (a .says) (b .says)) (rw l at (a .put)) (b .put)
+
+-- THE TABLE
+told-alone : (f : Refusal) (w : ℕ) (r q : TableAnswer) (x y z : List ℕ) → table-told f w r → table-told f w q → x ≡ z → y ≡ z → Same-table r q x y
+unfolding table-told
+told-alone f w r q x y z a b e h = record { refusals = a .0 ∙ sym (b .0); written = a .1 ∙ sym (b .1); outputs = e ∙ sym h }
 
 fits-alone : (b : Bool) (t : List ℕ) (r q : TableAnswer) (o p x y : List ℕ) → length o ≡ length p → Fits b t r o x → Fits b t q p y → Same-table r q x y
 unfolding Fits

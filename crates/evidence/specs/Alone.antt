@@ -12,7 +12,7 @@ use Rattle.routing.specs.Paths.{Drawable}
 use Rattle.text.specs.Text.{text-refusal, stack-in}
 use Rattle.text.specs.Outcome.{refusal-of}
 use Rattle.trial.specs.Legal.{all-zero}
-use Rattle.nabetsu.specs.Entry.{tracks, columns, Spread-says, Table-says, Trial-says, Table-coded}
+use Rattle.nabetsu.specs.Entry.{tracks, columns, Spread-says, Table-says, Trial-says, Table-coded, Spread-coded}
 use Rattle.nabetsu.specs.declared.SpreadAnswer.{SpreadAnswer}
 use Rattle.nabetsu.specs.declared.TableAnswer.{TableAnswer}
 use Rattle.nabetsu.specs.declared.TrialAnswer.{TrialAnswer}
@@ -26,6 +26,11 @@ pub record Same-spread (r q : SpreadAnswer) : Type 0 where
 
 unfoldable pub Spread-alone : Type 0
 Spread-alone = (bs : List ℕ) (s : ℕ) (r q : SpreadAnswer) → Spread-says bs s r → Spread-says bs s q → Same-spread r q
+
+-- the same in numbers
+unfoldable pub Spread-coded-alone : Type 0
+Spread-coded-alone =
+    (bs : List ℕ) (s r q : ℕ) (o p x y : List ℕ) → length o ≡ length p → Spread-coded bs s r o x → Spread-coded bs s q p y → (r ≡ q) × (x ≡ y)
 
 -- THE TABLE: refusal, bytes written and every byte of the output
 pub record Same-table (r q : TableAnswer) (x y : List ℕ) : Type 0 where

@@ -1,0 +1,39 @@
+/* The proved library for C. Each function answers whatever text, spread and space come in; what it promises is proved in crates/nabetsu.
+ *
+ * A pointer must point to as many items as the length behind it says, be aligned, and not be null even where that length is 0; the text and the output must
+ * not overlap. Nothing outside the output is written, and nothing is kept from call to call.
+ *
+ * A refusal is one number: document 01's number times 2^40, its line times 2^20 and its field, added. It is at least 2^40, and every other answer is
+ * below that. */
+#ifndef NABETSU_H
+#define NABETSU_H
+
+#include <stddef.h>
+#include <stdint.h>
+
+/* So many bytes are enough for every table. */
+#define NABETSU_TABLE_BYTES 21082
+
+/* The numbers of an answer: the total, eight separations, nine positions; and of a placement, the same without the total. */
+#define NABETSU_ANSWER_NUMBERS 18
+#define NABETSU_PLACEMENT_NUMBERS 17
+
+#define NABETSU_IS_REFUSED(code) ((code) >> 40 != 0)
+#define NABETSU_NUMBER(code) ((unsigned)((code) >> 40))
+#define NABETSU_LINE(code) ((unsigned)((code) >> 20 & 0xfffff))
+#define NABETSU_FIELD(code) ((unsigned)((code) & 0xfffff))
+
+/* The table of the stack in a text: its bytes, and zeros in the rest of the output; answers how many bytes it has. Or a refusal, 1 to 6, then 8 exactly if
+ * the table is longer than the output, and zeros in the whole output. */
+uint64_t nabetsu_write_table(const uint8_t *text, size_t text_length, uint8_t *output, size_t output_length);
+
+/* The placement with the least total in a spread, by document 01's tie rule: 0, with total, separations and positions in the output, zeros in unused places
+ * and behind them. Or a refusal, 1 to 6, then 7, then 8 where the output has fewer than 18 places, and zeros in the whole output. The placement can be
+ * drawn, and no placement that can be drawn in that spread has a smaller total. */
+uint64_t nabetsu_answer_spread(const uint8_t *text, size_t text_length, uint32_t spread, uint32_t *output, size_t output_length);
+
+/* The trial of eight separations and nine positions: 1 exactly if they are legal, with zeros in unused places; 2 if not, or if there are not 17 numbers. Or a
+ * refusal, 1 to 6. */
+uint64_t nabetsu_try_placement(const uint8_t *text, size_t text_length, uint32_t spread, const uint32_t *placement, size_t placement_length);
+
+#endif

@@ -1,0 +1,51 @@
+/* Prints the table of the stack on standard input, or the refusal's number, line and field. It also asks for the answer at each row's spread and tries it:
+ * a row that differs from its answer, or is not found legal, is an error. */
+#include "nabetsu.h"
+
+#include <stdio.h>
+#include <stdlib.h>
+#include <string.h>
+
+/* One byte more than the longest text that is not refused as overlong. */
+static uint8_t text[8193];
+static uint8_t output[NABETSU_TABLE_BYTES + 1];
+
+/* The row of an answer, as the table has it. */
+static int row_text(char *line, unsigned long spread, const uint32_t *answer, int k) {
+    int end = sprintf(line, "ROW\t%lu", spread);
+    for (int i = 0; i <= k; i++) {
+        end += sprintf(line + end, "\t%lu", (unsigned long)answer[i]);
+    }
+    for (int i = 9; i <= 9 + k; i++) {
+        end += sprintf(line + end, "\t%lu", (unsigned long)answer[i]);
+    }
+    return end + sprintf(line + end, "\n");
+}
+
+static int is_row_right(size_t length, const char *row, int k) {
+    unsigned long spread = strtoul(row + 4, NULL, 10);
+    uint32_t answer[NABETSU_ANSWER_NUMBERS];
+    char line[256];
+    if (nabetsu_answer_spread(text, length, (uint32_t)spread, answer, NABETSU_ANSWER_NUMBERS) != 0) {
+        return 0;
+    }
+    int end = row_text(line, spread, answer, k);
+    return strncmp(row, line, (size_t)end) == 0 && nabetsu_try_placement(text, length, (uint32_t)spread, answer + 1, NABETSU_PLACEMENT_NUMBERS) == 1;
+}
+
+int main(void) {
+    size_t length = fread(text, 1, sizeof text, stdin);
+    uint64_t code = nabetsu_write_table(text, length, output, NABETSU_TABLE_BYTES);
+    if (NABETSU_IS_REFUSED(code)) {
+        printf("%u\t%u\t%u\n", NABETSU_NUMBER(code), NABETSU_LINE(code), NABETSU_FIELD(code));
+        return 1;
+    }
+    int k = output[6] - '0';
+    for (const char *row = strchr((char *)output, '\n') + 1; *row != 0; row = strchr(row, '\n') + 1) {
+        if (!is_row_right(length, row, k)) {
+            fprintf(stderr, "a row is not the answer at its spread\n");
+            return 2;
+        }
+    }
+    return fwrite(output, 1, (size_t)code, stdout) == code ? 0 : 2;
+}
