@@ -1,5 +1,23 @@
 // stacktable: prints the table of a stack, the answer for one spread, or the verdict on a placement. No contract can say what is read or written, so what is
 // printed is made by functions on slices, and the functions that read and write hold nothing else.
+ghost use mathlib.Core.Path.{_≡_};
+ghost use mathlib.Core.List.{[]};
+ghost use Prim.Native.Nat.{_≤_, _<_, _+_};
+ghost use lib.ListN.{length};
+ghost use Rattle.io.specs.Counts.{Counts};
+ghost use Rattle.text.specs.Outcome.{refusal-of};
+ghost use Rattle.nabetsu.specs.Entry.{tracks, columns};
+ghost use Rattle.stacktable.specs.Words.{Digits-read, Number-read, command-in};
+ghost use Rattle.stacktable.specs.Output.{
+  Printed,
+  unless-refused,
+  Table-printed,
+  Spread-printed,
+  separations-in,
+  positions-in,
+  verdict-text,
+  trial-text,
+};
 use libc::STDERR_FILENO;
 use libc::STDIN_FILENO;
 use libc::STDOUT_FILENO;
@@ -44,7 +62,10 @@ struct Number {
     value: u32,
 }
 
-fn read_digits(word: &[u8]) -> Digits {
+fn read_digits(word: &[u8]) -> Digits
+    requires { ⌜ length (now word) ≤ 10 ⌝ }
+    ensures { λ r. ⌜ Digits-read (now (word .entry)) r ⌝ }
+{
     let mut value: u64 = 0;
     for i in 0..word.len() {
         let x = word[i];
@@ -60,7 +81,9 @@ fn read_digits(word: &[u8]) -> Digits {
 }
 
 // A number: 1 to 10 decimal digits, at most 4294967295.
-fn read_number(word: &[u8]) -> Number {
+fn read_number(word: &[u8]) -> Number
+    ensures { λ r. ⌜ Number-read (now (word .entry)) r ⌝ }
+{
     let none = Number {
         good: false,
         value: 0,
@@ -93,7 +116,9 @@ enum Command {
 }
 
 // The command of so many words, of which this is the first.
-fn command(word: &[u8], words: usize) -> Command {
+fn read_command(word: &[u8], words: usize) -> Command
+    ensures { λ r. ⌜ r ≡ command-in (now (word .entry)) words ⌝ }
+{
     if words == 0 {
         return Command::Table;
     }
@@ -116,7 +141,9 @@ fn command(word: &[u8], words: usize) -> Command {
 }
 
 // The line of a refusal; nothing where there is none.
-fn put_outcome(outcome: Outcome, output: &mut [u8; TABLE_BYTES]) -> usize {
+fn put_outcome(outcome: Outcome, output: &mut [u8; TABLE_BYTES]) -> usize
+    ensures { λ r. ⌜ Printed (unless-refused (refusal-of outcome) []) (now (output .exit)) r ⌝ }
+{
     match outcome {
         Outcome::Accepted => 0,
         Outcome::Refused(r) => {
@@ -127,7 +154,9 @@ fn put_outcome(outcome: Outcome, output: &mut [u8; TABLE_BYTES]) -> usize {
 }
 
 // What is printed of a text: its table, or the refusal's line.
-fn put_table(text: &[u8], output: &mut [u8; TABLE_BYTES]) -> usize {
+fn put_table(text: &[u8], output: &mut [u8; TABLE_BYTES]) -> usize
+    ensures { λ r. ⌜ Table-printed (now (text .entry)) (now (output .exit)) r ⌝ }
+{
     let answer = write_table(text, output);
     let outcome = answer.outcome;
     if !outcome.is_accepted() {
@@ -137,7 +166,9 @@ fn put_table(text: &[u8], output: &mut [u8; TABLE_BYTES]) -> usize {
 }
 
 // What is printed for one spread: its row, or the refusal's line.
-fn put_spread(text: &[u8], spread: u32, output: &mut [u8; TABLE_BYTES]) -> usize {
+fn put_spread(text: &[u8], spread: u32, output: &mut [u8; TABLE_BYTES]) -> usize
+    ensures { λ r. ⌜ Spread-printed (now (text .entry)) spread (now (output .exit)) r ⌝ }
+{
     let answer = answer_spread(text, spread);
     let outcome = answer.outcome;
     if !outcome.is_accepted() {
@@ -158,7 +189,10 @@ fn put_spread(text: &[u8], spread: u32, output: &mut [u8; TABLE_BYTES]) -> usize
 }
 
 // A trial's first k separations, and zeros.
-fn separations(numbers: [u32; NUMBERS], k: usize) -> [Tracks; Stack::MAX_CHANNELS] {
+fn separations(numbers: [u32; NUMBERS], k: usize) -> [Tracks; Stack::MAX_CHANNELS]
+    requires { ⌜ k ≤ 8 ⌝ }
+    ensures { λ r. ⌜ tracks r ≡ separations-in k numbers ⌝ }
+{
     let mut separations = [Tracks(0); Stack::MAX_CHANNELS];
     for i in 0..k {
         separations[i] = Tracks(numbers[1 + i]);
@@ -167,7 +201,10 @@ fn separations(numbers: [u32; NUMBERS], k: usize) -> [Tracks; Stack::MAX_CHANNEL
 }
 
 // A trial's first k + 1 positions, behind its separations, and zeros.
-fn positions(numbers: [u32; NUMBERS], k: usize) -> [Columns; Stack::MAX_CHANNELS + 1] {
+fn positions(numbers: [u32; NUMBERS], k: usize) -> [Columns; Stack::MAX_CHANNELS + 1]
+    requires { ⌜ k ≤ 8 ⌝ }
+    ensures { λ r. ⌜ columns r ≡ positions-in k numbers ⌝ }
+{
     let mut positions = [Columns(0); Stack::MAX_CHANNELS + 1];
     for i in 0..k + 1 {
         positions[i] = Columns(numbers[1 + k + i]);
@@ -175,7 +212,9 @@ fn positions(numbers: [u32; NUMBERS], k: usize) -> [Columns; Stack::MAX_CHANNELS
     positions
 }
 
-fn put_verdict(legal: bool, output: &mut [u8; TABLE_BYTES]) -> usize {
+fn put_verdict(legal: bool, output: &mut [u8; TABLE_BYTES]) -> usize
+    ensures { λ r. ⌜ Printed (verdict-text legal) (now (output .exit)) r ⌝ }
+{
     if legal {
         return put_line(output, b"legal\n");
     }
@@ -188,7 +227,9 @@ fn put_trial(
     count: usize,
     numbers: [u32; NUMBERS],
     output: &mut [u8; TABLE_BYTES],
-) -> usize {
+) -> usize
+    ensures { λ r. ⌜ Printed (trial-text (now (text .entry)) count numbers) (now (output .exit)) r ⌝ }
+{
     let reading = read_stack(text);
     let outcome = reading.outcome;
     if !outcome.is_accepted() {
@@ -252,7 +293,9 @@ struct Input {
 }
 
 // Reads to the end of the input, or until the space is full.
-fn read_text(fd: i32, text: &mut [u8]) -> Input {
+fn read_text(fd: i32, text: &mut [u8]) -> Input
+    ensures { λ r. ⌜ Counts (r .length) (now (text .exit)) ⌝ }
+{
     let mut length = 0;
     while length < text.len() {
         let got = libc::read(fd, &mut text[length..]);
@@ -270,7 +313,9 @@ fn read_text(fd: i32, text: &mut [u8]) -> Input {
     Input { good: true, length }
 }
 
-fn read_from(fd: i32, name: &[u8], text: &mut [u8; TEXT_BYTES]) -> Input {
+fn read_from(fd: i32, name: &[u8], text: &mut [u8; TEXT_BYTES]) -> Input
+    ensures { λ r. ⌜ Counts (r .length) (now (text .exit)) ⌝ }
+{
     let input = read_text(fd, text);
     if !input.good {
         fail(name);
@@ -278,7 +323,9 @@ fn read_from(fd: i32, name: &[u8], text: &mut [u8; TEXT_BYTES]) -> Input {
     input
 }
 
-fn no_input(name: &[u8]) -> Input {
+fn no_input(name: &[u8]) -> Input
+    ensures { λ r. ⌜ r .length ≡ 0 ⌝ }
+{
     fail(name);
     Input {
         good: false,
@@ -286,7 +333,9 @@ fn no_input(name: &[u8]) -> Input {
     }
 }
 
-fn read_file(text: &mut [u8; TEXT_BYTES]) -> Input {
+fn read_file(text: &mut [u8; TEXT_BYTES]) -> Input
+    ensures { λ r. ⌜ Counts (r .length) (now (text .exit)) ⌝ }
+{
     let mut path = io::buffer();
     let n = os::arg(2, &mut path);
     if os::errno() != 0 {
@@ -304,7 +353,9 @@ fn read_file(text: &mut [u8; TEXT_BYTES]) -> Input {
 // Where the command stands among the arguments: behind -f and a file, or first.
 const BEHIND_FILE: usize = 3;
 
-fn command_place() -> usize {
+fn command_place() -> usize
+    ensures { λ r. ⌜ r ≤ 3 ⌝ }
+{
     let mut word = io::buffer();
     let n = os::arg(1, &mut word);
     if is_word(&word[..n], b"-f") {
@@ -315,7 +366,9 @@ fn command_place() -> usize {
 }
 
 // Reads the text; where that fails, it has said why.
-fn read_input(place: usize, text: &mut [u8; TEXT_BYTES]) -> Input {
+fn read_input(place: usize, text: &mut [u8; TEXT_BYTES]) -> Input
+    ensures { λ r. ⌜ Counts (r .length) (now (text .exit)) ⌝ }
+{
     if place == BEHIND_FILE {
         return read_file(text);
     }
@@ -374,7 +427,9 @@ fn print_table(place: usize) {
     print(&output[..n]);
 }
 
-fn print_spread(place: usize) {
+fn print_spread(place: usize)
+    requires { ⌜ place ≤ 3 ⌝ }
+{
     let number = number_argument(place + 1);
     if !number.good {
         return;
@@ -390,7 +445,9 @@ fn print_spread(place: usize) {
     print(&output[..n]);
 }
 
-fn print_trial(place: usize, end: usize) {
+fn print_trial(place: usize, end: usize)
+    requires { ⌜ place < end ⌝ }
+{
     let first = place + 1;
     let numbers = read_numbers(first, end);
     if !numbers.good {
@@ -421,7 +478,7 @@ fn main() {
     }
     let mut word = io::buffer();
     let n = os::arg(place, &mut word);
-    match command(&word[..n], end - place) {
+    match read_command(&word[..n], end - place) {
         Command::Table => print_table(place),
         Command::Spread => print_spread(place),
         Command::Trial => print_trial(place, end),
