@@ -29,14 +29,18 @@ unless-refused f t = cond (eqb (f .number) 0) t (refusal-text (f .number) (f .li
 abbrev pub channels : List ℕ → ℕ
 channels bs = length (stack-in bs .channels)
 
+-- the program's space for a table
+abbrev pub table-bytes : ℕ
+table-bytes = 21082
+
 -- THE TABLE: 1 to 6, then 8 where the space is too short, else the table of the stack's rows
-unfoldable pub table-refusal : List ℕ → List Row → (space : ℕ) → Refusal
-table-refusal bs rs n = or-else (text-refusal bs) (cond (leb (length (table-text (channels bs) rs)) n) fine (refusal 8 0 0))
+unfoldable pub table-refusal : List ℕ → List Row → Refusal
+table-refusal bs rs = or-else (text-refusal bs) (cond (leb (length (table-text (channels bs) rs)) table-bytes) fine (refusal 8 0 0))
 
 pub record Table-printed (bs output : List ℕ) (n : ℕ) : Type 0 where
   pub rows : List Row
   pub rows-are : text-refusal bs .number ≡ 0 → Rows-are (stack-in bs) rows
-  pub printed : Printed (unless-refused (table-refusal bs rows (length output)) (table-text (channels bs) rows)) output n
+  pub printed : Printed (unless-refused (table-refusal bs rows) (table-text (channels bs) rows)) output n
 
 -- ONE SPREAD: 1 to 7, else the answer's row
 pub record Spread-printed (bs : List ℕ) (s : ℕ) (output : List ℕ) (n : ℕ) : Type 0 where

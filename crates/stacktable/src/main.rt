@@ -3,7 +3,7 @@
 ghost use mathlib.Core.Path.{_≡_};
 ghost use mathlib.Core.List.{[]};
 ghost use Prim.Native.Nat.{_≤_, _<_, _+_};
-ghost use lib.ListN.{length};
+ghost use lib.ListN.{length, set};
 ghost use Rattle.io.specs.Counts.{Counts};
 ghost use Rattle.text.specs.Outcome.{refusal-of};
 ghost use Rattle.nabetsu.specs.Entry.{tracks, columns};
@@ -305,10 +305,11 @@ fn read_text(fd: i32, text: &mut [u8]) -> Input
                 length: 0,
             };
         }
-        if got == 0 {
+        let more = io::count(got, &text[length..]);
+        if more == 0 {
             return Input { good: true, length };
         }
-        length += got as usize;
+        length += more;
     }
     Input { good: true, length }
 }
@@ -391,6 +392,16 @@ fn number_argument(i: usize) -> Number {
     number
 }
 
+// The number in its place, where there is one.
+fn number_stored(mut values: [u32; NUMBERS], i: usize, x: u32) -> [u32; NUMBERS]
+    ensures { λ r. ⌜ r ≡ set values i x ⌝ }
+{
+    if i < NUMBERS {
+        values[i] = x;
+    }
+    values
+}
+
 // Whether the arguments are all numbers, and the first of them.
 struct Numbers {
     good: bool,
@@ -408,9 +419,8 @@ fn read_numbers(first: usize, end: usize) -> Numbers {
                 values,
             };
         }
-        if i - first < NUMBERS {
-            values[i - first] = number.value;
-        }
+        let kept = number_stored(values, i - first, number.value);
+        values = kept;
     }
     Numbers { good: true, values }
 }
