@@ -270,19 +270,41 @@ fn print_usage(fd: i32) {
 // How the program is used, with an example.
 fn print_help() {
     print_usage(STDOUT_FILENO);
-    print(b"\nReads a stack from FILE, or else from standard input.\n");
-    print(b"Without a command it prints the stack's table, with spread the row for spread N,\n");
-    print(b"with trial whether separations T1..TK and positions X0..XK are legal in spread N.\n");
-    print(b"For a refused stack it prints the refusal's number, line and field instead.\n");
-    print(b"A number is 1 to 10 decimal digits, at most 4294967295.\n");
-    print(b"\nExample:\n");
+    io::write_all(
+        STDOUT_FILENO,
+        b"Reads a stack from FILE, or from standard input, and prints\n",
+    );
+    io::write_all(STDOUT_FILENO, b"  its table;\n");
+    io::write_all(
+        STDOUT_FILENO,
+        b"  spread: the answer for spread N, as a row of a table;\n",
+    );
+    io::write_all(
+        STDOUT_FILENO,
+        b"  trial: legal or not legal, for separations T1..TK and positions X0..XK in spread N.\n",
+    );
+    io::write_all(
+        STDOUT_FILENO,
+        b"For a refused stack it prints the refusal's number, line and field.\n",
+    );
+    io::write_all(
+        STDOUT_FILENO,
+        b"A number is 1 to 10 decimal digits, at most 4294967295.\n",
+    );
+    io::write_all(
+        STDOUT_FILENO,
+        b"Example: two strips of 4 columns and two pairs, in a spread of 5\n",
+    );
     print(
         b"  printf 'STACK\\t1\\nPART\\t4\\nPART\\t4\\nNETS\\t0\\t2\\t2\\t4\\n' | stacktable spread 5\n",
     );
 }
 
-fn print_wrong() {
-    io::write_all(STDERR_FILENO, b"stacktable: wrong arguments\n");
+// Says what is wrong with the arguments, and how the program is used.
+fn print_wrong(what: &[u8]) {
+    io::write_all(STDERR_FILENO, b"stacktable: ");
+    io::write_all(STDERR_FILENO, what);
+    io::write_all(STDERR_FILENO, b"\n");
     print_usage(STDERR_FILENO);
 }
 
@@ -473,7 +495,7 @@ fn print_trial(place: usize, end: usize)
     let mut output = [0u8; TABLE_BYTES];
     let n = put_trial(&text[..length], end - first, values, &mut output);
     if n == 0 {
-        print_wrong();
+        print_wrong(b"trial: a stack of K channels takes 2K + 2 numbers");
         return;
     }
     print(&output[..n]);
@@ -483,7 +505,7 @@ fn main() {
     let place = command_place();
     let end = os::arg_count();
     if end < place {
-        print_wrong();
+        print_wrong(b"wrong arguments");
         return;
     }
     let mut word = io::buffer();
@@ -493,6 +515,6 @@ fn main() {
         Command::Spread => print_spread(place),
         Command::Trial => print_trial(place, end),
         Command::Help => print_help(),
-        Command::Wrong => print_wrong(),
+        Command::Wrong => print_wrong(b"wrong arguments"),
     }
 }

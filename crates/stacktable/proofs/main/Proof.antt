@@ -12,6 +12,9 @@ command-place-requires c κs = search needs
 arg-count-requires : tie.Need-arg-count-requires
 arg-count-requires c κs = search needs
 
+slice-aggregate-print-wrong : tie.Need-slice-aggregate-print-wrong
+slice-aggregate-print-wrong c = search needs
+
 print-wrong-requires : tie.Need-print-wrong-requires
 print-wrong-requires c κs = search needs
 
@@ -63,6 +66,9 @@ print-help-requires c κs = search needs
 enum-told-5 : tie.Need-enum-told-5
 enum-told-5 c = search needs
 
+slice-aggregate-print-wrong-2 : tie.Need-slice-aggregate-print-wrong-2
+slice-aggregate-print-wrong-2 c = search needs
+
 print-wrong-requires-2 : tie.Need-print-wrong-requires-2
 print-wrong-requires-2 c κs = search needs
 
@@ -87,6 +93,7 @@ main-spec =
     (tie.spec
     command-place-requires
     arg-count-requires
+    slice-aggregate-print-wrong
     print-wrong-requires
     returns
     buffer-requires
@@ -104,6 +111,7 @@ main-spec =
     enum-told-4
     print-help-requires
     enum-told-5
+    slice-aggregate-print-wrong-2
     print-wrong-requires-2
     returns-2
     returns-3

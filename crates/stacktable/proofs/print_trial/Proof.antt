@@ -31,6 +31,9 @@ sub-put-trial c = search needs
 put-trial-requires : tie.Need-put-trial-requires
 put-trial-requires c κs = search needs
 
+slice-aggregate-print-wrong : tie.Need-slice-aggregate-print-wrong
+slice-aggregate-print-wrong c = search needs
+
 print-wrong-requires : tie.Need-print-wrong-requires
 print-wrong-requires c κs = search needs
 
@@ -62,6 +65,7 @@ print-trial-spec =
     slice-aggregate-put-trial
     sub-put-trial
     put-trial-requires
+    slice-aggregate-print-wrong
     print-wrong-requires
     returns-3
     array-share-prefix-output
