@@ -1,8 +1,9 @@
 // stacktable: prints the table of a stack, the answer for one spread, or the verdict on a placement. No contract can say what is read or written, so what is
 // printed is made by functions on slices, and the functions that read and write hold nothing else.
 ghost use mathlib.Core.Path.{_≡_};
+ghost use mathlib.Core.Bool.{false};
 ghost use mathlib.Core.List.{[]};
-ghost use Prim.Native.Nat.{_≤_, _<_, _+_};
+ghost use Prim.Native.Nat.{_≤_, _<_};
 ghost use lib.ListN.{length, set};
 ghost use Rattle.io.specs.Counts.{Counts};
 ghost use Rattle.text.specs.Outcome.{refusal-of};
@@ -51,12 +52,13 @@ const MAX_NUMBER: u64 = 4294967295;
 
 const ZERO: u8 = 48;
 
-// Whether a word is a number, and which; 0 where it is none.
+// Whether a word's bytes are all digits, and their value; 0 where they are not.
 struct Digits {
     good: bool,
     value: u64,
 }
 
+// Whether a word is a number, and which; 0 where it is none.
 struct Number {
     good: bool,
     value: u32,
@@ -153,7 +155,7 @@ fn put_outcome(outcome: Outcome, output: &mut [u8; TABLE_BYTES]) -> usize
     }
 }
 
-// What is printed of a text: its table, or the refusal's line.
+// All that is printed of a text: its table, or the refusal's line.
 fn put_table(text: &[u8], output: &mut [u8; TABLE_BYTES]) -> usize
     ensures { λ r. ⌜ Table-printed (now (text .entry)) (now (output .exit)) r ⌝ }
 {
@@ -165,7 +167,7 @@ fn put_table(text: &[u8], output: &mut [u8; TABLE_BYTES]) -> usize
     answer.written
 }
 
-// What is printed for one spread: its row, or the refusal's line.
+// All that is printed for one spread: its row, or the refusal's line.
 fn put_spread(text: &[u8], spread: u32, output: &mut [u8; TABLE_BYTES]) -> usize
     ensures { λ r. ⌜ Spread-printed (now (text .entry)) spread (now (output .exit)) r ⌝ }
 {
@@ -212,6 +214,7 @@ fn positions(numbers: [u32; NUMBERS], k: usize) -> [Columns; Stack::MAX_CHANNELS
     positions
 }
 
+// The line of a verdict.
 fn put_verdict(legal: bool, output: &mut [u8; TABLE_BYTES]) -> usize
     ensures { λ r. ⌜ Printed (verdict-text legal) (now (output .exit)) r ⌝ }
 {
@@ -221,7 +224,7 @@ fn put_verdict(legal: bool, output: &mut [u8; TABLE_BYTES]) -> usize
     put_line(output, b"not legal\n")
 }
 
-// What is printed of a trial with so many numbers: the verdict, or the refusal's line; nothing where the count does not fit the stack.
+// All that is printed of a trial with so many numbers: the verdict, or the refusal's line; nothing where the count does not fit the stack.
 fn put_trial(
     text: &[u8],
     count: usize,
@@ -336,6 +339,7 @@ fn read_text(fd: i32, text: &mut [u8]) -> Input
     Input { good: true, length }
 }
 
+// Reads a text; where that fails, it says why.
 fn read_from(fd: i32, name: &[u8], text: &mut [u8; TEXT_BYTES]) -> Input
     ensures { λ r. ⌜ Counts (r .length) (now (text .exit)) ⌝ }
 {
@@ -346,8 +350,9 @@ fn read_from(fd: i32, name: &[u8], text: &mut [u8; TEXT_BYTES]) -> Input
     input
 }
 
+// Says that there is no input, and why.
 fn no_input(name: &[u8]) -> Input
-    ensures { λ r. ⌜ r .length ≡ 0 ⌝ }
+    ensures { λ r. ⌜ (r .good ≡ false) × (r .length ≡ 0) ⌝ }
 {
     fail(name);
     Input {
@@ -356,6 +361,7 @@ fn no_input(name: &[u8]) -> Input
     }
 }
 
+// Reads the file that the second argument names.
 fn read_file(text: &mut [u8; TEXT_BYTES]) -> Input
     ensures { λ r. ⌜ Counts (r .length) (now (text .exit)) ⌝ }
 {
@@ -373,9 +379,10 @@ fn read_file(text: &mut [u8; TEXT_BYTES]) -> Input
     input
 }
 
-// Where the command stands among the arguments: behind -f and a file, or first.
+// The place of an argument behind -f and a file.
 const BEHIND_FILE: usize = 3;
 
+// Where the command stands among the arguments: behind -f and a file, or first.
 fn command_place() -> usize
     ensures { λ r. ⌜ r ≤ 3 ⌝ }
 {
@@ -388,7 +395,7 @@ fn command_place() -> usize
     }
 }
 
-// Reads the text; where that fails, it has said why.
+// Reads the file behind -f, or else standard input.
 fn read_input(place: usize, text: &mut [u8; TEXT_BYTES]) -> Input
     ensures { λ r. ⌜ Counts (r .length) (now (text .exit)) ⌝ }
 {
@@ -398,7 +405,7 @@ fn read_input(place: usize, text: &mut [u8; TEXT_BYTES]) -> Input
     read_from(STDIN_FILENO, b"standard input", text)
 }
 
-// The number that is argument i; where it is none, it has said so.
+// The number that is argument i; where it is none, it says so.
 fn number_argument(i: usize) -> Number {
     let mut word = io::buffer();
     let n = os::arg(i, &mut word);
@@ -406,7 +413,7 @@ fn number_argument(i: usize) -> Number {
     if !number.good {
         io::write_all(
             STDERR_FILENO,
-            b"stacktable: not a number from 0 to 4294967295: ",
+            b"stacktable: not a number of 1 to 10 digits, at most 4294967295: ",
         );
         io::write_all(STDERR_FILENO, &word[..n]);
         io::write_all(STDERR_FILENO, b"\n");
