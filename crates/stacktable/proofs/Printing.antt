@@ -1,16 +1,15 @@
 -- The laws of what is printed: a line put is printed where there is space for it, a refusal stands for any text, and then the table, the row and the verdict,
 -- each where it is accepted and where it is refused. Assumes nothing.
 use mathlib.Core.Path.{_≡_, refl, sym, ap, _∙_}
-use mathlib.Core.Bool.{Bool, true, false, cond, _&&_}
-use mathlib.Core.List.{List, [], _∷_, _++_, map}
-use Prim.Native.Nat.{ℕ, zero, suc, _+_, _*_, _-_, _≤_, _<_}
+use mathlib.Core.Bool.{Bool, true, false}
+use mathlib.Core.List.{List, [], _++_}
+use Prim.Native.Nat.{ℕ, zero, suc, _+_, _*_, _-_, _≤_}
 use native.Mathlib.Omega.{arith}
 use lib.Dec.{leb, eqb}
 use lib.ListN.{length, getD, take, drop, replicate, length-append}
 use lib.Seq.{take-append-seam, take-at}
 use borrow.Author.Tests.{le-leb, eq-eqb, ne-eqb}
-use Rattle.stack.specs.Stack.{Stack, Row, Rows-are, sum}
-use Rattle.stack.specs.Value.{stack-of}
+use Rattle.stack.specs.Stack.{Stack, Row, sum}
 use Rattle.stack.proofs.Within.{few-channels, stack-channels}
 use Rattle.text.specs.Text.{Refusal, refusal, fine, or-else, text-refusal, stack-in}
 use Rattle.text.specs.Outcome.{number-of, refusal-of, is-accepted}
@@ -26,7 +25,7 @@ use Rattle.writing.specs.TableText.{row-text, table-text, refusal-text}
 use Rattle.writing.specs.Output.{over, fitted, written, line-bytes, Line-put, row-of, Row-asks}
 use Rattle.trial.specs.Legal.{is-legal}
 use Rattle.answer.proofs.Answers.{legal-lengths}
-use Rattle.nabetsu.specs.Entry.{padded, tracks, columns, spread-refusal, placed-is, Answered, Spread-says, table-told, Fits, Tabled, Table-says, Trial-says}
+use Rattle.nabetsu.specs.Entry.{padded, tracks, spread-refusal, placed-is, Answered, Spread-says, table-told, Fits, Tabled, Table-says, Trial-says}
 use Rattle.nabetsu.specs.declared.SpreadAnswer.{SpreadAnswer}
 use Rattle.nabetsu.specs.declared.TableAnswer.{TableAnswer}
 use Rattle.nabetsu.specs.declared.TrialAnswer.{TrialAnswer}

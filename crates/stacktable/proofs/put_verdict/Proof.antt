@@ -1,5 +1,4 @@
 -- put_verdict meets its contract: the line put is the verdict. Assumes nothing.
-use native.Mathlib.Omega.{arith}
 use Rattle.stacktable.specs.Output.{verdict-text}
 use Rattle.stacktable.proofs.Printing.{put-printed}
 use borrow.Author.Needs.{needs}
