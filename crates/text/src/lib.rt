@@ -119,7 +119,7 @@ fn run(bytes: &[u8], b: u8) -> usize
 }
 
 // Whether two byte strings are the same.
-fn is_word(field: &[u8], word: &[u8]) -> bool
+pub fn is_word(field: &[u8], word: &[u8]) -> bool
     ensures { λ r. ⌜ r ≡ same-bytes (now (field .entry)) (now (word .entry)) ⌝ }
 {
     if field.len() != word.len() {
@@ -139,7 +139,8 @@ const NINE: u8 = 57;
 
 const MAX_DIGITS: usize = 4;
 
-fn is_digit(x: u8) -> bool
+// Whether a byte is a decimal digit.
+pub fn is_digit(x: u8) -> bool
     ensures { λ r. ⌜ r ≡ is-digit x ⌝ }
 {
     if x < ZERO {

@@ -9,7 +9,7 @@ use lib.Seq.{getD-take}
 use Rattle.stack.specs.Stack.{row, total}
 use Rattle.stack.specs.declared.Tracks.{Tracks}
 use Rattle.stack.specs.declared.Columns.{Columns}
-use Rattle.writing.specs.TableText.{digits, tabbed, row-text, rows-text, table-text}
+use Rattle.writing.specs.TableText.{digits, tabbed, row-text, rows-text, table-text, refusal-text}
 use Rattle.writing.specs.Output.{tracks, columns, row-of, Row-asks, line-bytes}
 use Rattle.writing.specs.Room.{Prepended, Line-made}
 use Rattle.writing.proofs.Digits.{tabbed-one, tabbed-append, tabbed-before}
@@ -45,6 +45,14 @@ module _ {room a b after : List ℕ} {e f at : ℕ} (k : ℕ) (long : line-bytes
       Prepended 5 (84 ∷ 65 ∷ 66 ∷ 76 ∷ 69 ∷ []) b f after at → Line-made (table-text k []) after at
   unfolding table-text rows-text
   head-made p q r = let made = line-made (prepended-more (prepended-more p q) r) long in simp append-assoc made
+
+module _ {room a b c after : List ℕ} {i j l at : ℕ} (number line field : ℕ) (long : line-bytes ≡ length room) where
+  pub refusal-made : Prepended 1 (10 ∷ []) room line-bytes a i → Prepended 11 (tabbed (field ∷ [])) a i b j → Prepended 11 (tabbed (line ∷ [])) b j c l →
+      Prepended 10 (digits number) c l after at → Line-made (refusal-text number line field) after at
+  unfolding refusal-text
+  refusal-made p q r s =
+      let made = line-made (prepended-more (prepended-more (prepended-more p q) r) s) long in
+      rw (tabbed-append (line ∷ []) (field ∷ [])) (simp append-assoc made)
 
 -- a row's numbers, part by part
 pub row-numbers : (s t : ℕ) (ts xs : List ℕ) → tabbed ((s ∷ t ∷ ts) ++ xs) ≡ tabbed (s ∷ []) ++ (tabbed (t ∷ []) ++ (tabbed ts ++ tabbed xs))

@@ -1,4 +1,4 @@
--- TRUSTED. The table's text: numbers, fields, rows and the first line. Document 01, "Lines and tabs". Assumes nothing: these are definitions.
+-- TRUSTED. The table's text: numbers, fields, rows and the first line; and a refusal's line. Document 01, "Lines and tabs". Assumes nothing: these are definitions.
 use mathlib.Core.Bool.{cond}
 use mathlib.Core.List.{List, [], _∷_, _++_}
 use Prim.Native.Nat.{ℕ, zero, suc, _+_, _/_, _%_}
@@ -30,3 +30,7 @@ rows-text (r ∷ rs) = row-text r ++ rows-text rs
 -- THE TABLE: the word TABLE and k, then the rows
 unfoldable pub table-text : (k : ℕ) → List Row → List ℕ
 table-text k rs = (84 ∷ 65 ∷ 66 ∷ 76 ∷ 69 ∷ []) ++ tabbed (k ∷ []) ++ (10 ∷ []) ++ rows-text rs
+
+-- a REFUSAL: its number, line and field
+unfoldable pub refusal-text : (number line field : ℕ) → List ℕ
+refusal-text n l f = digits n ++ tabbed (l ∷ f ∷ []) ++ (10 ∷ [])

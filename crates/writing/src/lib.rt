@@ -1,9 +1,9 @@
-// Writing a table's text: its first line and its rows, each whole or not at all, and zeros behind it.
+// Writing a table's text: its first line and its rows, each whole or not at all, and zeros behind it; and a refusal's line.
 ghost use mathlib.Core.Path.{_≡_};
 ghost use mathlib.Core.List.{[], _∷_};
 ghost use Prim.Native.Nat.{_+_, _^_, _≤_, min};
 ghost use lib.ListN.{length, take};
-ghost use Rattle.writing.specs.TableText.{digits, tabbed, row-text, table-text};
+ghost use Rattle.writing.specs.TableText.{digits, tabbed, row-text, table-text, refusal-text};
 ghost use Rattle.writing.specs.Output.{
   cleared,
   Line-put,
@@ -124,7 +124,7 @@ fn positions_before(room: &mut [u8], end: usize, n: usize, positions: [Columns; 
 }
 
 // A line over the output's first bytes, where there is space for it; its length.
-fn put_line(out: &mut [u8], line: &[u8]) -> usize
+pub fn put_line(out: &mut [u8], line: &[u8]) -> usize
     requires { ⌜ length (now line) ≤ line-bytes ⌝ }
     ensures { λ r. ⌜ Line-put (now (line .entry)) (now (out .entry)) (now (out .exit)) r ⌝ }
 {
@@ -167,6 +167,17 @@ fn row_before(
     word_before(room, first, b"ROW")
 }
 
+// A refusal's line at the end of a room of the longest line's bytes.
+fn refusal_before(room: &mut [u8], number: u32, line: u32, field: u32) -> usize
+    requires { ⌜ length (now room) ≡ line-bytes ⌝ }
+    ensures { λ r. ⌜ Line-made (refusal-text number line field) (now (room .exit)) r ⌝ }
+{
+    let end = byte_before(room, LINE_BYTES, LINE_FEED);
+    let behind = number_before(room, end, field);
+    let between = number_before(room, behind, line);
+    digits_before(room, between, number)
+}
+
 // Document 01, "Lines and tabs": the first line of a table of k channels over the output's first bytes, where there is space for it; its length.
 pub fn put_head(out: &mut [u8], k: usize) -> usize
     requires { ⌜ k ≤ 9 ⌝ }
@@ -191,6 +202,15 @@ pub fn put_row(
 {
     let mut room = [0u8; LINE_BYTES];
     let at = row_before(&mut room, k, spread, total, separations, positions);
+    put_line(out, &room[at..])
+}
+
+// Document 01, "Lines and tabs": a refusal's line over the output's first bytes, where there is space for it; its length.
+pub fn put_refusal(out: &mut [u8], number: u32, line: u32, field: u32) -> usize
+    ensures { λ r. ⌜ Line-put (refusal-text number line field) (now (out .entry)) (now (out .exit)) r ⌝ }
+{
+    let mut room = [0u8; LINE_BYTES];
+    let at = refusal_before(&mut room, number, line, field);
     put_line(out, &room[at..])
 }
 
