@@ -3,23 +3,20 @@
 use mathlib.Core.Path.{_≡_, refl, sym, ap, _∙_}
 use mathlib.Core.Bool.{Bool, true, false, _&&_, cond}
 use mathlib.Core.List.{List, [], _∷_}
-use Prim.Native.Nat.{ℕ, zero, suc, _+_, _-_, _≤_, _<_}
+use Prim.Native.Nat.{ℕ, suc, _+_, _≤_}
 use native.Mathlib.Omega.{arith}
 use lib.Dec.{ltb}
-use lib.ListN.{length, getD, drop}
+use lib.ListN.{length}
 use borrow.Author.Tests.{ltb-true, ltb-false}
-use Rattle.numbers.proofs.Bools.{ands, and-left, and-right, impossible}
+use Rattle.numbers.proofs.Bools.{ands, impossible}
 use Rattle.stack.specs.Stack.{Pair, Stack, stack, in-spread, channels-good, legal, sum, longest, not-later, Answer}
 use Rattle.stack.specs.Limits.{channels-within, within-limits}
-use Rattle.channel.specs.Limits.{low-limit, high-limit}
-use Rattle.channel.proofs.Between.{low-open, high-open}
-use Rattle.spans.specs.Spans.{Span, In, Fits}
-use Rattle.spans.specs.Solver.{Level, most, separations, positions, least-total}
+use Rattle.spans.specs.Solver.{most, positions}
 use Rattle.spans.specs.Placed.{Placed, alone, under, Widening, Exactly, Best}
 use Rattle.spans.proofs.Total.{least-total-at-most, least-total-reached}
 use Rattle.spans.proofs.Best.{best, chosen}
 use Rattle.spans.proofs.Order.{not-later-both}
-use Rattle.answer.specs.Solve.{window, channel-limits, stack-levels, bottom, levels-of, total-with, separations-with, positions-with, answer-total, answer-separations, answer-positions}
+use Rattle.answer.specs.Solve.{window, stack-levels, bottom, levels-of, total-with, separations-with, positions-with, answer-total, answer-separations, answer-positions}
 use Rattle.answer.proofs.Legal.{in-window, legal-placed, placed-legal, stack-widening, channel-fits-open}
 
 pub longest-bounds : (l : ℕ) (ls : List ℕ) (s : ℕ) → longest (l ∷ ls) ≤ s → (l ≤ s) × (longest ls ≤ s)

@@ -1,23 +1,22 @@
 -- A placement is legal exactly if it is one of the solver's: each strip in its window, each offset between the channel's limits. By induction on the
 -- strips. Assumes nothing.
-use mathlib.Core.Path.{_≡_, refl, sym, ap, _∙_}
+use mathlib.Core.Path.{_≡_, sym, _∙_}
 use mathlib.Core.Bool.{Bool, true, false, _&&_}
 use mathlib.Core.List.{List, [], _∷_}
 use mathlib.Core.Logic.{_⊎_, inl, inr}
-use Prim.Native.Nat.{ℕ, zero, suc, _+_, _*_, _-_, _≤_, _<_, min}
+use Prim.Native.Nat.{ℕ, suc, _+_, _*_, _-_, _≤_, _<_, min}
 use native.Mathlib.Omega.{arith}
 use lib.Dec.{leb}
-use lib.ListN.{length, getD, drop}
+use lib.ListN.{length}
 use borrow.Author.Tests.{leb-true, le-leb}
-use Rattle.numbers.proofs.Bools.{ands, and-right, and-both, impossible}
+use Rattle.numbers.proofs.Bools.{ands, and-right, impossible}
 use Rattle.numbers.proofs.Orders.{le-or-lt}
-use Rattle.stack.specs.Stack.{Pair, Stack, q-at, feasible, in-spread, channels-good, legal}
-use Rattle.stack.specs.Limits.{rising, on-strips, channel-within, channels-within, strips-within, within-limits}
+use Rattle.stack.specs.Stack.{Pair, feasible, in-spread, channels-good}
+use Rattle.stack.specs.Limits.{rising, channel-within, channels-within}
 use Rattle.stack.proofs.OnStrips.{terminals-on}
 use Rattle.channel.specs.Limits.{low-limit, low-term, high-limit, Between}
 use Rattle.channel.proofs.Between.{Biased, greatest-at-most, feasible-between, between-feasible, low-widens, high-widens, low-open, high-open}
-use Rattle.spans.specs.Spans.{Span, span, In, Fits, Limit, last, low-at, high-at}
-use Rattle.spans.specs.Solver.{Level, level}
+use Rattle.spans.specs.Spans.{In, Fits, last, low-at, high-at}
 use Rattle.spans.specs.Placed.{Placed, alone, under, Widens, Widening, none, more}
 use Rattle.solver.specs.Arrays.{limits-from}
 use Rattle.spans.proofs.Limits.{low-capped, high-capped}

@@ -3,17 +3,15 @@ use mathlib.Core.Path.{_≡_, refl, sym, ap, ap₂, _∙_}
 use mathlib.Core.Bool.{true}
 use mathlib.Core.Logic.{_⊎_, inl, inr}
 use mathlib.Core.List.{List, [], _∷_}
-use Prim.Native.Nat.{ℕ, zero, suc, _+_, _*_, _-_, _≤_, _<_}
-use native.Mathlib.Numerals.{add-one}
+use Prim.Native.Nat.{ℕ, zero, suc, _+_, _-_, _≤_, _<_}
 use native.Mathlib.Omega.{arith}
 use lib.ListN.{length, getD, set, drop, length-set, replicate, drop-of-length-le}
 use lib.Seq.{getD-set-same, getD-set-other, drop-cons}
 use borrow.Author.Tests.{leb-true}
 use Rattle.numbers.proofs.Bools.{ands}
 use Rattle.numbers.proofs.Lists.{getD-tabulate}
-use Rattle.numbers.specs.Lists.{tabulate}
 use Rattle.numbers.proofs.Orders.{lt-or-eq}
-use Rattle.stack.specs.Stack.{Pair, Stack, longest}
+use Rattle.stack.specs.Stack.{Stack, longest}
 use Rattle.stack.specs.Limits.{channel-within, channels-within, within-limits}
 use Rattle.stack.specs.Value.{strip, no-terminals, channel-of, stack-of}
 use Rattle.stack.specs.declared.Stack.{Stack as Stack-struct}
@@ -30,8 +28,8 @@ use Rattle.solver.specs.declared.Placement.{Placement}
 use Rattle.solver.proofs.Separating.{most-small}
 use Rattle.solver.proofs.Scans.{most-sums}
 use Rattle.solver.proofs.Placing.{sized-zeros, scan-separate-asks}
-use Rattle.solver.specs.Arrays.{bias, channels-held, strips-held, separations-held, totals-held, entry, row, Given, given, low-of, high-of, count-of, window-of, limits-from, level-of, levels, Sized, Stack-asks, Place-asks, Separate-asks, separations-of, Placement-is, padded}
-use Rattle.answer.specs.Solve.{window, channel-limits, stack-levels, bottom, levels-of, total-with, separations-with, positions-with, answer-separations, answer-positions}
+use Rattle.solver.specs.Arrays.{bias, channels-held, strips-held, separations-held, totals-held, entry, Given, given, low-of, high-of, count-of, window-of, limits-from, level-of, levels, Sized, Stack-asks, Place-asks, Separate-asks, separations-of, Placement-is, padded}
+use Rattle.answer.specs.Solve.{window, channel-limits, stack-levels, bottom, levels-of, total-with, separations-with, positions-with, answer-separations}
 use Rattle.answer.specs.Arrays.{channel-in, strip-in, Limits-in, Windows-in, Answer-is}
 use Rattle.answer.proofs.Legal.{low-bounded}
 use Rattle.answer.proofs.Answers.{longest-bounds, total-most, widening-with, exactly-with, answer-with, answer-alone, answer-there, total-any-bias}

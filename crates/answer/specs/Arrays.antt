@@ -1,7 +1,7 @@
 -- When the solver's arrays stand for a stack: the limits of its channels, and the windows of its strips in a spread; the answer as the code gives it. Assumes nothing: these are definitions.
 use mathlib.Core.Path.{_≡_}
 use mathlib.Core.List.{List, []}
-use Prim.Native.Nat.{ℕ, suc, _-_, _≤_, _<_}
+use Prim.Native.Nat.{ℕ, suc, _-_, _<_}
 use lib.ListN.{length, getD}
 use Rattle.numbers.specs.Lists.{tabulate}
 use Rattle.stack.specs.Stack.{Pair, Stack}

@@ -7,7 +7,7 @@ use Prim.Native.Nat.{ℕ, zero, suc, _+_, _*_, _-_, _≤_, _<_, min, max}
 use native.Mathlib.Decide.{ℕ-discrete, le-ind}
 use native.Mathlib.Omega.{arith}
 use lib.ListN.{length}
-use Rattle.stack.specs.Stack.{Pair, p-at, q-at, feasible}
+use Rattle.stack.specs.Stack.{Pair, q-at, feasible}
 use Rattle.stack.specs.Limits.{rising}
 use Rattle.stack.proofs.Rising.{Before, rising-before}
 use Rattle.stack.proofs.Feasible.{By-pairs, by-pairs-feasible, feasible-by-pairs}

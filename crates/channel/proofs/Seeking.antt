@@ -1,19 +1,17 @@
 -- The laws of the two loops that find a channel's limits: start, step and end. Assumes nothing.
 use mathlib.Core.Path.{_≡_, refl, sym, _∙_}
 use mathlib.Core.List.{List}
-use Prim.Native.Nat.{ℕ, zero, suc, _+_, _*_, _-_, _≤_, _<_, min, max}
+use Prim.Native.Nat.{ℕ, _+_, _*_, _-_, _≤_, _<_, min, max}
 use native.Mathlib.Numerals.{add-one}
 use native.Mathlib.Omega.{arith}
 use lib.ListN.{length, getD, set, replicate}
-use Rattle.numbers.specs.Lists.{tabulate, filled}
 use Rattle.numbers.proofs.Lists.{filled-starts, filled-steps, filled-ends}
-use Rattle.stack.specs.Stack.{Pair, p-at, q-at}
+use Rattle.stack.specs.Stack.{Pair}
 use Rattle.stack.specs.Value.{columns, channel-of}
 use Rattle.stack.specs.declared.Terminals.{Terminals}
 use Rattle.stack.proofs.Values.{channel-length, channel-p-at, channel-q-at}
 use Rattle.channel.specs.Limits.{low-term, high-term, greatest, least, low-limit, high-limit, bias, Wide, Bounds-at, Seeking, Filling, Limits-of}
 use Rattle.channel.specs.declared.Bounds.{Bounds}
-use Rattle.channel.specs.declared.Limits.{Limits}
 use Rattle.channel.proofs.Between.{low-open, high-open}
 
 pub seeking-starts : (c : List Pair) (t : ℕ) → Seeking c t 0 0 (2 * bias)

@@ -1,9 +1,7 @@
 -- An outcome and a value in one number. Assumes nothing.
 use mathlib.Core.Path.{_≡_, refl}
-use mathlib.Core.Bool.{cond}
 use Prim.Native.Nat.{ℕ, _+_, _*_, _≤_}
 use native.Mathlib.Omega.{arith}
-use lib.Dec.{eqb}
 use Rattle.text.specs.Text.{refusal, fine}
 use Rattle.text.specs.Outcome.{number-of, refusal-of, refused}
 use Rattle.text.specs.declared.Refusal.{Refusal as Why}

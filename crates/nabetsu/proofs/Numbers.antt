@@ -1,10 +1,10 @@
 -- The eighteen numbers of an answer place by place, and the laws of the entries for callers in other languages. Assumes nothing.
 use mathlib.Core.Path.{_≡_, refl, sym, ap, _∙_}
-use mathlib.Core.Bool.{Bool, true, false, cond, _&&_}
+use mathlib.Core.Bool.{Bool, true, false, cond}
 use mathlib.Core.List.{List, [], _∷_, _++_}
 use Prim.Native.Nat.{ℕ, zero, suc, _+_, _*_, _-_, _≤_, _<_}
 use native.Mathlib.Omega.{arith}
-use lib.Dec.{leb, eqb}
+use lib.Dec.{eqb}
 use lib.ListN.{length, getD, set, take, drop, replicate, length-append}
 use lib.Seq.{getD-append-add}
 use borrow.Author.Tests.{eqb-true, le-leb, lt-leb, ne-eqb, eq-eqb}
@@ -13,7 +13,7 @@ use Rattle.numbers.proofs.Lists.{length-tabulate, getD-tabulate, tabulate-same,
 use Rattle.stack.specs.declared.Tracks.{Tracks}
 use Rattle.stack.specs.declared.Columns.{Columns}
 use Rattle.trial.proofs.Trying.{track-at, column-at, tracks-long, columns-long}
-use Rattle.text.specs.Text.{Refusal, refusal, fine, or-else, text-refusal, stack-in}
+use Rattle.text.specs.Text.{Refusal, refusal, fine, or-else}
 use Rattle.text.specs.Outcome.{refusal-of, refused}
 use Rattle.text.specs.Driver.{Stack-read}
 use Rattle.text.specs.declared.Reading.{Reading}
@@ -23,7 +23,6 @@ use Rattle.text.specs.declared.Outcome.the-variants.{Accepted, Refused}
 use Rattle.text.specs.declared.Refusal.the-variants.{ShortSpace}
 use Rattle.text.proofs.Places.{refused-number}
 use Rattle.text.proofs.Stages.{or-else-refused}
-use Rattle.trial.specs.Legal.{is-legal}
 use Rattle.nabetsu.specs.Entry.{tracks, columns, numbers, numbers-in, zeros, code, verdict, is-legal-numbers, Spread-says, Trial-says, Numbers-put, Spread-coded}
 use Rattle.nabetsu.specs.Parts.{Refused-answer, Copied, Numbers-tried}
 use Rattle.nabetsu.proofs.Copies.{copied-starts, copied-steps, copied-ends}

@@ -2,14 +2,11 @@
 use mathlib.Core.Path.{_≡_}
 use mathlib.Core.Bool.{true}
 use mathlib.Core.List.{List}
-use Prim.Native.Nat.{ℕ, _≤_}
-use lib.Dec.{eqb}
+use Prim.Native.Nat.{ℕ}
 use borrow.Author.Tests.{eqb-true}
 use Rattle.numbers.proofs.Bools.{ands}
-use Rattle.stack.specs.Stack.{Answer, Row, Rows-are, sum, longest}
 use Rattle.stack.specs.Limits.{all-rising, within-limits}
 use Rattle.stack.proofs.Within.{within-rising}
-use Rattle.routing.specs.Paths.{Drawable}
 use Rattle.routing.proofs.Drawable.{drawable-legal, legal-drawable}
 use Rattle.text.specs.Text.{text-refusal, stack-in}
 use Rattle.text.proofs.Within.{accepted-within}

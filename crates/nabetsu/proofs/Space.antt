@@ -1,15 +1,13 @@
 -- The space that is enough for every table: an accepted text's stack is within the limits, so table-bytes bounds its table, and where that many bytes are
 -- given Table-says leaves no refusal but the text's. Assumes nothing.
 use mathlib.Core.Path.{_≡_, ap}
-use mathlib.Core.Bool.{true}
 use mathlib.Core.List.{List}
 use Prim.Native.Nat.{ℕ, _≤_}
 use native.Mathlib.Omega.{arith}
 use lib.Dec.{leb}
 use lib.ListN.{length}
 use borrow.Author.Tests.{le-leb}
-use Rattle.stack.specs.Stack.{Stack, Row, Rows-are}
-use Rattle.text.specs.Text.{Refusal, refusal, text-refusal, stack-in}
+use Rattle.text.specs.Text.{Refusal, refusal, stack-in}
 use Rattle.text.specs.Outcome.{refusal-of}
 use Rattle.text.proofs.Within.{accepted-within}
 use Rattle.writing.specs.Output.{row-bytes, table-bytes}

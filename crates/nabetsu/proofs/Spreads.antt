@@ -1,15 +1,15 @@
 -- The laws of answer_spread: a refused text, a narrow spread, and the answer; and the third demand said of what it returns. Assumes nothing.
 use mathlib.Core.Path.{_≡_, refl, sym, ap, _∙_}
-use mathlib.Core.Bool.{Bool, true, false, cond}
-use mathlib.Core.List.{List, [], _++_}
+use mathlib.Core.Bool.{true, false, cond}
+use mathlib.Core.List.{List, []}
 use Prim.Native.Nat.{ℕ, zero, suc, _-_, _≤_, _<_}
 use native.Mathlib.Omega.{arith}
 use lib.Dec.{ltb}
 use lib.ListN.{length, take, replicate}
 use lib.Seq.{take-at}
 use borrow.Author.Tests.{lt-ltb, le-ltb}
-use Rattle.stack.specs.Stack.{Stack, Answer, legal, sum, longest}
-use Rattle.stack.specs.Limits.{all-rising, within-limits}
+use Rattle.stack.specs.Stack.{Stack, Answer, sum, longest}
+use Rattle.stack.specs.Limits.{within-limits}
 use Rattle.stack.specs.Value.{stack-of}
 use Rattle.stack.proofs.Within.{within-rising, strips-count}
 use Rattle.routing.specs.Paths.{Drawable}
@@ -18,14 +18,13 @@ use Rattle.text.specs.Text.{Refusal, refusal, fine, or-else, text-refusal, stac
 use Rattle.text.specs.Outcome.{refusal-of, is-accepted, refused}
 use Rattle.text.specs.Driver.{Stack-read}
 use Rattle.text.specs.declared.Reading.{Reading}
-use Rattle.text.specs.declared.Outcome.{Outcome}
 use Rattle.text.specs.declared.Refusal.the-variants.{Narrow}
 use Rattle.text.proofs.Within.{or-else-fine, accepted-within}
 use Rattle.text.proofs.Stages.{or-else-refused, or-else-next}
 use Rattle.text.proofs.Places.{accepted-fine}
 use Rattle.solver.specs.Arrays.{padded as solver-padded}
 use Rattle.solver.specs.declared.Placement.{Placement}
-use Rattle.answer.specs.Solve.{answer-total, answer-separations, answer-positions}
+use Rattle.answer.specs.Solve.{answer-separations, answer-positions}
 use Rattle.answer.specs.Arrays.{Answer-is}
 use Rattle.answer.proofs.Answers.{answer-there, answer-sum, legal-lengths}
 use Rattle.nabetsu.specs.Entry.{padded, tracks, columns, spread-refusal, placed-is, Answered, Spread-says}

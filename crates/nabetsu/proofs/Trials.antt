@@ -1,16 +1,15 @@
 -- The laws of try_placement: a refused text, and the verdict. Assumes nothing.
-use mathlib.Core.Path.{_≡_, refl, sym, ap, _∙_}
-use mathlib.Core.Bool.{Bool, true, false, _&&_}
+use mathlib.Core.Path.{_≡_, refl, ap, _∙_}
+use mathlib.Core.Bool.{Bool, true, false}
 use mathlib.Core.List.{List}
-use Prim.Native.Nat.{ℕ, zero, suc}
+use Prim.Native.Nat.{ℕ}
 use lib.Dec.{eqb}
 use borrow.Author.Tests.{eqb-true}
 use Rattle.stack.specs.Value.{stack-of}
-use Rattle.text.specs.Text.{Refusal, refusal, fine, text-refusal, stack-in}
+use Rattle.text.specs.Text.{refusal, fine, text-refusal}
 use Rattle.text.specs.Outcome.{refusal-of, is-accepted}
 use Rattle.text.specs.Driver.{Stack-read}
 use Rattle.text.specs.declared.Reading.{Reading}
-use Rattle.text.proofs.Places.{accepted-fine}
 use Rattle.trial.specs.Legal.{is-legal}
 use Rattle.nabetsu.specs.Entry.{Trial-says}
 use Rattle.nabetsu.specs.declared.TrialAnswer.{TrialAnswer}

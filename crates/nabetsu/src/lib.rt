@@ -1,5 +1,5 @@
 // The public entries: the table of a text, the answer for one spread, the verdict on a placement. Each answers whatever comes in, or refuses.
-ghost use Rattle.nabetsu.specs.Entry.{Spread-says, Table-says, Trial-says, Table-coded, Spread-coded, code, tracks, columns, numbers, numbers-in, verdict, is-legal-numbers};
+ghost use Rattle.nabetsu.specs.Entry.{Spread-says, Table-says, Trial-says, Table-coded, Spread-coded, code, tracks, columns, numbers-in, verdict, is-legal-numbers};
 ghost use Rattle.text.specs.Text.{refusal, or-else, text-refusal, stack-in};
 ghost use lib.ListN.{length, getD, take, drop};
 ghost use mathlib.Core.List.{_∷_, _++_};

@@ -1,16 +1,14 @@
 -- What the scan of one spread asks, and that a total found gives the answer. Assumes nothing.
-use mathlib.Core.Path.{_≡_, refl, sym, ap, _∙_}
-use mathlib.Core.Bool.{true}
+use mathlib.Core.Path.{_≡_, sym, _∙_}
 use mathlib.Core.List.{List}
-use Prim.Native.Nat.{ℕ, suc, _+_, _≤_, _<_}
+use Prim.Native.Nat.{ℕ, suc, _≤_, _<_}
 use native.Mathlib.Omega.{arith}
-use lib.ListN.{length}
 use Rattle.stack.specs.Stack.{longest}
 use Rattle.stack.specs.Value.{stack-of}
 use Rattle.stack.specs.declared.Stack.{Stack as Stack-struct}
 use Rattle.stack.proofs.Within.{stack-channels}
 use Rattle.spans.specs.Solver.{most}
-use Rattle.solver.specs.Arrays.{bias, strips-held, totals-held, levels, Stack-asks, Place-asks, Separate-asks, Placement-is}
+use Rattle.solver.specs.Arrays.{bias, totals-held, levels, Stack-asks, Place-asks, Separate-asks, Placement-is}
 use Rattle.solver.specs.Scan.{sums, Scan-asks, Scan-is}
 use Rattle.solver.specs.declared.Scan.{Scan}
 use Rattle.solver.specs.declared.Placement.{Placement}
@@ -21,7 +19,7 @@ use Rattle.answer.specs.Solve.{total-with, answer-total}
 use Rattle.answer.specs.Arrays.{Windows-in, Answer-is}
 use Rattle.answer.proofs.Answers.{total-any-bias}
 use Rattle.answer.proofs.Standing.{Stands, stands-made, asks, place-asks, placement-answers}
-use Rattle.rows.specs.Evaluate.{arrays, Held, Evaluate-asks, Evaluated, Place-row-asks}
+use Rattle.rows.specs.Evaluate.{arrays, Held, Evaluate-asks}
 use Rattle.rows.proofs.Steps.{scan-finds}
 
 module _ (k : Stack-struct) (s : ℕ) (lows highs : List (List ℕ)) (counts uptos : List ℕ) (fits : s < 4294967296) (wide : longest (stack-of k .strips) ≤ s) (held : Held k lows highs counts)

@@ -1,31 +1,29 @@
 -- Between one event and the next the least total stays: in a spread wider by less than every shortfall nothing that was impossible becomes possible.
 -- Assumes nothing.
-use mathlib.Core.Path.{_≡_, refl, sym, ap, ap₂, _∙_}
-use mathlib.Core.Bool.{Bool, true, false, cond}
+use mathlib.Core.Path.{_≡_, refl, ap}
+use mathlib.Core.Bool.{Bool, true}
 use mathlib.Core.Logic.{_⊎_, inl, inr}
 use mathlib.Core.List.{List, [], _∷_}
-use Prim.Native.Nat.{ℕ, zero, suc, _+_, _*_, _-_, _≤_, _<_}
+use Prim.Native.Nat.{ℕ, zero, suc, _+_, _≤_, _<_}
 use native.Mathlib.Nat.{add-zero, zero-add}
 use native.Mathlib.Omega.{arith}
-use lib.Dec.{ltb}
-use lib.ListN.{length, getD, drop}
-use borrow.Author.Tests.{ltb-true, ltb-false, lt-ltb, le-ltb, leb-true}
+use borrow.Author.Tests.{lt-ltb, le-ltb}
 use Rattle.numbers.proofs.Bools.{ands, impossible}
 use Rattle.numbers.proofs.Orders.{le-or-lt}
-use Rattle.stack.specs.Stack.{Pair, Stack, stack, Row, sum, longest, in-spread, legal, p-at, Answer}
-use Rattle.stack.specs.Limits.{channel-within, channels-within, within-limits}
-use Rattle.spans.specs.Spans.{Span, span, In, low-at, nonempty}
-use Rattle.spans.specs.Solver.{Level, level, most, back, first, first-total, least-total}
+use Rattle.stack.specs.Stack.{Pair, Stack, stack, sum, longest, in-spread, legal}
+use Rattle.stack.specs.Limits.{channels-within, within-limits}
+use Rattle.spans.specs.Spans.{Span, span, In, nonempty}
+use Rattle.spans.specs.Solver.{Level, most, back, first, first-total, least-total}
 use Rattle.spans.specs.Placed.{Placed}
 use Rattle.spans.specs.Jump.{widened, widened-levels, Grows, Roomy, None-within}
 use Rattle.spans.proofs.First.{first-least}
 use Rattle.spans.proofs.Total.{least-total-at-most}
 use Rattle.spans.proofs.Back.{back-complete}
 use Rattle.spans.proofs.Jump.{back-grows}
-use Rattle.answer.specs.Solve.{window, channel-limits, stack-levels, bottom, levels-of, total-with, separations-with, positions-with, answer-total, answer-separations, answer-positions}
+use Rattle.answer.specs.Solve.{window, stack-levels, bottom, levels-of, total-with, answer-total, answer-separations, answer-positions}
 use Rattle.answer.proofs.Legal.{channel-low, low-bounded, legal-placed, stack-widening}
-use Rattle.answer.proofs.Answers.{longest-bounds, counts-of, zeros-of, some-placed, answer-with, sum-with, answer-alone, answer-there, answer-sum, total-any-bias}
-use Rattle.rows.specs.Walk.{row-at, rows-walk}
+use Rattle.answer.proofs.Answers.{longest-bounds, counts-of, zeros-of, some-placed, answer-there, answer-sum, total-any-bias}
+use Rattle.rows.specs.Walk.{rows-walk}
 use Rattle.rows.proofs.Settled.{legal-wider}
 
 -- windows in a spread wider by d

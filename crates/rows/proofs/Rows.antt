@@ -7,13 +7,11 @@ use mathlib.Core.List.{List, [], _∷_}
 use Prim.Native.Nat.{ℕ, zero, suc, _+_, _-_, _≤_, _<_}
 use native.Mathlib.Omega.{arith}
 use lib.Dec.{ltb}
-use lib.ListN.{length}
 use borrow.Author.Tests.{ltb-true, ltb-false}
-use Rattle.numbers.proofs.Bools.{ands}
 use Rattle.numbers.proofs.Orders.{le-or-lt, lt-or-eq}
 use Rattle.stack.specs.Stack.{Stack, Row, row, sum, longest, legal, total, Answer, Stays, Stays-on, Rows-after, Rows-are}
 use Rattle.stack.specs.Limits.{within-limits}
-use Rattle.answer.specs.Solve.{answer-total, answer-separations, answer-positions}
+use Rattle.answer.specs.Solve.{answer-total}
 use Rattle.answer.proofs.Answers.{answer-there, answer-alone, answer-sum}
 use Rattle.rows.specs.Walk.{row-at, rows-walk, widest, rows-of}
 use Rattle.rows.proofs.Settled.{legal-wider, settled}

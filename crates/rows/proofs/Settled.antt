@@ -1,19 +1,19 @@
 -- Past the sum of the strips' lengths no total falls: separations that are possible in some spread are possible in that one. Strips whose offset is
 -- between the limits of a channel with more pairs than tracks touch, and the others can be moved until they do; strips that touch one after another
 -- take up no more columns than their lengths together. Assumes nothing.
-use mathlib.Core.Path.{_≡_, refl, sym, ap, _∙_}
+use mathlib.Core.Path.{_≡_, refl}
 use mathlib.Core.Bool.{Bool, true, false, _&&_, cond}
 use mathlib.Core.Logic.{_⊎_, inl, inr}
 use mathlib.Core.List.{List, [], _∷_}
-use Prim.Native.Nat.{ℕ, zero, suc, _+_, _*_, _-_, _≤_, _<_, min, max}
+use Prim.Native.Nat.{ℕ, _+_, _*_, _-_, _≤_, _<_, max}
 use native.Mathlib.Omega.{arith}
 use lib.Dec.{ltb, leb}
-use lib.ListN.{length, getD}
+use lib.ListN.{length}
 use borrow.Author.Tests.{leb-true, le-leb}
-use Rattle.numbers.proofs.Bools.{ands, and-left, and-right, and-both, or-left, impossible}
+use Rattle.numbers.proofs.Bools.{ands, and-right, and-both, or-left, impossible}
 use Rattle.numbers.proofs.Orders.{le-or-lt}
-use Rattle.stack.specs.Stack.{Pair, Stack, stack, p-at, q-at, feasible, in-spread, channels-good, legal, sum, longest}
-use Rattle.stack.specs.Limits.{on-strips, channel-within, channels-within, strips-within, within-limits}
+use Rattle.stack.specs.Stack.{Pair, Stack, stack, feasible, in-spread, channels-good, legal, sum, longest}
+use Rattle.stack.specs.Limits.{channel-within, channels-within, strips-within, within-limits}
 use Rattle.stack.proofs.Feasible.{By-pairs, by-pairs-feasible, feasible-by-pairs}
 use Rattle.stack.proofs.OnStrips.{terminals-on}
 use Rattle.stack.proofs.Within.{strips-count, channels-few}

@@ -1,18 +1,17 @@
 -- What a scan says of the walk over the spreads: whether the least total falls at this spread, and until which spread it then stays. Assumes nothing.
-use mathlib.Core.Path.{_≡_, refl, sym, ap, _∙_}
+use mathlib.Core.Path.{_≡_, refl, ap, _∙_}
 use mathlib.Core.Bool.{Bool, true}
-use mathlib.Core.List.{List, [], _∷_}
-use Prim.Native.Nat.{ℕ, zero, suc, _+_, _-_, _≤_, _<_}
+use mathlib.Core.List.{List}
+use Prim.Native.Nat.{ℕ, zero, suc, _+_, _≤_, _<_}
 use native.Mathlib.Omega.{arith}
 use lib.ListN.{length}
 use Rattle.numbers.proofs.Orders.{le-or-lt}
 use mathlib.Core.Logic.{_⊎_, inl, inr}
 use Rattle.stack.specs.Stack.{Stack, longest}
-use Rattle.stack.specs.Limits.{within-limits}
 use Rattle.spans.specs.Spans.{nonempty}
 use Rattle.spans.specs.Solver.{most, back, first, first-total, least-total}
 use Rattle.spans.specs.Jump.{None-within}
-use Rattle.solver.specs.Arrays.{bias, Given, window-of, level-of, levels}
+use Rattle.solver.specs.Arrays.{bias, Given, window-of, levels}
 use Rattle.solver.specs.Scan.{short-of, Scan-is}
 use Rattle.solver.specs.declared.Scan.{Scan}
 use Rattle.spans.proofs.First.{first-upto, first-holds, first-least}

@@ -1,16 +1,14 @@
 -- How the walk over the spreads goes on from one event to the next: without a row where the total stays, with one where it falls, and to its end.
 -- Assumes nothing.
-use mathlib.Core.Path.{_≡_, refl, sym, ap, _∙_}
-use mathlib.Core.Bool.{true, cond}
-use mathlib.Core.List.{List, [], _∷_}
+use mathlib.Core.Path.{_≡_, refl, _∙_}
+use mathlib.Core.Bool.{true}
+use mathlib.Core.List.{[], _∷_}
 use Prim.Native.Nat.{ℕ, zero, suc, _+_, _-_, _≤_, _<_}
-use native.Mathlib.Nat.{add-zero}
 use native.Mathlib.Omega.{arith}
 use mathlib.Core.Logic.{_⊎_, inl, inr}
-use lib.Dec.{ltb}
 use borrow.Author.Tests.{lt-ltb, le-ltb}
 use Rattle.numbers.proofs.Orders.{le-or-lt}
-use Rattle.stack.specs.Stack.{Stack, Row}
+use Rattle.stack.specs.Stack.{Stack}
 use Rattle.stack.specs.Limits.{within-limits}
 use Rattle.answer.specs.Solve.{answer-total}
 use Rattle.rows.specs.Walk.{row-at, rows-walk}

@@ -1,9 +1,7 @@
 // The rows of a stack's table: one spread worked out in arrays that are held from spread to spread.
-ghost use mathlib.Core.Path.{_≡_};
-ghost use Prim.Native.Nat.{_≤_};
 ghost use Rattle.stack.specs.Value.{stack-of};
 ghost use Rattle.answer.specs.Arrays.{Answer-is};
-ghost use Rattle.rows.specs.Evaluate.{Evaluate-asks, Evaluated, Held, Place-row-asks};
+ghost use Rattle.rows.specs.Evaluate.{Evaluate-asks, Evaluated, Place-row-asks};
 use answer::fill_windows;
 use solver::Placement;
 use solver::Scan;

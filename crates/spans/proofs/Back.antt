@@ -1,14 +1,14 @@
 -- BACK is exact: a position is in the span exactly if the bottom strip can stand there with a total of at most v. So the spans grow with v, and the
 -- positions of the bottom strip have no gap. Assumes nothing.
 -- The spans gathered for two separations touch: the narrower limits go with the wider span, the wider limits with the narrower one.
-use mathlib.Core.Path.{_≡_, refl}
+use mathlib.Core.Path.{refl}
 use mathlib.Core.Logic.{_⊎_, inl, inr, _↔_}
 use mathlib.Core.List.{List, [], _∷_}
 use Prim.Native.Nat.{ℕ, suc, _+_, _-_, _≤_, _<_, min, max}
 use native.Mathlib.Omega.{arith}
 use Rattle.stack.specs.Stack.{sum}
 use Rattle.numbers.proofs.Orders.{le-or-lt}
-use Rattle.spans.specs.Spans.{Span, span, In, Fits, Limit, last, low-at, high-at, cut, gather}
+use Rattle.spans.specs.Spans.{Span, span, In, Fits, last, low-at, high-at}
 use Rattle.spans.specs.Solver.{Level, least-open, most, start, stop, cell, back}
 use Rattle.spans.specs.Placed.{Placed, alone, under, Can, Widens, Widening, none, more}
 use Rattle.spans.proofs.Limits.{fits-wider, fits-capped, least-open-least, open-on}

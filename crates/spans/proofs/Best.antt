@@ -2,14 +2,13 @@
 -- separation. The placement for a stated total is the first of those with just that total, for every total that a placement has; with a channel these are
 -- the least total and all above it.
 use mathlib.Core.Path.{_≡_, refl, sym, ap, _∙_}
-use mathlib.Core.Bool.{true}
 use mathlib.Core.List.{List, [], _∷_}
-use Prim.Native.Nat.{ℕ, suc, _≤_}
+use Prim.Native.Nat.{ℕ, suc}
 use native.Mathlib.Omega.{arith}
 use lib.ListN.{length}
 use Rattle.stack.specs.Stack.{sum, not-later}
 use Rattle.spans.specs.Spans.{Span}
-use Rattle.spans.specs.Solver.{Level, most, least-total, separations, lowest, positions-on}
+use Rattle.spans.specs.Solver.{Level, least-total, separations, lowest, positions-on}
 use Rattle.spans.specs.Placed.{Placed, alone, under, Exactly, Widening, Chosen, Best}
 use Rattle.spans.proofs.Order.{not-later-both}
 use Rattle.spans.proofs.Total.{no-smaller-total, least-total-at-most, least-total-reached}

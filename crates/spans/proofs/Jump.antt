@@ -1,18 +1,17 @@
 -- In a spread wider by less than every shortfall, each span that is not empty is the same with its end moved on, and each empty one is still empty: no
 -- total falls. By induction on the levels; a cell is taken apart into its nearest start and its furthest end. Assumes nothing.
-use mathlib.Core.Path.{_≡_, refl, sym, ap, ap₂, _∙_}
+use mathlib.Core.Path.{_≡_, refl, sym, ap, _∙_}
 use mathlib.Core.Bool.{Bool, true, false}
 use mathlib.Core.Logic.{_⊎_, inl, inr}
 use mathlib.Core.List.{List, [], _∷_}
 use Prim.Native.Nat.{ℕ, zero, suc, _+_, _*_, _-_, _≤_, _<_, min, max}
 use native.Mathlib.Nat.{le-trans, lt-irrefl}
 use native.Mathlib.Omega.{arith}
-use lib.Dec.{ltb}
-use borrow.Author.Tests.{ltb-true, ltb-false, lt-ltb, le-ltb}
+use borrow.Author.Tests.{ltb-true, lt-ltb, le-ltb}
 use Rattle.numbers.proofs.Orders.{le-or-lt}
-use Rattle.spans.specs.Spans.{Span, span, Limit, last, low-at, high-at, cut, nonempty, join-if, gather}
-use Rattle.spans.specs.Solver.{Level, level, least-open, most, start, stop, cell, back}
-use Rattle.spans.specs.Jump.{widened, widened-levels, min-if, max-if, nearest, furthest, between, shortfall, near-of, reach-of, cell-short, short-at, Grows, Roomy, None-within}
+use Rattle.spans.specs.Spans.{Span, span, last, low-at, high-at, cut, nonempty, join-if, gather}
+use Rattle.spans.specs.Solver.{Level, least-open, most, start, stop, cell, back}
+use Rattle.spans.specs.Jump.{widened, widened-levels, min-if, max-if, nearest, furthest, between, shortfall, near-of, reach-of, cell-short, Grows, Roomy, None-within}
 
 -- a start that is no more than another may be taken later
 nearest-min : (b : ℕ) (high : ℕ → ℕ) (f : ℕ → Span) (q n a t : ℕ) → nearest b high f q n (min a t) ≡ min a (nearest b high f q n t)

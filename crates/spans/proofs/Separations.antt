@@ -1,17 +1,13 @@
 -- The separations for a total are first in dictionary order among all placements with just this total, and belong to one of them. Assumes nothing.
 -- The forward span stands for the bottom strip's window: it is exact, so what is above it is a stack of its own.
 use mathlib.Core.Path.{_≡_, refl}
-use mathlib.Core.Bool.{Bool, true, _&&_, _||_}
-use mathlib.Core.Logic.{_⊎_, inl, inr}
+use mathlib.Core.Bool.{Bool, true}
 use mathlib.Core.List.{List, [], _∷_}
-use Prim.Native.Nat.{ℕ, suc, _+_, _-_, _≤_, _<_, min}
+use Prim.Native.Nat.{ℕ, _+_, _-_, _≤_, _<_, min}
 use native.Mathlib.Omega.{arith}
-use lib.Dec.{ltb, eqb}
-use borrow.Author.Tests.{lt-ltb, le-ltb, eq-eqb}
 use Rattle.stack.specs.Stack.{sum, not-later}
-use Rattle.numbers.proofs.Orders.{lt-or-eq}
-use Rattle.spans.specs.Spans.{Span, In, Fits, last, low-at, high-at, cut, shift-on, nonempty}
-use Rattle.spans.specs.Solver.{Level, least-open, most, stop, back, serves, first-serving, least-serving, forward, separations}
+use Rattle.spans.specs.Spans.{Span, In, Fits, last, low-at, high-at, cut, shift-on}
+use Rattle.spans.specs.Solver.{Level, least-open, most, back, serves, first-serving, least-serving, forward, separations}
 use Rattle.spans.specs.Placed.{Placed, alone, under, Can, Widens, Widening, none, more}
 use Rattle.spans.proofs.Order.{not-later-step}
 use Rattle.spans.proofs.First.{first-from, first-holds, first-least}

@@ -2,12 +2,12 @@
 -- A position in the gathered span is at or above the start of one of the spans and below the end of another; if it is in neither, the two do not touch.
 use mathlib.Core.Path.{_≡_, refl}
 use mathlib.Core.Bool.{Bool, true, false}
-use mathlib.Core.Logic.{_⊎_, inl, inr, ⊎-elim}
+use mathlib.Core.Logic.{_⊎_, inl, inr}
 use Prim.Native.Nat.{ℕ, zero, suc, _+_, _-_, _≤_, _<_, min, max}
 use native.Mathlib.Omega.{arith}
-use borrow.Author.Tests.{ltb-true, ltb-false, lt-ltb}
+use borrow.Author.Tests.{ltb-true, lt-ltb}
 use Rattle.numbers.proofs.Orders.{le-or-lt, lt-or-eq}
-use Rattle.spans.specs.Spans.{Span, span, In, Fits, cut, shift-back, shift-on, nonempty, join, join-if, gather}
+use Rattle.spans.specs.Spans.{Span, In, Fits, cut, shift-back, shift-on, nonempty, join-if, gather}
 
 -- a position of the other strip, within the limit
 pub record Partner (b l r : ℕ) (s : Span) (x : ℕ) : Type 0 where

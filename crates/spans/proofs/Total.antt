@@ -1,9 +1,8 @@
 -- The least total is the least: no placement has a smaller one, and if there is a placement, one has just this total. Assumes nothing.
 -- Every total from the least one on is the total of some placement, if there is a channel: its separation can be raised.
-use mathlib.Core.Path.{_≡_}
-use mathlib.Core.Bool.{Bool, true}
-use mathlib.Core.List.{List, [], _∷_}
-use Prim.Native.Nat.{ℕ, suc, _+_, _-_, _≤_}
+use mathlib.Core.Bool.{Bool}
+use mathlib.Core.List.{List, _∷_}
+use Prim.Native.Nat.{ℕ, suc, _-_, _≤_}
 use native.Mathlib.Omega.{arith}
 use Rattle.stack.specs.Stack.{sum}
 use Rattle.spans.specs.Spans.{Span, In, nonempty}

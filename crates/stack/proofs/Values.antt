@@ -1,8 +1,7 @@
 -- Which list value a struct stands for: its lengths and elements, and how a store changes it. Assumes nothing.
-use mathlib.Core.Path.{_≡_, refl, ap, ap₂, sym, _∙_}
+use mathlib.Core.Path.{_≡_, ap, ap₂, _∙_}
 use mathlib.Core.List.{List, [], _∷_, _++_}
-use mathlib.Core.Logic.{_≢_}
-use Prim.Native.Nat.{ℕ, zero, suc, _+_, _-_, _≤_, _<_}
+use Prim.Native.Nat.{ℕ, suc, _+_, _≤_, _<_}
 use native.Mathlib.Nat.{zero-add}
 use native.Mathlib.Numerals.{add-one}
 use native.Mathlib.Omega.{arith}
@@ -10,10 +9,9 @@ use lib.ListN.{length, getD, set, replicate, getD-replicate}
 use lib.Seq.{getD-set-same, getD-set-other}
 use Rattle.numbers.specs.Lists.{tabulate}
 use Rattle.numbers.proofs.Lists.{length-tabulate, getD-tabulate, tabulate-same, tabulate-snoc, tabulate-set, tabulate-constant}
-use Rattle.stack.specs.Stack.{Pair, pair, p-at, q-at, Stack, stack}
+use Rattle.stack.specs.Stack.{Pair, pair, p-at, q-at, stack}
 use Rattle.stack.specs.Value.{columns, strip, no-terminals, pair-at, channel-of, length-at, channel-at, stack-of}
 use Rattle.stack.specs.Made.{bare}
-use Rattle.stack.specs.declared.Columns.{Columns}
 use Rattle.stack.specs.declared.Strip.{Strip}
 use Rattle.stack.specs.declared.Terminals.{Terminals}
 use Rattle.stack.specs.declared.Stack.{Stack as Stack-struct}

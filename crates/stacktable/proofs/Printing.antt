@@ -19,7 +19,6 @@ use Rattle.text.specs.declared.Outcome.{Outcome}
 use Rattle.text.specs.declared.Outcome.the-variants.{Accepted, Refused}
 use Rattle.text.specs.declared.Reading.{Reading}
 use Rattle.text.proofs.Places.{refused-number, accepted-fine}
-use Rattle.text.proofs.Stages.{or-else-refused}
 use Rattle.text.proofs.Within.{or-else-fine}
 use Rattle.writing.specs.TableText.{row-text, table-text, refusal-text}
 use Rattle.writing.specs.Output.{over, fitted, written, line-bytes, Line-put, row-of, Row-asks}

@@ -3,11 +3,11 @@ use mathlib.Core.Path.{_≡_}
 use mathlib.Core.Bool.{Bool, cond}
 use mathlib.Core.List.{List, [], _∷_}
 use Prim.Native.Nat.{ℕ, _+_, _*_, _≤_}
-use lib.Dec.{leb, eqb}
+use lib.Dec.{eqb}
 use lib.ListN.{length, getD, take}
 use Rattle.numbers.specs.Lists.{filled}
 use Rattle.stack.specs.Stack.{Row, Rows-are}
-use Rattle.text.specs.Text.{Refusal, refusal, fine, or-else, text-refusal, stack-in}
+use Rattle.text.specs.Text.{Refusal, text-refusal, stack-in}
 use Rattle.text.specs.Outcome.{refusal-of}
 use Rattle.writing.specs.TableText.{row-text, table-text, refusal-text}
 use Rattle.writing.specs.Output.{row-of}

@@ -2,7 +2,7 @@
 use mathlib.Core.Path.{_≡_, refl, sym, ap, _∙_}
 use mathlib.Core.Bool.{true}
 use mathlib.Core.List.{List}
-use Prim.Native.Nat.{ℕ, zero, suc, _+_, _-_, _≤_, _<_}
+use Prim.Native.Nat.{ℕ, zero, suc, _+_, _≤_, _<_}
 use native.Mathlib.Omega.{arith}
 use lib.ListN.{length, getD}
 use Rattle.stack.specs.Stack.{Stack, sum, longest}
@@ -11,15 +11,13 @@ use Rattle.stack.specs.Value.{no-terminals, stack-of}
 use Rattle.stack.specs.declared.Stack.{Stack as Stack-struct}
 use Rattle.stack.proofs.Values.{channel-length}
 use Rattle.stack.proofs.Within.{stack-channels, stack-channel, few-channels, few-pairs}
-use Rattle.solver.specs.Arrays.{strips-held}
 use Rattle.solver.specs.Scan.{sums, Scan-is, Counts-ask}
 use Rattle.solver.specs.declared.Scan.{Scan}
 use Rattle.solver.proofs.Scans.{most-sums}
 use Rattle.answer.specs.Solve.{answer-total}
 use Rattle.rows.specs.Walk.{widest}
-use Rattle.rows.specs.Evaluate.{arrays, Held, Evaluate-asks, Evaluated, Place-row-asks}
+use Rattle.rows.specs.Evaluate.{arrays, Held, Evaluated, Place-row-asks}
 use Rattle.rows.proofs.Settled.{widest-small, longest-widest}
-use Rattle.rows.proofs.Jumps.{total-never-rises}
 use Rattle.rows.proofs.Steps.{scan-passes, scan-stays, scan-whole, scan-most, total-capped}
 use Rattle.rows.proofs.Evaluating.{held-stands, cap-used, found-total}
 use Rattle.table.specs.Walking.{Holding}

@@ -1,9 +1,8 @@
 -- The answer for a spread, as the code gives it, is the row of that spread. Assumes nothing.
-use mathlib.Core.Path.{_≡_, refl, sym, ap, ap₂, _∙_}
+use mathlib.Core.Path.{_≡_, sym, ap, ap₂, _∙_}
 use mathlib.Core.Bool.{true}
 use mathlib.Core.List.{List}
 use Prim.Native.Nat.{ℕ, suc, _-_, _≤_}
-use native.Mathlib.Omega.{arith}
 use lib.ListN.{length, take, replicate}
 use lib.Seq.{take-at}
 use Rattle.stack.specs.Stack.{row, sum, longest}
@@ -17,7 +16,7 @@ use Rattle.answer.specs.Solve.{answer-separations, answer-positions}
 use Rattle.answer.specs.Arrays.{Answer-is}
 use Rattle.answer.proofs.Answers.{answer-there, answer-sum, legal-lengths}
 use Rattle.rows.specs.Walk.{row-at}
-use Rattle.writing.specs.Output.{tracks, columns, row-of, Row-asks}
+use Rattle.writing.specs.Output.{tracks, row-of, Row-asks}
 
 padded-take : (n m : ℕ) (ts : List ℕ) → length ts ≡ m → take m (padded n ts) ≡ ts
 unfolding padded

@@ -2,7 +2,6 @@
 use mathlib.Core.Path.{refl}
 use Rattle.stack.specs.Value.{stack-of}
 use Rattle.answer.proofs.Standing.{limits-start, windows-start, made-counts-ask, made-scan-asks, made-place-asks, made-answers}
-use borrow.Author.Needs.{needs}
 use Rattle.answer.proofs.answer.Statement.{statement}
 use Rattle.answer.proofs.answer.Tie as tie
 

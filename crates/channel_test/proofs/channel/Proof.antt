@@ -3,18 +3,6 @@ use Rattle.stack.proofs.Found.{made-few}
 use borrow.Author.Needs.{needs}
 use Rattle.channel_test.proofs.channel.Statement.{statement}
 use Rattle.channel_test.proofs.channel.Tie as tie
-use Rattle.channel_test.proofs.channel.Reads as reads
-use Rattle.channel_test.proofs.channel.Lts as lts
-use Rattle.channel.proofs.channel_limits.Reads as channel-limits-reads
-use Rattle.channel_test.proofs.longest.Reads as longest-reads
-use Rattle.channel_test.proofs.print_all_feasible.Reads as print-all-feasible-reads
-use Rattle.channel_test.proofs.print_limits.Reads as print-limits-reads
-use Rattle.channel_test.proofs.read_values.Reads as read-values-reads
-use Rattle.io.proofs.write_all.Reads as write-all-reads
-use Rattle.stack.proofs.Terminals.new.Reads as new-reads
-use Rattle.stack.proofs.TerminalsFound.is_good.Reads as is-good-reads
-use Rattle.test_io.proofs.next_number.Reads as next-number-reads
-use Rattle.test_io.proofs.print_number.Reads as print-number-reads
 
 -- src/main.rt:111:9
 next-number-requires : tie.Need-next-number-requires

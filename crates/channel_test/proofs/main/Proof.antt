@@ -5,12 +5,6 @@ use borrow.Author.Count.{falls}
 use borrow.Author.Needs.{needs}
 use Rattle.channel_test.proofs.main.Statement.{statement}
 use Rattle.channel_test.proofs.main.Tie as tie
-use Rattle.channel_test.proofs.main.Reads as reads
-use Rattle.channel_test.proofs.main.Lts as lts
-use Rattle.channel_test.proofs.channel.Reads as channel-reads
-use Rattle.io.proofs.large_buffer.Reads as large-buffer-reads
-use Rattle.io.proofs.read_full.Reads as read-full-reads
-use Rattle.test_io.proofs.next_number.Reads as next-number-reads
 
 abbrev Inv-loop : tie.InvT-loop
 Inv-loop text n at₀ counter₀ end at counter = (counter ≤ end) × (n ≤ length text)

@@ -4,11 +4,6 @@ use borrow.Author.Count.{falls}
 use borrow.Author.Needs.{needs}
 use Rattle.channel_test.proofs.print_all_feasible.Statement.{statement}
 use Rattle.channel_test.proofs.print_all_feasible.Tie as tie
-use Rattle.channel_test.proofs.print_all_feasible.Reads as reads
-use Rattle.channel_test.proofs.print_all_feasible.Lts as lts
-use Rattle.channel_test.proofs.print_feasible.Reads as print-feasible-reads
-use Rattle.channel_test.proofs.print_positions.Reads as print-positions-reads
-use Rattle.test_io.proofs.next_number.Reads as next-number-reads
 
 abbrev Inv-loop : tie.InvT-loop
 Inv-loop terminals text from at₀ counter₀ end at counter = counter ≤ end

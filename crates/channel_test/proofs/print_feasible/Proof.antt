@@ -4,11 +4,6 @@ use borrow.Author.Count.{falls}
 use borrow.Author.Needs.{needs}
 use Rattle.channel_test.proofs.print_feasible.Statement.{statement}
 use Rattle.channel_test.proofs.print_feasible.Tie as tie
-use Rattle.channel_test.proofs.print_feasible.Reads as reads
-use Rattle.channel_test.proofs.print_feasible.Lts as lts
-use Rattle.channel.proofs.is_feasible.Reads as is-feasible-reads
-use Rattle.channel_test.proofs.end_line.Reads as end-line-reads
-use Rattle.channel_test.proofs.print_bit.Reads as print-bit-reads
 
 abbrev Inv-loop : tie.InvT-loop
 Inv-loop terminals lower upper t₀ t = t ≤ 34

@@ -4,10 +4,6 @@ use borrow.Author.Count.{falls}
 use borrow.Author.Needs.{needs}
 use Rattle.channel_test.proofs.print_limits.Statement.{statement}
 use Rattle.channel_test.proofs.print_limits.Tie as tie
-use Rattle.channel_test.proofs.print_limits.Reads as reads
-use Rattle.channel_test.proofs.print_limits.Lts as lts
-use Rattle.channel_test.proofs.end_line.Reads as end-line-reads
-use Rattle.channel_test.proofs.print_range.Reads as print-range-reads
 
 abbrev Inv-loop : tie.InvT-loop
 Inv-loop pairs limits t₀ t = t ≤ pairs

@@ -4,9 +4,6 @@ use borrow.Author.Count.{falls}
 use borrow.Author.Needs.{needs}
 use Rattle.channel_test.proofs.read_values.Statement.{statement}
 use Rattle.channel_test.proofs.read_values.Tie as tie
-use Rattle.channel_test.proofs.read_values.Reads as reads
-use Rattle.channel_test.proofs.read_values.Lts as lts
-use Rattle.test_io.proofs.next_number.Reads as next-number-reads
 
 abbrev Inv-loop : tie.InvT-loop
 Inv-loop text from count values₀ at₀ j₀ values at j = j ≤ count

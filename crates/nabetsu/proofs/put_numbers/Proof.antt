@@ -1,5 +1,4 @@
 -- put_numbers meets its contract: the loop keeps Copied. Assumes nothing.
-use mathlib.Core.List.{_∷_, _++_}
 use Prim.Native.Nat.{_-_}
 use lib.ListN.{length}
 use Rattle.nabetsu.specs.Entry.{numbers, numbers-in}

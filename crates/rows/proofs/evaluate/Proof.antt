@@ -2,7 +2,6 @@
 use Rattle.stack.specs.Value.{stack-of}
 use Rattle.answer.proofs.Standing.{windows-start}
 use Rattle.rows.proofs.Evaluating.{evaluate-scan-asks}
-use borrow.Author.Needs.{needs}
 use Rattle.rows.proofs.evaluate.Statement.{statement}
 use Rattle.rows.proofs.evaluate.Tie as tie
 

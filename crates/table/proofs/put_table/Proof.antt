@@ -8,7 +8,6 @@ use Prim.Native.Nat.{_-_}
 use native.Mathlib.Omega.{arith}
 use Rattle.stack.specs.Value.{stack-of}
 use Rattle.stack.proofs.Within.{few-channels}
-use Rattle.rows.proofs.Settled.{widest-small}
 use Rattle.answer.proofs.Standing.{limits-start}
 use Rattle.table.specs.Walking.{Stepping}
 use Rattle.table.proofs.Walks.{ended-past, ended-zero}
