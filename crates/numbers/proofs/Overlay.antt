@@ -2,9 +2,8 @@
 use mathlib.Core.Path.{_≡_, refl}
 use mathlib.Core.List.{List, [], _∷_}
 use Prim.Native.Nat.{ℕ, zero, suc, _-_, _≤_, _<_}
-use native.Mathlib.Nat.{sub-zero}
 use native.Mathlib.Omega.{arith}
-use lib.ListN.{length, getD, drop, set, replicate}
+use lib.ListN.{length, getD, drop, set}
 use lib.Seq.{drop-cons}
 
 -- from a store's place on: the new element, and what stood behind it
@@ -16,8 +15,3 @@ drop-stored (x ∷ l) (suc i) a h = drop-stored l i a (omega arith)
 -- from one place before: one element more
 pub drop-before {ℓ} : {A : Type ℓ} (l : List A) (i : ℕ) (d : A) → 0 < i → i ≤ length l → drop (i - 1) l ≡ getD l (i - 1) d ∷ drop i l
 drop-before l i d h k = let e : suc (i - 1) ≡ i = omega arith in let cut = drop-cons l (i - 1) d (omega arith) in rw e at cut
-
-pub drop-replicate {ℓ} : {A : Type ℓ} (i n : ℕ) (a : A) → drop i (replicate n a) ≡ replicate (n - i) a
-drop-replicate zero n a = rw sub-zero
-drop-replicate (suc i) zero a = let e : 0 - suc i ≡ 0 = omega arith in rw e
-drop-replicate (suc i) (suc n) a = let e : suc n - suc i ≡ n - i = omega arith in rw e (drop-replicate i n a)

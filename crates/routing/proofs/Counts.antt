@@ -40,10 +40,6 @@ count-greatest f (suc m) d z = go (f (suc m)) refl (count-greatest f m (λ i l. 
     go false e g =
         record { within = omega arith; passes = g .passes; most = λ i l h. g .most i (earlier f m i l e h) h }
 
--- there is but one
-pub greatest-alone : (f : ℕ → Bool) (m x y : ℕ) → Greatest f m x → Greatest f m y → x ≡ y
-greatest-alone f m x y s t = omega (arith, s .most y (t .within) (t .passes), t .most x (s .within) (s .passes))
-
 -- a greatest is greater than another if a number that passes the other's test passes its own d numbers later
 pub greatest-beyond : (f g : ℕ → Bool) (m n d x y : ℕ) → Greatest f m x → Greatest g n y → 0 < d → m + d ≤ n
     → ((i : ℕ) → i ≤ m → f i ≡ true → g (i + d) ≡ true) → x < y

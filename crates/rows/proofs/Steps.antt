@@ -82,7 +82,3 @@ module _ (k : Stack) (s : ℕ) (g : Given) (st : Stands k s g) (fits : s < 42949
   pub scan-most : r .total ≤ suc cap
   unfolding first-total
   scan-most = omega (arith, i .total-is, first-upto (λ v. nonempty (back bias (window-of g 0) (levels g 0 m) v)) 0 (suc cap))
-
-  -- no more is ever needed than all pairs
-  pub total-capped : answer-total k s ≤ most (levels g 0 m)
-  total-capped = omega (arith, total-here, total-use)

@@ -9,7 +9,7 @@ use borrow.Author.Tests.{leb-true}
 use Rattle.numbers.proofs.Bools.{ands, impossible}
 use Rattle.numbers.proofs.Lists.{length-tabulate, getD-tabulate}
 use Rattle.stack.specs.Stack.{Pair, Stack, stack}
-use Rattle.stack.specs.Limits.{rising, all-rising, channel-within, channels-within, strips-within, within-limits}
+use Rattle.stack.specs.Limits.{rising, all-rising, channel-within, channels-within, within-limits}
 use Rattle.stack.specs.Value.{strip, no-terminals, channel-of, length-at, channel-at, stack-of}
 use Rattle.stack.specs.declared.Stack.{Stack as Stack-struct}
 use Rattle.stack.proofs.Values.{channel-length}
@@ -48,12 +48,6 @@ pub within-rising : (k : Stack) → within-limits k ≡ true → all-rising (k .
 unfolding within-limits
 within-rising k e = channels-rising (k .strips) (k .channels) (search ands)
 
-strip-in-limits : (ls : List ℕ) (i : ℕ) → strips-within ls ≡ true → i < length ls → (1 ≤ getD ls i 0) × (getD ls i 0 ≤ 1000)
-unfolding strips-within
-strip-in-limits [] i e h = absurd (omega arith)
-strip-in-limits (l ∷ ls) zero e h = (leb-true 1 l (search ands), leb-true l 1000 (search ands))
-strip-in-limits (l ∷ ls) (suc i) e h = strip-in-limits ls i (search ands) (omega arith)
-
 -- a struct's list value, place by place
 pub stack-channels : (k : Stack-struct) → length (stack-of k .channels) ≡ k .count
 unfolding stack-of stack
@@ -72,10 +66,6 @@ unfolding stack-of stack
 stack-strip k i h = getD-tabulate (suc (k .count)) i (λ i. length-at k i) 0 h
 
 module _ (k : Stack-struct) (good : within-limits (stack-of k) ≡ true) where
-  pub some-channel : 1 ≤ k .count
-  unfolding within-limits
-  some-channel = omega (arith, stack-channels k, leb-true 1 (length (stack-of k .channels)) (search ands))
-
   pub few-channels : k .count ≤ 8
   unfolding within-limits
   few-channels = omega (arith, stack-channels k, leb-true (length (stack-of k .channels)) 8 (search ands))
@@ -86,10 +76,6 @@ module _ (k : Stack-struct) (good : within-limits (stack-of k) ≡ true) where
       let w = channel-in-limits (stack-of k .strips) (stack-of k .channels) i (search ands) (omega (arith, stack-channels k)) in
       let n = leb-true (length (getD (stack-of k .channels) i [])) 32 (search ands) in
       omega (arith, ap length (stack-channel k i h), channel-length (getD (k .channels) i no-terminals))
-
-  pub strip-bounds : (i : ℕ) → i < suc (k .count) → (1 ≤ getD (k .strips) i (strip 0) .length .0) × (getD (k .strips) i (strip 0) .length .0 ≤ 1000)
-  unfolding within-limits
-  strip-bounds i h = omega (arith, strip-in-limits (stack-of k .strips) i (search ands) (omega (arith, stack-strips k)), stack-strip k i h)
 
 -- a stack within the limits has one strip more than channels
 pub strips-count : (k : Stack) → within-limits k ≡ true → length (k .strips) ≡ suc (length (k .channels))

@@ -11,7 +11,7 @@ use lib.Seq.{take-append-seam, take-at}
 use borrow.Author.Tests.{le-leb, eq-eqb, ne-eqb}
 use Rattle.stack.specs.Stack.{Stack, Row, sum}
 use Rattle.stack.proofs.Within.{few-channels, stack-channels}
-use Rattle.text.specs.Text.{Refusal, refusal, fine, or-else, text-refusal, stack-in}
+use Rattle.text.specs.Text.{Refusal, refusal, fine, text-refusal, stack-in}
 use Rattle.text.specs.Outcome.{number-of, refusal-of, is-accepted}
 use Rattle.text.specs.Driver.{Stack-read}
 use Rattle.text.specs.declared.Refused.{Refused as Refused-struct}
@@ -70,10 +70,6 @@ accepted-text f t h = rw (eq-eqb (f .number) 0 h)
 accepted-number : (o : Outcome) → is-accepted o ≡ true → refusal-of o .number ≡ 0
 unfolding fine refusal
 accepted-number o a = ap (λ (f : Refusal). f .number) (accepted-fine o a)
-
-or-else-second : (a b : Refusal) → a .number ≡ 0 → or-else a b ≡ b
-unfolding or-else
-or-else-second a b h = rw (eq-eqb (a .number) 0 h)
 
 -- THE TABLE
 module _ (bs : List ℕ) (a : TableAnswer) (o x : List ℕ) where

@@ -18,7 +18,7 @@ use Rattle.answer.specs.Solve.{answer-total}
 use Rattle.rows.specs.Walk.{widest}
 use Rattle.rows.specs.Evaluate.{arrays, Held, Evaluated, Place-row-asks}
 use Rattle.rows.proofs.Settled.{widest-small, longest-widest}
-use Rattle.rows.proofs.Steps.{scan-passes, scan-stays, scan-whole, scan-most, total-capped}
+use Rattle.rows.proofs.Steps.{scan-passes, scan-stays, scan-whole, scan-most}
 use Rattle.rows.proofs.Evaluating.{held-stands, cap-used, found-total}
 use Rattle.table.specs.Walking.{Holding}
 
@@ -59,11 +59,6 @@ module _ (k : Stack-struct) (s cap : ℕ) (lows highs : List (List ℕ)) (counts
 
   pub event-place-asks : cap ≤ sums counts 0 (k .count) → r .total ≤ cap → Place-row-asks k s lows highs counts uptos froms ends r
   event-place-asks c f = record { held = held; wide = wide; cap = cap; capped = c; found = f; evaluated = e }
-
-  pub event-capped : answer-total (stack-of k) s ≤ sums counts 0 (k .count)
-  event-capped =
-      let h = total-capped (stack-of k) s (arrays lows highs counts uptos) (held-stands k s lows highs counts uptos fits wide held (e .windows)) fits wide cap froms ends r scanned in
-      omega (arith, rw (stack-channels k) at h, most-sums (arrays lows highs counts uptos) 0 (k .count))
 
 -- counts within the arrays
 pub held-counts : (k : Stack-struct) (lows highs : List (List ℕ)) (counts : List ℕ) → Held k lows highs counts → Counts-ask counts (k .count)

@@ -20,7 +20,7 @@ use Rattle.stack.specs.declared.Terminals.{Terminals}
 use Rattle.stack.specs.declared.TerminalsFound.{TerminalsFound}
 use Rattle.stack.specs.declared.TerminalsFound.the-variants.{Good, Crowd, Overhang, Crossing}
 use Rattle.stack.specs.declared.TerminalsMade.{TerminalsMade}
-use Rattle.text.specs.Text.{Refusal, refusal, fine, Line, fields, all-numbers, values, nets-word, numbers-of, shape, terminals-refusal, pairs-of}
+use Rattle.text.specs.Text.{Refusal, refusal, Line, fields, all-numbers, values, nets-word, numbers-of, shape, terminals-refusal, pairs-of}
 use Rattle.text.specs.Outcome.{refusal-of, refused}
 use Rattle.text.specs.Numbers.{in-places, worded, Line-read}
 use Rattle.text.specs.Kinds.{place, found-refusal, channel-refusal, Nets-read}
@@ -76,9 +76,6 @@ place-crossing f n e h = rw e at h
 
 -- A REFUSAL at the fault
 module _ (i : ℕ) (f : TerminalsFound) (o : Outcome) where
-  pub told-good : f ≡ Good → fine ≡ found-refusal i f
-  told-good e = rw e
-
   pub told-crowd : f ≡ Crowd → o ≡ refused why.Crowd (i + 1) 66 → refusal-of o ≡ found-refusal i f
   told-crowd e h = rw (e, h, add-one i)
 

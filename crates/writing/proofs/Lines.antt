@@ -1,35 +1,17 @@
 -- Lines written over an output. A text written behind another is their append written; each line is written if there is space for it, and if there is space for
 -- the whole text it stands whole, since no line before it was left out. Assumes nothing.
-use mathlib.Core.Path.{_≡_, refl, ap, sym, _∙_}
-use mathlib.Core.List.{List, [], _∷_, _++_, append-assoc, append-nil}
+use mathlib.Core.Path.{_≡_, refl, _∙_}
+use mathlib.Core.List.{List, [], _++_, append-assoc, append-nil}
 use mathlib.Core.Logic.{_⊎_, inl, inr}
 use Prim.Native.Nat.{ℕ, _+_, _-_, _≤_, _<_, min}
 use native.Mathlib.Nat.{zero-add, sub-zero}
 use native.Mathlib.Omega.{arith}
 use lib.ListN.{length, take, drop, replicate, length-append, length-drop, drop-of-length-le, take-append-drop}
-use lib.Seq.{take-append-seam, take-at, drop-at, drop-drop, take-all, length-take-le}
+use lib.Seq.{take-append-seam, take-all, length-take-le}
 use borrow.Author.Tests.{le-leb, lt-leb}
-use Rattle.numbers.proofs.Overlay.{drop-replicate}
 use Rattle.numbers.proofs.Orders.{le-or-lt}
-use Rattle.stack.specs.Stack.{Row}
-use Rattle.writing.specs.TableText.{tabbed, row-text, rows-text, table-text}
-use Rattle.writing.specs.Output.{over, over-at, fitted, written, written-at, cleared, Written, line-bytes, Line-put, Line-put-at, Table-written}
+use Rattle.writing.specs.Output.{over, over-at, fitted, written, written-at, cleared, Written, line-bytes, Line-put, Line-put-at}
 use Rattle.writing.specs.Room.{Line-made}
-
--- a text, and then another behind it
-pub over-at-over-at : (at : ℕ) (s t o : List ℕ) → at ≤ length o → over-at (at + length s) t (over-at at s o) ≡ over-at at (s ++ t) o
-unfolding over-at over
-over-at-over-at at s t o h =
-    let front = take at o ++ s in
-    let rest = drop (length s) (drop at o) in
-    let long : length front ≡ at + length s = rw (length-append, length-take-le at o h) in
-    let joined : take at o ++ (s ++ rest) ≡ front ++ rest = sym (append-assoc (take at o) s rest) in
-    rw (joined, take-at front rest (at + length s) long, drop-at front rest (at + length s) long, drop-drop (length t) (length s) (drop at o), length-append)
-    (simp append-assoc)
-
-pub over-zeros : (t : List ℕ) (n : ℕ) → over t (replicate n 0) ≡ t ++ replicate (n - length t) 0
-unfolding over
-over-zeros t n = rw (drop-replicate {A = ℕ} (length t) n 0)
 
 pub over-length : (t o : List ℕ) → length t ≤ length o → length (over t o) ≡ length o
 unfolding over
@@ -114,34 +96,3 @@ lent-put {t} {o} {part} {at} {from} e some p =
       counted = rw (p .counted);
       few = omega (arith, p .few);
     }
-
-rows-append : (rs qs : List Row) → rows-text (rs ++ qs) ≡ rows-text rs ++ rows-text qs
-unfolding rows-text
-rows-append [] qs = refl
-rows-append (r ∷ rs) qs = rw (rows-append rs qs, append-assoc)
-
-table-more : (k : ℕ) (rs : List Row) (r : Row) → table-text k (rs ++ (r ∷ [])) ≡ table-text k rs ++ row-text r
-unfolding table-text rows-text
-table-more k rs r =
-    let head = (84 ∷ 65 ∷ 66 ∷ 76 ∷ 69 ∷ []) ++ tabbed (k ∷ []) ++ (10 ∷ []) in
-    let one : rows-text (r ∷ []) ≡ row-text r = append-nil (row-text r) in
-    ap (λ (l : List ℕ). head ++ l) (rows-append rs (r ∷ []) ∙ rw one) ∙ sym (append-assoc head (rows-text rs) (row-text r))
-
-pub table-starts : {k : ℕ} {before after : List ℕ} {r : ℕ} → Line-put (table-text k []) before after r → Table-written k [] before after r
-table-starts {k} {before} p =
-    let first = written-steps (table-text k []) (written-starts before) in
-    record { whole = rw (p .stands, ← written-at-start (table-text k []) before) first; counted = p .counted; few = p .few }
-
-pub table-steps : {k at r : ℕ} {rs : List Row} {before now after : List ℕ} (q : Row) → Table-written k rs before now at → Line-put-at at (row-text q) now after r →
-    Table-written k (rs ++ (q ∷ [])) before after r
-table-steps {k} {rs = rs} q w p =
-    record {
-      whole = rw (p .stands, w .counted, table-more k rs q) (written-steps (row-text q) (w .whole));
-      counted = p .counted ∙ rw (w .counted, table-more k rs q, length-append);
-      few = rw length-append (omega (arith, p .few, w .few));
-    }
-
--- the table with zeros behind it
-pub table-ends : {k at : ℕ} {rs : List Row} {before now : List ℕ} → Table-written k rs before now at → at ≤ length before →
-    cleared at now ≡ table-text k rs ++ replicate (length before - length (table-text k rs)) 0
-table-ends w h = rw (w .counted) (written-ends (w .whole) (omega (arith, w .counted)))

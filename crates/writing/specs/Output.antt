@@ -8,7 +8,6 @@ use lib.ListN.{length, getD, take, drop, replicate}
 use Rattle.stack.specs.Stack.{Row, row, sum, total}
 use Rattle.stack.specs.declared.Tracks.{Tracks}
 use Rattle.stack.specs.declared.Columns.{Columns}
-use Rattle.writing.specs.TableText.{table-text}
 
 -- a text over the first bytes of an output
 unfoldable pub over : (text out : List ℕ) → List ℕ
@@ -61,12 +60,6 @@ pub record Line-put-at (at : ℕ) (text before after : List ℕ) (r : ℕ) : Typ
   pub stands : after ≡ written-at at text before
   pub counted : r ≡ at + length text
   pub few : r ≤ at + line-bytes
-
--- while a table is written: its first rows, and where they end
-pub record Table-written (k : ℕ) (rows : List Row) (before now : List ℕ) (at : ℕ) : Type 0 where
-  pub whole : Written (table-text k rows) before now
-  pub counted : at ≡ length (table-text k rows)
-  pub few : at ≤ line-bytes * suc (length rows)
 
 abbrev pub tracks : List Tracks → List ℕ
 tracks ts = map (λ (t : Tracks). t .0) ts
