@@ -313,6 +313,13 @@ impl Run {
         }
     }
 
+    /// Up to 3 channels, lengths up to 12, up to 4 pairs.
+    fn small(&mut self) -> Stack {
+        let k = 1 + self.random.below(3);
+        let length = self.random.between(1, 14 - 2 * k as i64);
+        self.random.stack(k, length, 4)
+    }
+
     /// A stack small enough to try separations: up to eight channels, lengths up to 60, up to 6 pairs.
     fn middle(&mut self) -> Stack {
         loop {
@@ -413,6 +420,25 @@ fn check_specimens(run: &mut Run) {
     }
 }
 
+/// So many random stacks of a kind, each compared; their texts are kept.
+fn compare_stacks(
+    run: &mut Run,
+    count: u64,
+    names: [&'static str; 2],
+    make: fn(&mut Run) -> Stack,
+    check: fn(&mut Run, &Stack, &[u8]) -> Checked,
+    texts: &mut Vec<Vec<u8>>,
+) {
+    for _ in 0..count {
+        let stack = make(run);
+        let text = random::text(&stack);
+        run.count(names[1]);
+        let checked = check(run, &stack, &text);
+        expect(names[0], &text, checked);
+        texts.push(text);
+    }
+}
+
 fn main() {
     let words: Vec<String> = std::env::args().skip(1).collect();
     let given: Option<Vec<u64>> = words.iter().map(|w| w.parse().ok()).collect();
@@ -428,32 +454,9 @@ fn main() {
     let mut run = Run { random: Random(seed), counts: BTreeMap::new() };
     check_specimens(&mut run);
     let mut bases = Vec::new();
-    for _ in 0..counts[0] {
-        let k = 1 + run.random.below(3);
-        let length = run.random.between(1, 14 - 2 * k as i64);
-        let stack = run.random.stack(k, length, 4);
-        let text = random::text(&stack);
-        run.count("small stacks");
-        let checked = run.stack(&stack, &text);
-        expect("small stack", &text, checked);
-        bases.push(text);
-    }
-    for _ in 0..counts[1] {
-        let stack = run.middle();
-        let text = random::text(&stack);
-        run.count("middle stacks");
-        let checked = run.stack(&stack, &text);
-        expect("middle stack", &text, checked);
-        bases.push(text);
-    }
-    for _ in 0..counts[3] {
-        let stack = run.large();
-        let text = random::text(&stack);
-        run.count("stacks at the limits");
-        let checked = run.large_stack(&stack, &text);
-        expect("stack at the limits", &text, checked);
-        bases.push(text);
-    }
+    compare_stacks(&mut run, counts[0], ["small stack", "small stacks"], Run::small, Run::stack, &mut bases);
+    compare_stacks(&mut run, counts[1], ["middle stack", "middle stacks"], Run::middle, Run::stack, &mut bases);
+    compare_stacks(&mut run, counts[3], ["stack at the limits", "stacks at the limits"], Run::large, Run::large_stack, &mut bases);
     if bases.is_empty() {
         bases.push(specimens::tabbed(specimens::TABLES[1].1).into_bytes());
     }
