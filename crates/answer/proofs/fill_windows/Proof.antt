@@ -1,7 +1,6 @@
 -- fill_windows meets its contract: the loop keeps Windows-in. Assumes nothing.
-use mathlib.Core.Path.{_≡_, _∙_}
+use mathlib.Core.Path.{_≡_}
 use Prim.Native.Nat.{suc, _≤_, _-_}
-use native.Mathlib.Numerals.{add-one}
 use native.Mathlib.Omega.{arith}
 use borrow.Author.Count.{falls}
 use Rattle.stack.specs.Value.{stack-of}
@@ -52,7 +51,7 @@ loop-less : tie.Need-loop-less Inv-loop μ-loop
 loop-less c = falls _ _ (c .before .before .before .loop-test .taken)
 
 loop-again : tie.Need-loop-again Inv-loop μ-loop
-loop-again c = (omega arith, windows-step (c .before .before .before .before .before .args .t1) (c .before .before .before .before .loop .i) (c .before .before .before .before .before .args .spread) (c .difference .result) _ (omega arith) (few-channels (c .before .before .before .before .before .args .t1) (c .before .before .before .before .before .pre .0)) (c .before .before .before .before .loop .inv .1) (c .difference .ensures ∙ rw (c .before .wide .ensures, add-one (c .before .before .before .before .before .args .spread))))
+loop-again c = (omega arith, windows-step (c .before .before .before .before .before .args .t1) (c .before .before .before .before .loop .i) (c .before .before .before .before .before .args .spread) (c .difference .result) _ (omega arith) (few-channels (c .before .before .before .before .before .args .t1) (c .before .before .before .before .before .pre .0)) (c .before .before .before .before .loop .inv .1) (omega (arith, c .difference .ensures, c .before .wide .ensures)))
 
 returns : tie.Need-returns Inv-loop μ-loop
 returns c = let z : c .before .loop .i ≡ suc (c .before .before .args .t1 .count) = omega arith in rw z at (c .before .loop .inv .1)
