@@ -334,10 +334,10 @@ impl Stack {
         ensures { λ r. ⌜ r ≡ longest (stack-of self .strips) ⌝ }
     {
         let mut most: u32 = 0;
-        let mut i = self.count + 1;
-        while 0 < i {
-            i -= 1;
-            most = longer(most, self.strips[i]);
+        let mut left = self.count + 1;
+        while 0 < left {
+            left -= 1;
+            most = longer(most, self.strips[left]);
         }
         most
     }

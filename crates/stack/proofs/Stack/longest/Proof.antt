@@ -7,19 +7,19 @@ use Rattle.stack.proofs.Stack.longest.Statement.{statement}
 use Rattle.stack.proofs.Stack.longest.Tie as tie
 
 abbrev Inv-loop : tie.InvT-loop
-Inv-loop self most₀ i₀ most i = Lengths-from self i most
+Inv-loop self most₀ left₀ most left = Lengths-from self left most
 
 abbrev μ-loop : tie.MeasureT-loop
-μ-loop self most₀ i₀ most i = i
+μ-loop self most₀ left₀ most left = left
 
-add-i : tie.Need-add-i Inv-loop μ-loop
-add-i c = search needs
+add-left : tie.Need-add-left Inv-loop μ-loop
+add-left c = search needs
 
 loop-holds : tie.Need-loop-holds Inv-loop μ-loop
 loop-holds c = longest-start (c .args .t1)
 
-sub-i : tie.Need-sub-i Inv-loop μ-loop
-sub-i c = search needs
+sub-left : tie.Need-sub-left Inv-loop μ-loop
+sub-left c = search needs
 
 mul-longer : tie.Need-mul-longer Inv-loop μ-loop
 mul-longer c = omega (arith, c .before .loop .inv .inside)
@@ -34,10 +34,10 @@ loop-less : tie.Need-loop-less Inv-loop μ-loop
 loop-less c = search needs
 
 loop-again : tie.Need-loop-again Inv-loop μ-loop
-loop-again c = longest-step (c .before .before .before .before .args .t1) (c .before .before .before .loop .i) (c .before .before .before .loop .most) (c .longer .result) (c .before .before .loop-test .taken) (c .before .before .before .loop .inv) (c .longer .ensures)
+loop-again c = longest-step (c .before .before .before .before .args .t1) (c .before .before .before .loop .left) (c .before .before .before .loop .most) (c .longer .result) (c .before .before .loop-test .taken) (c .before .before .before .loop .inv) (c .longer .ensures)
 
 returns : tie.Need-returns Inv-loop μ-loop
-returns c = longest-end (c .before .before .args .t1) (c .before .loop .i) (c .before .loop .most) (c .loop-test .left) (c .before .loop .inv)
+returns c = longest-end (c .before .before .args .t1) (c .before .loop .left) (c .before .loop .most) (c .loop-test .left) (c .before .loop .inv)
 
 pub longest-spec : {M : Type 1} → statement M
 longest-spec =
@@ -45,9 +45,9 @@ longest-spec =
     (tie.spec
     Inv-loop
     μ-loop
-    add-i
+    add-left
     loop-holds
-    sub-i
+    sub-left
     mul-longer
     element-copy-out-longer
     longer-requires
