@@ -8,6 +8,7 @@ use native.Mathlib.Omega.{arith}
 use lib.ListN.{length, getD, set, drop, length-set, replicate, drop-of-length-le}
 use lib.Seq.{getD-set-same, getD-set-other, drop-cons}
 use borrow.Author.Tests.{leb-true}
+use Rattle.numbers.specs.Lists.{padded}
 use Rattle.numbers.proofs.Bools.{ands}
 use Rattle.numbers.proofs.Lists.{getD-tabulate}
 use Rattle.numbers.proofs.Orders.{lt-or-eq}
@@ -28,7 +29,7 @@ use Rattle.solver.specs.declared.Placement.{Placement}
 use Rattle.solver.proofs.Separating.{most-small}
 use Rattle.solver.proofs.Scans.{most-sums}
 use Rattle.solver.proofs.Placing.{sized-zeros, scan-separate-asks}
-use Rattle.solver.specs.Arrays.{bias, channels-held, strips-held, separations-held, totals-held, entry, Given, given, low-of, high-of, count-of, window-of, limits-from, level-of, levels, Sized, Stack-asks, Place-asks, Separate-asks, separations-of, Placement-is, padded}
+use Rattle.solver.specs.Arrays.{bias, channels-held, strips-held, separations-held, totals-held, entry, Given, given, low-of, high-of, count-of, window-of, limits-from, level-of, levels, Sized, Stack-asks, Place-asks, Separate-asks, separations-of, Placement-is}
 use Rattle.answer.specs.Solve.{window, channel-limits, stack-levels, bottom, levels-of, total-with, separations-with, positions-with, answer-separations}
 use Rattle.answer.specs.Arrays.{channel-in, strip-in, Limits-in, Windows-in, Answer-is}
 use Rattle.answer.proofs.Legal.{low-bounded}

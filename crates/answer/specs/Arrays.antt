@@ -3,10 +3,11 @@ use mathlib.Core.Path.{_≡_}
 use mathlib.Core.List.{List, []}
 use Prim.Native.Nat.{ℕ, suc, _-_, _<_}
 use lib.ListN.{length, getD}
-use Rattle.numbers.specs.Lists.{tabulate}
+use Rattle.stack.specs.Value.{tracks-of, columns-of}
+use Rattle.numbers.specs.Lists.{tabulate, padded}
 use Rattle.stack.specs.Stack.{Pair, Stack}
 use Rattle.channel.specs.Limits.{low-limit, high-limit}
-use Rattle.solver.specs.Arrays.{bias, channels-held, strips-held, separations-held, entry, row, tracks, columns, padded}
+use Rattle.solver.specs.Arrays.{bias, channels-held, strips-held, separations-held, entry, row}
 use Rattle.solver.specs.declared.Placement.{Placement}
 use Rattle.answer.specs.Solve.{answer-total, answer-separations, answer-positions}
 
@@ -33,5 +34,5 @@ pub record Windows-in (k : Stack) (n s : ℕ) (uptos : List ℕ) : Type 0 where
 -- THE ANSWER as the code gives it, with zeros in unused places
 pub record Answer-is (k : Stack) (s : ℕ) (r : Placement) : Type 0 where
   pub total-is : r .total .0 ≡ answer-total k s
-  pub separations-are : tracks (r .separations) ≡ padded channels-held (answer-separations k s)
-  pub positions-are : columns (r .positions) ≡ padded strips-held (answer-positions k s)
+  pub separations-are : tracks-of (r .separations) ≡ padded channels-held (answer-separations k s)
+  pub positions-are : columns-of (r .positions) ≡ padded strips-held (answer-positions k s)

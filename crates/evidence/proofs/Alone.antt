@@ -6,6 +6,7 @@ use mathlib.Core.List.{List, [], _∷_, _++_}
 use Prim.Native.Nat.{ℕ, zero, suc, _-_}
 use lib.Dec.{leb}
 use lib.ListN.{length, getD, take, replicate}
+use Rattle.stack.specs.Value.{tracks-of, columns-of}
 use Rattle.numbers.specs.Lists.{tabulate}
 use Rattle.numbers.proofs.Bools.{ands}
 use Rattle.stack.specs.Stack.{Stack, legal}
@@ -18,7 +19,7 @@ use Rattle.answer.proofs.Answers.{answer-alone}
 use Rattle.rows.proofs.Rows.{rows-alone}
 use Rattle.writing.specs.TableText.{table-text}
 use Rattle.trial.specs.Legal.{is-legal}
-use Rattle.nabetsu.specs.Entry.{tracks, columns, numbers, numbers-in, Numbers-put, placed-is, Answered, Spread-says, zeros, table-told, Fits, Tabled, Table-says, Trial-says}
+use Rattle.nabetsu.specs.Entry.{numbers, numbers-in, Numbers-put, placed-is, Answered, Spread-says, zeros, table-told, Fits, Tabled, Table-says, Trial-says}
 use Rattle.nabetsu.specs.declared.SpreadAnswer.{SpreadAnswer}
 use Rattle.nabetsu.specs.declared.TableAnswer.{TableAnswer}
 use Rattle.evidence.specs.Alone.{Same-spread, Spread-alone, Spread-coded-alone, Same-table, Table-alone, Coded-alone, Trial-alone, Placement-drawable, Trial-drawable}
@@ -43,7 +44,7 @@ spread-alone bs s r q a b = answered-alone _ _ (stack-in bs) s r q a b
 numbers-alone : (n : ℕ) (r q : SpreadAnswer) → Same-spread r q → numbers-in n r ≡ numbers-in n q
 unfolding numbers-in numbers
 numbers-alone n r q e =
-    let same : r .total .0 ∷ (tracks (r .separations) ++ columns (r .positions)) ≡ q .total .0 ∷ (tracks (q .separations) ++ columns (q .positions)) = rw (e .totals, e .separations, e .positions) in
+    let same : r .total .0 ∷ (tracks-of (r .separations) ++ columns-of (r .positions)) ≡ q .total .0 ∷ (tracks-of (q .separations) ++ columns-of (q .positions)) = rw (e .totals, e .separations, e .positions) in
     ap (λ (ns : List ℕ). tabulate n 0 (λ i. getD ns i 0)) same
 
 zeros-alone : (o p : List ℕ) → length o ≡ length p → zeros p ≡ zeros o

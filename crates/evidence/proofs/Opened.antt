@@ -4,6 +4,7 @@ use mathlib.Core.Bool.{Bool}
 use mathlib.Core.List.{List}
 use Prim.Native.Nat.{ℕ}
 use Prim.Native.String.{String}
+use Rattle.numbers.specs.Lists.{padded}
 use Rattle.stack.specs.Stack as stacks
 use Rattle.stack.specs.Stack.{Stack}
 use Rattle.channel.specs.Limits as limits
@@ -15,7 +16,7 @@ use Rattle.rows.specs.Walk as walk
 use Rattle.text.specs.Text as texts
 use Rattle.writing.specs.TableText as table-texts
 use Rattle.trial.specs.Legal.{all-zero, is-legal}
-use Rattle.nabetsu.specs.Entry.{padded, spread-refusal}
+use Rattle.nabetsu.specs.Entry.{spread-refusal}
 use Rattle.evidence.specs.Replies.{Spread-reply, placement, placement-for, spread-reply, Table-reply, writes, refuses, if-fits, table-for, table-reply}
 use Rattle.evidence.specs.Specimens.{byte-shown, line-shown, text-shown}
 

@@ -5,10 +5,11 @@ use mathlib.Core.Bool.{Bool, true, false, _&&_, not}
 use mathlib.Core.List.{List, [], _∷_}
 use lib.Dec.{eqb}
 use borrow.Author.Tests.{not-true}
+use Rattle.numbers.specs.Lists.{padded}
 use Rattle.numbers.proofs.Bools.{ands}
 use Rattle.text.specs.Text.{refusal, text-refusal, stack-in}
 use Rattle.trial.specs.Legal.{is-legal}
-use Rattle.nabetsu.specs.Entry.{padded, Trial-says}
+use Rattle.nabetsu.specs.Entry.{Trial-says}
 use Rattle.evidence.specs.Replies.{same-refusal, placement, same-placement, spread-reply, writes, refuses, same-table, table-reply}
 use Rattle.evidence.specs.Specimens.{text-shown, Specimen, spread-gives, spread-refused, table-gives, table-refused, trial-gives, trial-refused, Holds, All-hold, specimens, Specimens-right}
 use Rattle.evidence.proofs.Opened.{reading, replying}

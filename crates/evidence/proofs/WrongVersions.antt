@@ -9,13 +9,15 @@ use native.Mathlib.Nat.{zero-add}
 use lib.ListN.{length, replicate}
 use lib.IntN.{pos}
 use borrow.Author.Tests.{eq-eqb}
+use Rattle.numbers.specs.Lists.{padded}
+use Rattle.stack.specs.Value.{tracks-of}
 use Rattle.numbers.proofs.Bools.{impossible}
 use Rattle.stack.specs.Stack.{Stack, in-spread, longest, sum}
 use Rattle.routing.specs.Paths as paths
 use Rattle.routing.specs.Paths.{point, Drawable}
 use Rattle.text.specs.Text.{Refusal, refusal, same-bytes, stack-in}
 use Rattle.text.specs.Outcome.{refusal-of}
-use Rattle.nabetsu.specs.Entry.{padded, tracks, spread-refusal, placed-is, Answered, Spread-says, table-told, Table-says}
+use Rattle.nabetsu.specs.Entry.{spread-refusal, placed-is, Answered, Spread-says, table-told, Table-says}
 use Rattle.nabetsu.specs.Best.{Spread-best}
 use Rattle.nabetsu.specs.declared.SpreadAnswer.{SpreadAnswer}
 use Rattle.nabetsu.specs.declared.TableAnswer.{TableAnswer}
@@ -93,7 +95,7 @@ differ : (a b : List ℕ) → same-bytes a b ≡ false → a ≡ b → ⊥
 differ a b d e = let same : same-bytes a b ≡ true = rw e (bytes-same b) in impossible (sym d ∙ same)
 
 -- FULL PAIR COUNT as every separation: A at spread 100 is drawn with no track, each path one point
-pub full-count-breaks : (r : SpreadAnswer) → tracks (r .separations) ≡ padded 8 (2 ∷ []) → Spread-says (text-shown text-a) 100 r → ⊥
+pub full-count-breaks : (r : SpreadAnswer) → tracks-of (r .separations) ≡ padded 8 (2 ∷ []) → Spread-says (text-shown text-a) 100 r → ⊥
 unfolding Holds placed-is padded same-bytes
 full-count-breaks r w a = differ (padded 8 (2 ∷ [])) (padded 8 (0 ∷ [])) refl (sym w ∙ a-at-100 r .0 a .2)
 
@@ -129,16 +131,16 @@ sum-zeros [] zero = refl
 sum-zeros [] (suc n) = rw zero-add (sum-zeros [] n)
 sum-zeros (t ∷ ts) n = ap (λ (v : ℕ). t + v) (sum-zeros ts n)
 
-answered-sum : (n : ℕ) (f : Refusal) (k : Stack) (s : ℕ) (r : SpreadAnswer) → Answered n f k s r → r .total .0 ≡ sum (tracks (r .separations))
+answered-sum : (n : ℕ) (f : Refusal) (k : Stack) (s : ℕ) (r : SpreadAnswer) → Answered n f k s r → r .total .0 ≡ sum (tracks-of (r .separations))
 unfolding Answered placed-is padded sum
 answered-sum zero f k s r a = a .3 .1 ∙ sym (ap sum (a .3 .2) ∙ sum-zeros (a .0) (8 - length (a .0)))
 answered-sum (suc n) f k s r a = a .1 ∙ sym (ap sum (a .2))
 
-pub total-is-sum : (bs : List ℕ) (s : ℕ) (r : SpreadAnswer) → Spread-says bs s r → r .total .0 ≡ sum (tracks (r .separations))
+pub total-is-sum : (bs : List ℕ) (s : ℕ) (r : SpreadAnswer) → Spread-says bs s r → r .total .0 ≡ sum (tracks-of (r .separations))
 unfolding Spread-says
 total-is-sum bs s r a = answered-sum (spread-refusal bs s .number) (spread-refusal bs s) (stack-in bs) s r a
 
-pub other-total-breaks : (bs : List ℕ) (s : ℕ) (r : SpreadAnswer) → r .total .0 ≡ suc (sum (tracks (r .separations))) → Spread-says bs s r → ⊥
+pub other-total-breaks : (bs : List ℕ) (s : ℕ) (r : SpreadAnswer) → r .total .0 ≡ suc (sum (tracks-of (r .separations))) → Spread-says bs s r → ⊥
 other-total-breaks bs s r w a = omega (arith, total-is-sum bs s r a)
 
 pub other-total-row-breaks : (r : TableAnswer) (o x : List ℕ) → length o ≡ 50 →

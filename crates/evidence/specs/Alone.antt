@@ -7,12 +7,13 @@ use mathlib.Core.List.{List}
 use mathlib.Core.Logic.{_↔_}
 use Prim.Native.Nat.{ℕ, suc}
 use lib.ListN.{length, take, drop}
+use Rattle.stack.specs.Value.{tracks-of, columns-of}
 use Rattle.stack.specs.Stack.{Stack}
 use Rattle.routing.specs.Paths.{Drawable}
 use Rattle.text.specs.Text.{text-refusal, stack-in}
 use Rattle.text.specs.Outcome.{refusal-of}
 use Rattle.trial.specs.Legal.{all-zero}
-use Rattle.nabetsu.specs.Entry.{tracks, columns, Spread-says, Table-says, Trial-says, Table-coded, Spread-coded}
+use Rattle.nabetsu.specs.Entry.{Spread-says, Table-says, Trial-says, Table-coded, Spread-coded}
 use Rattle.nabetsu.specs.declared.SpreadAnswer.{SpreadAnswer}
 use Rattle.nabetsu.specs.declared.TableAnswer.{TableAnswer}
 use Rattle.nabetsu.specs.declared.TrialAnswer.{TrialAnswer}
@@ -21,8 +22,8 @@ use Rattle.nabetsu.specs.declared.TrialAnswer.{TrialAnswer}
 pub record Same-spread (r q : SpreadAnswer) : Type 0 where
   pub refusals : refusal-of (r .outcome) ≡ refusal-of (q .outcome)
   pub totals : r .total .0 ≡ q .total .0
-  pub separations : tracks (r .separations) ≡ tracks (q .separations)
-  pub positions : columns (r .positions) ≡ columns (q .positions)
+  pub separations : tracks-of (r .separations) ≡ tracks-of (q .separations)
+  pub positions : columns-of (r .positions) ≡ columns-of (q .positions)
 
 unfoldable pub Spread-alone : Type 0
 Spread-alone = (bs : List ℕ) (s : ℕ) (r q : SpreadAnswer) → Spread-says bs s r → Spread-says bs s q → Same-spread r q

@@ -9,9 +9,10 @@ use Prim.Native.Char.{code}
 use Prim.Native.String.{String, [] as end-of, _∷_ as _then_}
 use lib.Dec.{eqb}
 use lib.ListN.{length, replicate}
+use Rattle.numbers.specs.Lists.{padded}
 use Rattle.text.specs.Text.{refusal}
 use Rattle.text.specs.Outcome.{refusal-of}
-use Rattle.nabetsu.specs.Entry.{padded, placed-is, table-told, Spread-says, Table-says, Trial-says}
+use Rattle.nabetsu.specs.Entry.{placed-is, table-told, Spread-says, Table-says, Trial-says}
 use Rattle.nabetsu.specs.declared.SpreadAnswer.{SpreadAnswer}
 use Rattle.nabetsu.specs.declared.TableAnswer.{TableAnswer}
 use Rattle.nabetsu.specs.declared.TrialAnswer.{TrialAnswer}

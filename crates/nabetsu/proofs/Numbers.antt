@@ -8,6 +8,7 @@ use lib.Dec.{eqb}
 use lib.ListN.{length, getD, set, take, drop, replicate, length-append}
 use lib.Seq.{getD-append-add}
 use borrow.Author.Tests.{eqb-true, le-leb, lt-leb, ne-eqb, eq-eqb}
+use Rattle.stack.specs.Value.{tracks-of, columns-of}
 use Rattle.numbers.specs.Lists.{tabulate}
 use Rattle.numbers.proofs.Lists.{length-tabulate, getD-tabulate, tabulate-same, tabulate-constant}
 use Rattle.stack.specs.declared.Tracks.{Tracks}
@@ -23,7 +24,7 @@ use Rattle.text.specs.declared.Outcome.the-variants.{Accepted, Refused}
 use Rattle.text.specs.declared.Refusal.the-variants.{ShortSpace}
 use Rattle.text.proofs.Places.{refused-number}
 use Rattle.text.proofs.Stages.{or-else-refused}
-use Rattle.nabetsu.specs.Entry.{tracks, columns, numbers, numbers-in, zeros, code, verdict, is-legal-numbers, Spread-says, Trial-says, Numbers-put, Spread-coded}
+use Rattle.nabetsu.specs.Entry.{numbers, numbers-in, zeros, code, verdict, is-legal-numbers, Spread-says, Trial-says, Numbers-put, Spread-coded}
 use Rattle.nabetsu.specs.Parts.{Refused-answer, Copied, Numbers-tried}
 use Rattle.nabetsu.proofs.Copies.{copied-starts, copied-steps, copied-ends}
 use Rattle.nabetsu.specs.declared.SpreadAnswer.{SpreadAnswer}
@@ -40,30 +41,30 @@ past (x ∷ xs) zero h = absurd (omega arith)
 past (x ∷ xs) (suc i) h = past xs i (omega arith)
 
 module _ (v : ℕ) (ts : List Tracks) (xs : List Columns) (sized : length ts ≡ 8) (sized-columns : length xs ≡ 9) where
-  pub number-track : (i : ℕ) → (i ≡ 0 → ⊥) → i ≤ 8 → getD ts (i - 1) (record { 0 = 0 }) .0 ≡ getD (v ∷ (tracks ts ++ columns xs)) i 0
+  pub number-track : (i : ℕ) → (i ≡ 0 → ⊥) → i ≤ 8 → getD ts (i - 1) (record { 0 = 0 }) .0 ≡ getD (v ∷ (tracks-of ts ++ columns-of xs)) i 0
   number-track zero n h = absurd (n refl)
   number-track (suc j) n h =
       let e : suc j - 1 ≡ j = omega arith in
-      rw e (sym (track-at ts j) ∙ sym (front (tracks ts) (columns xs) j (omega (arith, tracks-long ts 8 sized))))
+      rw e (sym (track-at ts j) ∙ sym (front (tracks-of ts) (columns-of xs) j (omega (arith, tracks-long ts 8 sized))))
 
-  pub number-column : (i : ℕ) → 8 < i → getD xs (i - 8 - 1) (record { 0 = 0 }) .0 ≡ getD (v ∷ (tracks ts ++ columns xs)) i 0
+  pub number-column : (i : ℕ) → 8 < i → getD xs (i - 8 - 1) (record { 0 = 0 }) .0 ≡ getD (v ∷ (tracks-of ts ++ columns-of xs)) i 0
   number-column zero h = absurd (omega arith)
   number-column (suc j) h =
       let n = suc j - 8 - 1 in
-      let e : j ≡ length (tracks ts) + n = omega (arith, tracks-long ts 8 sized) in
-      let r : getD (tracks ts ++ columns xs) j 0 ≡ getD (columns xs) n 0 = ap (λ i. getD (tracks ts ++ columns xs) i 0) e ∙ getD-append-add (tracks ts) (columns xs) n 0 in
+      let e : j ≡ length (tracks-of ts) + n = omega (arith, tracks-long ts 8 sized) in
+      let r : getD (tracks-of ts ++ columns-of xs) j 0 ≡ getD (columns-of xs) n 0 = ap (λ i. getD (tracks-of ts ++ columns-of xs) i 0) e ∙ getD-append-add (tracks-of ts) (columns-of xs) n 0 in
       sym (column-at xs n) ∙ sym r
 
-  pub number-past : (i : ℕ) → 18 ≤ i → 0 ≡ getD (v ∷ (tracks ts ++ columns xs)) i 0
-  number-past i h = sym (past (v ∷ (tracks ts ++ columns xs)) i (omega (arith, length-append (tracks ts) (columns xs), tracks-long ts 8 sized, columns-long xs 9 sized-columns)))
+  pub number-past : (i : ℕ) → 18 ≤ i → 0 ≡ getD (v ∷ (tracks-of ts ++ columns-of xs)) i 0
+  number-past i h = sym (past (v ∷ (tracks-of ts ++ columns-of xs)) i (omega (arith, length-append (tracks-of ts) (columns-of xs), tracks-long ts 8 sized, columns-long xs 9 sized-columns)))
 
 -- PUT one by one into an output
 module _ (v : ℕ) (ts : List Tracks) (xs : List Columns) where
   abbrev pub put-in : (places : ℕ) → List ℕ
-  put-in n = tabulate n 0 (λ i. getD (v ∷ (tracks ts ++ columns xs)) i 0)
+  put-in n = tabulate n 0 (λ i. getD (v ∷ (tracks-of ts ++ columns-of xs)) i 0)
 
   put-long : (n : ℕ) → length (put-in n) ≡ n
-  put-long n = length-tabulate n 0 (λ i. getD (v ∷ (tracks ts ++ columns xs)) i 0)
+  put-long n = length-tabulate n 0 (λ i. getD (v ∷ (tracks-of ts ++ columns-of xs)) i 0)
 
   pub put-starts : (o : List ℕ) → Copied (put-in (length o)) o 0
   put-starts o = copied-starts (put-in (length o)) o (sym (put-long (length o)))
@@ -75,8 +76,8 @@ module _ (v : ℕ) (ts : List Tracks) (xs : List Columns) where
     pub put-inside : i < n → i < length o
     put-inside h = omega (arith, put-same-length)
 
-    pub put-steps : (r : ℕ) → i < n → r ≡ getD (v ∷ (tracks ts ++ columns xs)) i 0 → Copied (put-in n) (set o i r) (i + 1)
-    put-steps r h e = copied-steps (put-in n) o i r (omega (arith, put-long n)) (e ∙ sym (getD-tabulate n i (λ j. getD (v ∷ (tracks ts ++ columns xs)) j 0) 0 h)) c
+    pub put-steps : (r : ℕ) → i < n → r ≡ getD (v ∷ (tracks-of ts ++ columns-of xs)) i 0 → Copied (put-in n) (set o i r) (i + 1)
+    put-steps r h e = copied-steps (put-in n) o i r (omega (arith, put-long n)) (e ∙ sym (getD-tabulate n i (λ j. getD (v ∷ (tracks-of ts ++ columns-of xs)) j 0) 0 h)) c
 
     pub put-ends : n ≤ i → o ≡ put-in n
     put-ends h = copied-ends (put-in n) o i (omega (arith, put-long n)) c
@@ -105,7 +106,7 @@ none n = tabulate-same n 0 (λ i. getD nothing i 0) (λ i. 0) (λ i l m. zero-at
 refused-zeros : (n : ℕ) (o : Outcome) (a : SpreadAnswer) → Refused-answer o a → numbers-in n a ≡ replicate n 0
 unfolding numbers-in numbers nothing
 refused-zeros n o a h =
-    let all : a .total .0 ∷ (tracks (a .separations) ++ columns (a .positions)) ≡ replicate 18 0 = rw (h .total-zero, h .separations-zero, h .positions-zero) in
+    let all : a .total .0 ∷ (tracks-of (a .separations) ++ columns-of (a .positions)) ≡ replicate 18 0 = rw (h .total-zero, h .separations-zero, h .positions-zero) in
     ap (λ (ns : List ℕ). tabulate n 0 (λ i. getD ns i 0)) all ∙ none n
 
 module _ (bs : List ℕ) (s : ℕ) (a : SpreadAnswer) (says : Spread-says bs s a) (o x : List ℕ) (r : ℕ) where

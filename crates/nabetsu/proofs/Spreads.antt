@@ -2,15 +2,16 @@
 use mathlib.Core.Path.{_≡_, refl, sym, ap, _∙_}
 use mathlib.Core.Bool.{true, false, cond}
 use mathlib.Core.List.{List, []}
-use Prim.Native.Nat.{ℕ, zero, suc, _-_, _≤_, _<_}
+use Prim.Native.Nat.{ℕ, zero, suc, _≤_, _<_}
 use native.Mathlib.Omega.{arith}
 use lib.Dec.{ltb}
 use lib.ListN.{length, take, replicate}
-use lib.Seq.{take-at}
 use borrow.Author.Tests.{lt-ltb, le-ltb}
+use Rattle.numbers.specs.Lists.{padded}
+use Rattle.numbers.proofs.Lists.{padded-take}
 use Rattle.stack.specs.Stack.{Stack, Answer, sum, longest}
 use Rattle.stack.specs.Limits.{within-limits}
-use Rattle.stack.specs.Value.{stack-of}
+use Rattle.stack.specs.Value.{stack-of, tracks-of, columns-of}
 use Rattle.stack.proofs.Within.{within-rising, strips-count}
 use Rattle.routing.specs.Paths.{Drawable}
 use Rattle.routing.proofs.Drawable.{drawable-legal, legal-drawable}
@@ -22,12 +23,11 @@ use Rattle.text.specs.declared.Refusal.the-variants.{Narrow}
 use Rattle.text.proofs.Within.{or-else-fine, accepted-within}
 use Rattle.text.proofs.Stages.{or-else-refused, or-else-next}
 use Rattle.text.proofs.Places.{accepted-fine}
-use Rattle.solver.specs.Arrays.{padded as solver-padded}
 use Rattle.solver.specs.declared.Placement.{Placement}
 use Rattle.answer.specs.Solve.{answer-separations, answer-positions}
 use Rattle.answer.specs.Arrays.{Answer-is}
 use Rattle.answer.proofs.Answers.{answer-there, answer-sum, legal-lengths}
-use Rattle.nabetsu.specs.Entry.{padded, tracks, columns, spread-refusal, placed-is, Answered, Spread-says}
+use Rattle.nabetsu.specs.Entry.{spread-refusal, placed-is, Answered, Spread-says}
 use Rattle.nabetsu.specs.Best.{Spread-best}
 use Rattle.nabetsu.specs.declared.SpreadAnswer.{SpreadAnswer}
 use Rattle.nabetsu.proofs.Readings.{refused-text, text-fine, stack-is}
@@ -44,7 +44,7 @@ answered-refused zero f k s r h p = absurd (h refl)
 answered-refused (suc n) f k s r h p = p
 
 module _ (bs : List ℕ) (s : ℕ) (g : Reading) (d : Stack-read bs g) where
-  pub spread-refused : (r : SpreadAnswer) → is-accepted (g .outcome) ≡ false → r .outcome ≡ g .outcome → r .total .0 ≡ 0 → tracks (r .separations) ≡ replicate 8 0 → columns (r .positions) ≡ replicate 9 0 →
+  pub spread-refused : (r : SpreadAnswer) → is-accepted (g .outcome) ≡ false → r .outcome ≡ g .outcome → r .total .0 ≡ 0 → tracks-of (r .separations) ≡ replicate 8 0 → columns-of (r .positions) ≡ replicate 9 0 →
       Spread-says bs s r
   unfolding Spread-says spread-refusal placed-is padded
   spread-refused r h o t ss ps =
@@ -52,7 +52,7 @@ module _ (bs : List ℕ) (s : ℕ) (g : Reading) (d : Stack-read bs g) where
       rw e (answered-refused (text-refusal bs .number) (text-refusal bs) (stack-in bs) s r (refused-text bs g d h) (ap refusal-of o ∙ d .outcome, t, ss, ps))
 
   module _ (a : is-accepted (g .outcome) ≡ true) where
-    pub spread-narrow : (r : SpreadAnswer) → s < longest (stack-of (g .stack) .strips) → r .outcome ≡ refused Narrow 0 0 → r .total .0 ≡ 0 → tracks (r .separations) ≡ replicate 8 0 → columns (r .positions) ≡ replicate 9 0 →
+    pub spread-narrow : (r : SpreadAnswer) → s < longest (stack-of (g .stack) .strips) → r .outcome ≡ refused Narrow 0 0 → r .total .0 ≡ 0 → tracks-of (r .separations) ≡ replicate 8 0 → columns-of (r .positions) ≡ replicate 9 0 →
         Spread-says bs s r
     unfolding Spread-says spread-refusal placed-is padded Answered refusal
     spread-narrow r h o t ss ps =
@@ -62,7 +62,7 @@ module _ (bs : List ℕ) (s : ℕ) (g : Reading) (d : Stack-read bs g) where
 
     pub spread-answered : (r : SpreadAnswer) (p : Placement) → longest (stack-of (g .stack) .strips) ≤ s → Answer-is (stack-of (g .stack)) s p → r .outcome ≡ g .outcome → r .total ≡ p .total → r .separations ≡ p .separations →
         r .positions ≡ p .positions → Spread-says bs s r
-    unfolding Spread-says spread-refusal placed-is padded solver-padded Answered refusal fine
+    unfolding Spread-says spread-refusal placed-is padded Answered refusal fine
     spread-answered r p h i o t ss ps =
         let k = stack-of (g .stack) in
         let l : longest (stack-in bs .strips) ≤ s = rw (stack-is bs g d a) at h in
@@ -75,19 +75,15 @@ module _ (bs : List ℕ) (s : ℕ) (g : Reading) (d : Stack-read bs g) where
         )
 
 -- THE THIRD DEMAND of what is returned
-padded-take : (n : ℕ) (ts : List ℕ) → take (length ts) (padded n ts) ≡ ts
-unfolding padded
-padded-take n ts = take-at ts (replicate (n - length ts) 0) (length ts) refl
-
-placed-best : (k : Stack) (s : ℕ) (ts xs : List ℕ) (r : SpreadAnswer) → within-limits k ≡ true → Answer k s ts xs → tracks (r .separations) ≡ padded 8 ts → columns (r .positions) ≡ padded 9 xs →
-    Drawable k s (take (length (k .channels)) (tracks (r .separations))) (take (suc (length (k .channels))) (columns (r .positions)))
+placed-best : (k : Stack) (s : ℕ) (ts xs : List ℕ) (r : SpreadAnswer) → within-limits k ≡ true → Answer k s ts xs → tracks-of (r .separations) ≡ padded 8 ts → columns-of (r .positions) ≡ padded 9 xs →
+    Drawable k s (take (length (k .channels)) (tracks-of (r .separations))) (take (suc (length (k .channels))) (columns-of (r .positions)))
 placed-best k s ts xs r w a p q =
     let m = legal-lengths k s ts xs (a .is-legal) in
     let n : length xs ≡ suc (length (k .channels)) = m .1 ∙ strips-count k w in
-    rw (p, q, ← n, ← m .0, padded-take 8 ts, padded-take 9 xs) (legal-drawable k s ts xs (within-rising k w) (a .is-legal))
+    rw (p, q, ← n, ← m .0, padded-take 8 (length ts) ts refl, padded-take 9 (length xs) xs refl) (legal-drawable k s ts xs (within-rising k w) (a .is-legal))
 
 best-of : (n : ℕ) (f : Refusal) (k : Stack) (s : ℕ) (r : SpreadAnswer) → n ≡ 0 → within-limits k ≡ true → Answered n f k s r →
-    Drawable k s (take (length (k .channels)) (tracks (r .separations))) (take (suc (length (k .channels))) (columns (r .positions)))
+    Drawable k s (take (length (k .channels)) (tracks-of (r .separations))) (take (suc (length (k .channels))) (columns-of (r .positions)))
     × ((us ys : List ℕ) → Drawable k s us ys → r .total .0 ≤ sum us)
 unfolding Answered placed-is
 best-of zero f k s r e w a =
@@ -101,6 +97,6 @@ spread-best bs s r a = record { drawable = λ e. best e .0; none-smaller = λ e.
     within : spread-refusal bs s .number ≡ 0 → within-limits (stack-in bs) ≡ true
     within e = accepted-within bs (spread-fine bs s e)
 
-    best : spread-refusal bs s .number ≡ 0 → Drawable (stack-in bs) s (take (length (stack-in bs .channels)) (tracks (r .separations))) (take (suc (length (stack-in bs .channels))) (columns (r .positions)))
+    best : spread-refusal bs s .number ≡ 0 → Drawable (stack-in bs) s (take (length (stack-in bs .channels)) (tracks-of (r .separations))) (take (suc (length (stack-in bs .channels))) (columns-of (r .positions)))
         × ((us ys : List ℕ) → Drawable (stack-in bs) s us ys → r .total .0 ≤ sum us)
     best e = best-of (spread-refusal bs s .number) (spread-refusal bs s) (stack-in bs) s r e (within e) a

@@ -2,14 +2,13 @@
 -- Assumes nothing: these are definitions.
 use mathlib.Core.Path.{_≡_}
 use mathlib.Core.Bool.{Bool, true, false, cond, _&&_}
-use mathlib.Core.List.{List, [], _∷_, _++_, map}
+use mathlib.Core.List.{List, [], _∷_, _++_}
 use Prim.Native.Nat.{ℕ, zero, suc, _+_, _*_, _-_}
 use lib.Dec.{ltb, leb, eqb}
 use lib.ListN.{length, getD, take, drop, replicate}
-use Rattle.numbers.specs.Lists.{tabulate}
+use Rattle.stack.specs.Value.{tracks-of, columns-of}
+use Rattle.numbers.specs.Lists.{tabulate, padded}
 use Rattle.stack.specs.Stack.{Stack, Answer, Row, Rows-are, sum, longest}
-use Rattle.stack.specs.declared.Tracks.{Tracks}
-use Rattle.stack.specs.declared.Columns.{Columns}
 use Rattle.text.specs.Text.{Refusal, refusal, or-else, text-refusal, stack-in}
 use Rattle.text.specs.Outcome.{refusal-of}
 use Rattle.writing.specs.TableText.{table-text}
@@ -18,24 +17,13 @@ use Rattle.nabetsu.specs.declared.SpreadAnswer.{SpreadAnswer}
 use Rattle.nabetsu.specs.declared.TableAnswer.{TableAnswer}
 use Rattle.nabetsu.specs.declared.TrialAnswer.{TrialAnswer}
 
--- zeros in unused places
-unfoldable pub padded : (n : ℕ) → List ℕ → List ℕ
-padded n xs = xs ++ replicate (n - length xs) 0
-
--- the numbers of separations and of positions
-abbrev pub tracks : List Tracks → List ℕ
-tracks ts = map (λ (t : Tracks). t .0) ts
-
-abbrev pub columns : List Columns → List ℕ
-columns xs = map (λ (x : Columns). x .0) xs
-
 -- ONE SPREAD: 1 to 6, then 7
 unfoldable pub spread-refusal : List ℕ → (s : ℕ) → Refusal
 spread-refusal bs s = or-else (text-refusal bs) (cond (ltb s (longest (stack-in bs .strips))) (refusal 7 0 0) (refusal 0 0 0))
 
 unfoldable pub placed-is : Refusal → (total : ℕ) → (ts xs : List ℕ) → SpreadAnswer → Type 0
 placed-is f v ts xs r =
-    (refusal-of (r .outcome) ≡ f) × (r .total .0 ≡ v) × (tracks (r .separations) ≡ padded 8 ts) × (columns (r .positions) ≡ padded 9 xs)
+    (refusal-of (r .outcome) ≡ f) × (r .total .0 ≡ v) × (tracks-of (r .separations) ≡ padded 8 ts) × (columns-of (r .positions) ≡ padded 9 xs)
 
 -- the answer with its total, or a refusal with zeros elsewhere
 unfoldable pub Answered : (number : ℕ) → Refusal → Stack → (s : ℕ) → SpreadAnswer → Type 0
@@ -79,7 +67,7 @@ pub record Table-coded (bs : List ℕ) (r : ℕ) (o o-now : List ℕ) : Type 0 w
 
 -- THE EIGHTEEN NUMBERS of an answer: total, separations, positions; over so many places, zeros behind them
 unfoldable pub numbers : SpreadAnswer → List ℕ
-numbers a = a .total .0 ∷ (tracks (a .separations) ++ columns (a .positions))
+numbers a = a .total .0 ∷ (tracks-of (a .separations) ++ columns-of (a .positions))
 
 unfoldable pub numbers-in : (places : ℕ) → SpreadAnswer → List ℕ
 numbers-in n a = tabulate n 0 (λ i. getD (numbers a) i 0)

@@ -3,20 +3,21 @@ use mathlib.Core.Path.{_≡_}
 use mathlib.Core.List.{List}
 use Prim.Native.Nat.{ℕ, _<_}
 use lib.ListN.{length, getD, replicate}
+use Rattle.stack.specs.Value.{tracks-of, columns-of}
 use Rattle.text.specs.Text.{text-refusal, stack-in}
 use Rattle.text.specs.Outcome.{refusal-of}
 use Rattle.text.specs.declared.Outcome.{Outcome}
 use Rattle.nabetsu.specs.declared.SpreadAnswer.{SpreadAnswer}
 use Rattle.nabetsu.specs.declared.TableAnswer.{TableAnswer}
 use Rattle.nabetsu.specs.declared.TrialAnswer.{TrialAnswer}
-use Rattle.nabetsu.specs.Entry.{tracks, columns, zeros, is-legal-numbers}
+use Rattle.nabetsu.specs.Entry.{zeros, is-legal-numbers}
 
 -- an outcome with zeros in every other place
 pub record Refused-answer (o : Outcome) (r : SpreadAnswer) : Type 0 where
   pub outcome-is : r .outcome ≡ o
   pub total-zero : r .total .0 ≡ 0
-  pub separations-zero : tracks (r .separations) ≡ replicate 8 0
-  pub positions-zero : columns (r .positions) ≡ replicate 9 0
+  pub separations-zero : tracks-of (r .separations) ≡ replicate 8 0
+  pub positions-zero : columns-of (r .positions) ≡ replicate 9 0
 
 -- an outcome with zeros in the whole output
 pub record Refused-table (u : Outcome) (o o-now : List ℕ) (r : TableAnswer) : Type 0 where

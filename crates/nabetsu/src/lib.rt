@@ -1,5 +1,6 @@
 // The public entries: the table of a text, the answer for one spread, the verdict on a placement. Each answers whatever comes in, or refuses.
-ghost use Rattle.nabetsu.specs.Entry.{Spread-says, Table-says, Trial-says, Table-coded, Spread-coded, code, tracks, columns, numbers-in, verdict, is-legal-numbers};
+ghost use Rattle.stack.specs.Value.{tracks-of, columns-of};
+ghost use Rattle.nabetsu.specs.Entry.{Spread-says, Table-says, Trial-says, Table-coded, Spread-coded, code, numbers-in, verdict, is-legal-numbers};
 ghost use Rattle.text.specs.Text.{refusal, or-else, text-refusal, stack-in};
 ghost use lib.ListN.{length, getD, take, drop};
 ghost use mathlib.Core.List.{_∷_, _++_};
@@ -120,7 +121,7 @@ pub fn try_placement(
     separations: [Tracks; Stack::MAX_CHANNELS],
     positions: [Columns; Stack::MAX_CHANNELS + 1],
 ) -> TrialAnswer
-    ensures { λ r. ⌜ Trial-says (now (text .entry)) spread (tracks separations) (columns positions) r ⌝ }
+    ensures { λ r. ⌜ Trial-says (now (text .entry)) spread (tracks-of separations) (columns-of positions) r ⌝ }
 {
     let reading = read_stack(text);
     let outcome = reading.outcome;
@@ -175,7 +176,7 @@ fn number_at(
     positions: [Columns; Stack::MAX_CHANNELS + 1],
     i: usize,
 ) -> u32
-    ensures { λ r. ⌜ r ≡ getD (total .0 ∷ (tracks separations ++ columns positions)) i 0 ⌝ }
+    ensures { λ r. ⌜ r ≡ getD (total .0 ∷ (tracks-of separations ++ columns-of positions)) i 0 ⌝ }
 {
     if i == 0 {
         return total.0;
@@ -221,7 +222,7 @@ pub extern "C" fn nabetsu_answer_spread(text: &[u8], spread: u32, output: &mut [
 // The separations of a placement's seventeen numbers.
 fn separations_in(placement: &[u32]) -> [Tracks; Stack::MAX_CHANNELS]
     requires { ⌜ length (now placement) ≡ 17 ⌝ }
-    ensures { λ r. ⌜ tracks r ≡ take 8 (now (placement .entry)) ⌝ }
+    ensures { λ r. ⌜ tracks-of r ≡ take 8 (now (placement .entry)) ⌝ }
 {
     let mut to = [Tracks(0); Stack::MAX_CHANNELS];
     for i in 0..Stack::MAX_CHANNELS {
@@ -233,7 +234,7 @@ fn separations_in(placement: &[u32]) -> [Tracks; Stack::MAX_CHANNELS]
 // The positions of a placement's seventeen numbers.
 fn positions_in(placement: &[u32]) -> [Columns; Stack::MAX_CHANNELS + 1]
     requires { ⌜ length (now placement) ≡ 17 ⌝ }
-    ensures { λ r. ⌜ columns r ≡ drop 8 (now (placement .entry)) ⌝ }
+    ensures { λ r. ⌜ columns-of r ≡ drop 8 (now (placement .entry)) ⌝ }
 {
     let mut to = [Columns(0); Stack::MAX_CHANNELS + 1];
     for i in 0..Stack::MAX_CHANNELS + 1 {

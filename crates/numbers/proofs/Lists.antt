@@ -1,4 +1,5 @@
--- Laws of tabulate: its length, its elements, one element more, agreement, and one element changed; of filled: its start, a step, its end; a map of a store.
+-- Laws of tabulate: its length, its elements, one element more, agreement, and one element changed; of filled: its start, a step, its end; a map of a store; and the
+-- places of padded that are used.
 -- Assumes nothing.
 use mathlib.Core.Path.{_≡_, refl, ap, sym, _∙_}
 use mathlib.Core.List.{List, [], _∷_, _++_, map, append-assoc}
@@ -7,9 +8,9 @@ use Prim.Native.Nat.{ℕ, zero, suc, _+_, _-_, _≤_, _<_}
 use native.Mathlib.Nat.{add-zero, zero-add, add-suc, suc-add, sub-zero}
 use native.Mathlib.Numerals.{add-one}
 use native.Mathlib.Omega.{arith}
-use lib.ListN.{length, getD, set, replicate}
-use lib.Seq.{set-at}
-use Rattle.numbers.specs.Lists.{tabulate, filled}
+use lib.ListN.{length, getD, set, take, replicate}
+use lib.Seq.{set-at, take-at}
+use Rattle.numbers.specs.Lists.{tabulate, filled, padded}
 
 pub length-tabulate {ℓ} : {A : Type ℓ} (n i : ℕ) (f : ℕ → A) → length (tabulate n i f) ≡ n
 unfolding tabulate
@@ -99,3 +100,8 @@ unfolding map
 map-set f [] i a = refl
 map-set f (x ∷ xs) zero a = refl
 map-set {B = B} f (x ∷ xs) (suc i) a = ap {B = List B} (λ ys. f x ∷ ys) (map-set f xs i a)
+
+-- the places that are used
+pub padded-take : (n m : ℕ) (xs : List ℕ) → length xs ≡ m → take m (padded n xs) ≡ xs
+unfolding padded
+padded-take n m xs e = take-at xs (replicate (n - length xs) 0) m e

@@ -6,16 +6,17 @@ use Prim.Native.Nat.{ℕ, zero, suc, _+_, _-_, _*_, _≤_, _<_, min, max}
 use native.Mathlib.Omega.{arith}
 use lib.ListN.{length, getD, set, length-set, List·getD-map}
 use lib.Seq.{getD-set-same, getD-set-other}
+use Rattle.stack.specs.Value.{tracks-of}
 use Rattle.stack.specs.declared.Tracks.{Tracks}
 use Rattle.numbers.proofs.Orders.{lt-or-eq}
 use Rattle.spans.specs.Spans.{Span, span, cut, shift-back}
 use Rattle.spans.specs.Solver.{fixed}
-use Rattle.solver.specs.Arrays.{bias, strips-held, separations-held, entry, spans-of, Given, low-of, high-of, count-of, window-of, levels, Stack-asks, tracks, taken, fixed-from, Starts-are}
+use Rattle.solver.specs.Arrays.{bias, strips-held, separations-held, entry, spans-of, Given, low-of, high-of, count-of, window-of, levels, Stack-asks, taken, fixed-from, Starts-are}
 use Rattle.solver.specs.Loops.{Fixing}
 use Rattle.solver.proofs.Levels.{low-at-any, high-at-any}
 
 -- a separation read from the array
-pub track-at : (ts : List Tracks) (i : ℕ) → getD ts i (record { 0 = 0 }) .0 ≡ entry (tracks ts) i
+pub track-at : (ts : List Tracks) (i : ℕ) → getD ts i (record { 0 = 0 }) .0 ≡ entry (tracks-of ts) i
 track-at ts i = sym (List·getD-map (λ (t : Tracks). t .0) ts i (record { 0 = 0 }))
 
 module _ (g : Given) (k : ℕ) (ts : List ℕ) (a : Stack-asks g k) where

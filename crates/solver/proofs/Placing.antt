@@ -4,10 +4,12 @@ use mathlib.Core.List.{List, [], _∷_}
 use Prim.Native.Nat.{ℕ, zero, suc, _+_, _-_, _*_, _≤_, _<_, min, max}
 use native.Mathlib.Omega.{arith}
 use lib.ListN.{length, replicate, getD-replicate, length-replicate}
+use Rattle.numbers.specs.Lists.{padded}
+use Rattle.stack.specs.Value.{tracks-of, columns-of}
 use Rattle.spans.specs.Spans.{Span, span, nonempty}
 use Rattle.spans.specs.Solver.{Level, first, first-open, most, cell, back, first-total, least-total, forward, separations, lowest, positions-on, positions}
 use Rattle.spans.specs.Placed.{Placed, Exactly, Widening, Chosen}
-use Rattle.solver.specs.Arrays.{bias, channels-held, strips-held, totals-held, entry, spans-of, row, Sized, span-in, Given, low-of, high-of, count-of, window-of, level-of, levels, Stack-asks, Filled, Separate-asks, store, taken, padded, Position-asks, least-total-of, separations-of, Place-asks, Placement-is, tracks, columns}
+use Rattle.solver.specs.Arrays.{bias, channels-held, strips-held, totals-held, entry, spans-of, row, Sized, span-in, Given, low-of, high-of, count-of, window-of, level-of, levels, Stack-asks, Filled, Separate-asks, store, taken, Position-asks, least-total-of, separations-of, Place-asks, Placement-is}
 use Rattle.solver.specs.Scan.{Scan-asks, Scan-is}
 use Rattle.solver.specs.declared.Scan.{Scan}
 use Rattle.solver.specs.declared.Placement.{Placement}
@@ -82,10 +84,10 @@ module _ (g : Given) (k total : ℕ) (a : Place-asks g k total) where
   unfolding positions
   positions-count = ap suc (positions-on-length bias _ (levels g 0 k) (separations-of g k total) (separations-length bias (window-of g 0) (levels g 0 k) total) ∙ levels-length g 0 k)
 
-  pub placement-is : (r : Placement) → r .total .0 ≡ total → tracks (r .separations) ≡ store (replicate channels-held 0) 0 (separations-of g k total) → columns (r .positions) ≡ store (replicate strips-held 0) 0 (positions bias (window-of g 0) (levels g 0 k) (taken (tracks (r .separations)) 0 k)) → Placement-is g k total r
+  pub placement-is : (r : Placement) → r .total .0 ≡ total → tracks-of (r .separations) ≡ store (replicate channels-held 0) 0 (separations-of g k total) → columns-of (r .positions) ≡ store (replicate strips-held 0) 0 (positions bias (window-of g 0) (levels g 0 k) (taken (tracks-of (r .separations)) 0 k)) → Placement-is g k total r
   placement-is r t s p =
       record {
         total-is = t;
-        separations-are = stored (tracks (r .separations)) s;
-        positions-are = (rw (read-back (tracks (r .separations)) s) at p) ∙ store-padded strips-held _ (omega (arith, positions-count, a .stack .channels));
+        separations-are = stored (tracks-of (r .separations)) s;
+        positions-are = (rw (read-back (tracks-of (r .separations)) s) at p) ∙ store-padded strips-held _ (omega (arith, positions-count, a .stack .channels));
       }

@@ -3,6 +3,8 @@ use mathlib.Core.Path.{_≡_}
 use mathlib.Core.List.{List, [], _∷_, _++_, map}
 use Prim.Native.Nat.{ℕ, zero, suc, _+_, _-_, _*_, _≤_, _<_, min}
 use lib.ListN.{length, getD, set, replicate}
+use Rattle.numbers.specs.Lists.{padded}
+use Rattle.stack.specs.Value.{tracks-of, columns-of}
 use Rattle.stack.specs.declared.Tracks.{Tracks}
 use Rattle.stack.specs.declared.Columns.{Columns}
 use Rattle.solver.specs.declared.Placement.{Placement}
@@ -115,10 +117,6 @@ pub record Separate-asks (g : Given) (k total first : ℕ) (froms uptos : List (
   pub above-first : first ≡ most (levels g 1 (k - 1))
   pub fits : total < 4294967296
 
--- the numbers of separations
-abbrev pub tracks : List Tracks → List ℕ
-tracks ts = map (λ (t : Tracks). t .0) ts
-
 -- xs written over ys from place i on
 unfoldable pub store : (ys : List ℕ) → (i : ℕ) → (xs : List ℕ) → List ℕ
 store ys i [] = ys
@@ -142,10 +140,6 @@ pub record Next-asks (lows : List ℕ) (last x : ℕ) : Type 0 where
   pub position : x ≤ bias
   pub lows-small : (q : ℕ) → q ≤ last → entry lows q ≤ 2 * bias
 
--- the numbers of positions
-abbrev pub columns : List Columns → List ℕ
-columns xs = map (λ (x : Columns). x .0) xs
-
 -- positions fit their type
 abbrev pub Narrow : Given → (k : ℕ) → Type 0
 Narrow g k = (i : ℕ) → i ≤ k → entry (g .uptos) i ≤ 4294967296
@@ -157,10 +151,6 @@ pub record Position-asks (g : Given) (k : ℕ) (ts : List ℕ) : Type 0 where
   pub x : ℕ
   pub ys : List ℕ
   pub placed : Placed bias (window-of g 0) (levels g 0 k) (taken ts 0 k) x ys
-
--- xs with zeros behind it, n places in all
-unfoldable pub padded : (n : ℕ) → List ℕ → List ℕ
-padded n xs = xs ++ replicate (n - length xs) 0
 
 abbrev pub least-total-of : Given → (k : ℕ) → ℕ
 least-total-of g k = least-total bias (window-of g 0) (levels g 0 k)
@@ -179,5 +169,5 @@ pub record Place-asks (g : Given) (k total : ℕ) : Type 0 where
 -- THE PLACEMENT for a total, as the code gives it
 pub record Placement-is (g : Given) (k total : ℕ) (r : Placement) : Type 0 where
   pub total-is : r .total .0 ≡ total
-  pub separations-are : tracks (r .separations) ≡ padded channels-held (separations-of g k total)
-  pub positions-are : columns (r .positions) ≡ padded strips-held (positions bias (window-of g 0) (levels g 0 k) (separations-of g k total))
+  pub separations-are : tracks-of (r .separations) ≡ padded channels-held (separations-of g k total)
+  pub positions-are : columns-of (r .positions) ≡ padded strips-held (positions bias (window-of g 0) (levels g 0 k) (separations-of g k total))

@@ -9,11 +9,12 @@ ghost use mathlib.Core.Path.{_≡_};
 ghost use Prim.Native.Nat.{_+_, _-_, _*_, _≤_, _<_, min, max};
 ghost use lib.ListN.{replicate};
 ghost use lib.Dec.{ltb, eqb};
+ghost use Rattle.stack.specs.Value.{tracks-of, columns-of};
 ghost use Rattle.spans.specs.Spans.{span, cut, shift-back, shift-on};
 ghost use Rattle.spans.specs.Jump.{min-if, max-if};
 ghost use Rattle.solver.specs.Scan.{Ends-ask, Ends-are, Strip-asks, Strip-done, Counts-ask, sums, Sums-are, Leasts-are, jump-if, Total-asks, Scanning, Scan-asks, Scan-is};
 ghost use Rattle.spans.specs.Solver.{first-open, start, stop, first-serving, separations, positions};
-ghost use Rattle.solver.specs.Arrays.{bias, channels-held, strips-held, separations-held, entry, spans-of, given, Serve-asks, window-of, levels, tracks, store, Separate-asks, Stack-asks, Starts-are, Next-asks, Position-asks, columns, taken, Place-asks, Placement-is};
+ghost use Rattle.solver.specs.Arrays.{bias, channels-held, strips-held, separations-held, entry, spans-of, given, Serve-asks, window-of, levels, store, Separate-asks, Stack-asks, Starts-are, Next-asks, Position-asks, taken, Place-asks, Placement-is};
 
 const SEPARATIONS: usize = Stack::MAX_SEPARATION + 1;
 
@@ -136,7 +137,7 @@ fn separations_for(
     uptos: &[[u64; TOTALS]; STRIPS],
 ) -> [Tracks; CHANNELS]
     requires { ⌜ Separate-asks (given (now low) (now high) (now counts) (now from) (now upto)) k total first (now froms) (now uptos) ⌝ }
-    ensures { λ r. ⌜ tracks r ≡ store (replicate channels-held 0) 0 (separations bias (window-of (given (now (low .entry)) (now (high .entry)) (now (counts .entry)) (now (from .entry)) (now (upto .entry))) 0) (levels (given (now (low .entry)) (now (high .entry)) (now (counts .entry)) (now (from .entry)) (now (upto .entry))) 0 k) total) ⌝ }
+    ensures { λ r. ⌜ tracks-of r ≡ store (replicate channels-held 0) 0 (separations bias (window-of (given (now (low .entry)) (now (high .entry)) (now (counts .entry)) (now (from .entry)) (now (upto .entry))) 0) (levels (given (now (low .entry)) (now (high .entry)) (now (counts .entry)) (now (from .entry)) (now (upto .entry))) 0 k) total) ⌝ }
 {
     let mut ts = [Tracks(0); CHANNELS];
     let mut s = Span {
@@ -208,7 +209,7 @@ fn starts_for(
     ts: [Tracks; CHANNELS],
 ) -> [u64; STRIPS]
     requires { ⌜ Stack-asks (given (now low) (now high) (now counts) (now from) (now upto)) k ⌝ }
-    ensures { λ r. ⌜ Starts-are (given (now (low .entry)) (now (high .entry)) (now (counts .entry)) (now (from .entry)) (now (upto .entry))) k (tracks ts) 0 r ⌝ }
+    ensures { λ r. ⌜ Starts-are (given (now (low .entry)) (now (high .entry)) (now (counts .entry)) (now (from .entry)) (now (upto .entry))) k (tracks-of ts) 0 r ⌝ }
 {
     let mut s = Span {
         from: from[k],
@@ -246,8 +247,8 @@ fn positions_for(
     k: usize,
     ts: [Tracks; CHANNELS],
 ) -> [Columns; STRIPS]
-    requires { ⌜ Position-asks (given (now low) (now high) (now counts) (now from) (now upto)) k (tracks ts) ⌝ }
-    ensures { λ r. ⌜ columns r ≡ store (replicate strips-held 0) 0 (positions bias (window-of (given (now (low .entry)) (now (high .entry)) (now (counts .entry)) (now (from .entry)) (now (upto .entry))) 0) (levels (given (now (low .entry)) (now (high .entry)) (now (counts .entry)) (now (from .entry)) (now (upto .entry))) 0 k) (taken (tracks ts) 0 k)) ⌝ }
+    requires { ⌜ Position-asks (given (now low) (now high) (now counts) (now from) (now upto)) k (tracks-of ts) ⌝ }
+    ensures { λ r. ⌜ columns-of r ≡ store (replicate strips-held 0) 0 (positions bias (window-of (given (now (low .entry)) (now (high .entry)) (now (counts .entry)) (now (from .entry)) (now (upto .entry))) 0) (levels (given (now (low .entry)) (now (high .entry)) (now (counts .entry)) (now (from .entry)) (now (upto .entry))) 0 k) (taken (tracks-of ts) 0 k)) ⌝ }
 {
     let starts = starts_for(low, high, counts, from, upto, k, ts);
     let mut xs = [Columns(0); STRIPS];

@@ -1,5 +1,5 @@
 -- TRUSTED. Which list value of Stack.antt a struct value stands for: every contract on a struct speaks of it through these. Assumes nothing: these are definitions.
-use mathlib.Core.List.{List, []}
+use mathlib.Core.List.{List, [], map}
 use Prim.Native.Nat.{ℕ, suc}
 use lib.ListN.{getD}
 use Rattle.numbers.specs.Lists.{tabulate}
@@ -15,6 +15,13 @@ tracks n = record { 0 = n }
 
 abbrev pub columns : ℕ → Columns
 columns n = record { 0 = n }
+
+-- the numbers of separations and of positions
+abbrev pub tracks-of : List Tracks → List ℕ
+tracks-of ts = map (λ (t : Tracks). t .0) ts
+
+abbrev pub columns-of : List Columns → List ℕ
+columns-of xs = map (λ (x : Columns). x .0) xs
 
 abbrev pub strip : ℕ → Strip
 strip n = record { length = columns n }

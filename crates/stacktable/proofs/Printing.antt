@@ -9,6 +9,8 @@ use lib.Dec.{leb, eqb}
 use lib.ListN.{length, getD, take, drop, replicate, length-append}
 use lib.Seq.{take-append-seam, take-at}
 use borrow.Author.Tests.{le-leb, eq-eqb, ne-eqb}
+use Rattle.numbers.specs.Lists.{padded}
+use Rattle.stack.specs.Value.{tracks-of}
 use Rattle.stack.specs.Stack.{Stack, Row, sum}
 use Rattle.stack.proofs.Within.{few-channels, stack-channels}
 use Rattle.text.specs.Text.{Refusal, refusal, fine, text-refusal, stack-in}
@@ -24,7 +26,7 @@ use Rattle.writing.specs.TableText.{row-text, table-text, refusal-text}
 use Rattle.writing.specs.Output.{over, fitted, written, line-bytes, Line-put, row-of, Row-asks}
 use Rattle.trial.specs.Legal.{is-legal}
 use Rattle.answer.proofs.Answers.{legal-lengths}
-use Rattle.nabetsu.specs.Entry.{padded, tracks, spread-refusal, placed-is, Answered, Spread-says, table-told, Fits, Tabled, Table-says, Trial-says}
+use Rattle.nabetsu.specs.Entry.{spread-refusal, placed-is, Answered, Spread-says, table-told, Fits, Tabled, Table-says, Trial-says}
 use Rattle.nabetsu.specs.declared.SpreadAnswer.{SpreadAnswer}
 use Rattle.nabetsu.specs.declared.TableAnswer.{TableAnswer}
 use Rattle.nabetsu.specs.declared.TrialAnswer.{TrialAnswer}
@@ -129,7 +131,7 @@ module _ (bs : List ℕ) (s : ℕ) (a : SpreadAnswer) (says : Spread-says bs s a
 
 module _ (bs : List ℕ) (s : ℕ) (a : SpreadAnswer) (says : Spread-says bs s a) (g : Reading) (d : Stack-read bs g) (accepted : is-accepted (a .outcome) ≡ true) where
   by-answer : (m : ℕ) → spread-refusal bs s .number ≡ m → Answered m (spread-refusal bs s) (stack-in bs) s a →
-      (text-refusal bs .number ≡ 0) × (a .total .0 ≡ sum (take (channels bs) (tracks (a .separations))))
+      (text-refusal bs .number ≡ 0) × (a .total .0 ≡ sum (take (channels bs) (tracks-of (a .separations))))
   unfolding Answered placed-is padded spread-refusal
   by-answer zero e t =
       let l : length (t .0) ≡ channels bs = legal-lengths (stack-in bs) s (t .0) (t .1) (t .2 .is-legal) .0 in
@@ -137,7 +139,7 @@ module _ (bs : List ℕ) (s : ℕ) (a : SpreadAnswer) (says : Spread-says bs s a
   by-answer (suc m) e t =
       let q : _≡_ {A = ℕ} (suc m) 0 = sym e ∙ (sym (ap (λ (f : Refusal). f .number) (t .0)) ∙ accepted-number (a .outcome) accepted) in absurd (omega arith)
 
-  answered : (text-refusal bs .number ≡ 0) × (a .total .0 ≡ sum (take (channels bs) (tracks (a .separations))))
+  answered : (text-refusal bs .number ≡ 0) × (a .total .0 ≡ sum (take (channels bs) (tracks-of (a .separations))))
   unfolding Spread-says
   answered = by-answer (spread-refusal bs s .number) refl says
 

@@ -5,9 +5,9 @@ ghost use mathlib.Core.Bool.{false};
 ghost use mathlib.Core.List.{[]};
 ghost use Prim.Native.Nat.{_≤_, _<_};
 ghost use lib.ListN.{length, set};
+ghost use Rattle.stack.specs.Value.{tracks-of, columns-of};
 ghost use Rattle.io.specs.Counts.{Counts};
 ghost use Rattle.text.specs.Outcome.{refusal-of};
-ghost use Rattle.nabetsu.specs.Entry.{tracks, columns};
 ghost use Rattle.stacktable.specs.Words.{Digits-read, Number-read, command-in};
 ghost use Rattle.stacktable.specs.Output.{
   Printed,
@@ -191,7 +191,7 @@ fn put_spread(text: &[u8], spread: u32, output: &mut [u8; TABLE_BYTES]) -> usize
 // A trial's first k separations, and zeros.
 fn separations(numbers: [u32; NUMBERS], k: usize) -> [Tracks; Stack::MAX_CHANNELS]
     requires { ⌜ k ≤ 8 ⌝ }
-    ensures { λ r. ⌜ tracks r ≡ separations-in k numbers ⌝ }
+    ensures { λ r. ⌜ tracks-of r ≡ separations-in k numbers ⌝ }
 {
     let mut separations = [Tracks(0); Stack::MAX_CHANNELS];
     for i in 0..k {
@@ -203,7 +203,7 @@ fn separations(numbers: [u32; NUMBERS], k: usize) -> [Tracks; Stack::MAX_CHANNEL
 // A trial's first k + 1 positions, behind its separations, and zeros.
 fn positions(numbers: [u32; NUMBERS], k: usize) -> [Columns; Stack::MAX_CHANNELS + 1]
     requires { ⌜ k ≤ 8 ⌝ }
-    ensures { λ r. ⌜ columns r ≡ positions-in k numbers ⌝ }
+    ensures { λ r. ⌜ columns-of r ≡ positions-in k numbers ⌝ }
 {
     let mut positions = [Columns(0); Stack::MAX_CHANNELS + 1];
     for i in 0..k + 1 {

@@ -12,12 +12,12 @@ use lib.ListN.{length, getD, drop, drop-of-length-le, length-map, List·getD-map
 use lib.Seq.{drop-cons, getD-take, getD-drop, length-take-le}
 use borrow.Author.Tests.{eq-eqb, ne-eqb}
 use Rattle.stack.specs.Stack.{Pair, feasible, in-spread, channels-good}
-use Rattle.stack.specs.Value.{strip, tracks, columns, no-terminals, channel-of, stack-of}
+use Rattle.stack.specs.Value.{strip, tracks, columns, no-terminals, channel-of, stack-of, tracks-of, columns-of}
 use Rattle.stack.specs.declared.Tracks.{Tracks}
 use Rattle.stack.specs.declared.Columns.{Columns}
 use Rattle.stack.specs.declared.Stack.{Stack as Stack-struct}
 use Rattle.stack.proofs.Within.{stack-channels, stack-strips, stack-channel, stack-strip}
-use Rattle.trial.specs.Legal.{tracks-of, columns-of, all-zero}
+use Rattle.trial.specs.Legal.{all-zero}
 use Rattle.trial.specs.Trying.{used-separations, used-positions, Zeros-from, Spread-from, Channels-from}
 
 -- the numbers of separations and of positions, place by place

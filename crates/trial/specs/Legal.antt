@@ -1,20 +1,11 @@
 -- TRUSTED. What a trial says. Document 01, "Choosing among equals": numbers with anything but zero in an unused place are no placement of the stack,
 -- and so not legal. Assumes nothing: these are definitions.
 use mathlib.Core.Bool.{Bool, true, _&&_}
-use mathlib.Core.List.{List, [], _∷_, map}
+use mathlib.Core.List.{List, [], _∷_}
 use Prim.Native.Nat.{ℕ, suc}
 use lib.Dec.{eqb}
 use lib.ListN.{length, take, drop}
 use Rattle.stack.specs.Stack.{Stack, legal}
-use Rattle.stack.specs.declared.Tracks.{Tracks}
-use Rattle.stack.specs.declared.Columns.{Columns}
-
--- the numbers of separations and of positions
-abbrev pub tracks-of : List Tracks → List ℕ
-tracks-of ts = map (λ (t : Tracks). t .0) ts
-
-abbrev pub columns-of : List Columns → List ℕ
-columns-of xs = map (λ (x : Columns). x .0) xs
 
 unfoldable pub all-zero : List ℕ → Bool
 all-zero [] = true

@@ -4,11 +4,12 @@ use mathlib.Core.Path.{_≡_}
 use mathlib.Core.List.{List}
 use Prim.Native.Nat.{ℕ, suc}
 use lib.ListN.{take, drop}
+use Rattle.stack.specs.Value.{tracks-of, columns-of}
 use Rattle.stack.specs.Stack.{Pair, in-spread, channels-good}
 use Rattle.stack.specs.declared.Tracks.{Tracks}
 use Rattle.stack.specs.declared.Columns.{Columns}
 use Rattle.stack.specs.declared.Stack.{Stack as Stack-struct}
-use Rattle.trial.specs.Legal.{tracks-of, columns-of, all-zero}
+use Rattle.trial.specs.Legal.{all-zero}
 
 -- the places that a stack uses
 abbrev pub used-separations : Stack-struct → List Tracks → List ℕ

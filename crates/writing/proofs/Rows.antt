@@ -6,11 +6,12 @@ use native.Mathlib.Numerals.{add-one}
 use native.Mathlib.Omega.{arith}
 use lib.ListN.{length, getD, take, drop, length-map, length-take, drop-of-length-le, List·getD-map}
 use lib.Seq.{getD-take}
+use Rattle.stack.specs.Value.{tracks-of, columns-of}
 use Rattle.stack.specs.Stack.{row, total}
 use Rattle.stack.specs.declared.Tracks.{Tracks}
 use Rattle.stack.specs.declared.Columns.{Columns}
 use Rattle.writing.specs.TableText.{digits, tabbed, row-text, rows-text, table-text, refusal-text}
-use Rattle.writing.specs.Output.{tracks, columns, row-of, Row-asks, line-bytes}
+use Rattle.writing.specs.Output.{row-of, Row-asks, line-bytes}
 use Rattle.writing.specs.Room.{Prepended, Line-made}
 use Rattle.writing.proofs.Digits.{tabbed-one, tabbed-append, tabbed-before}
 use Rattle.writing.proofs.Prepending.{prepended-more}
@@ -67,11 +68,11 @@ module _
     (long : line-bytes ≡ length room)
     (asks : Row-asks k t ts)
   where
-    pub row-made : Prepended 1 (10 ∷ []) room line-bytes a i → Prepended 99 (tabbed (take (k + 1) (columns xs))) a i b j →
-        Prepended 88 (tabbed (take k (tracks ts))) b j c l → Prepended 11 (tabbed (t ∷ [])) c l d m → Prepended 11 (tabbed (s ∷ [])) d m e n →
+    pub row-made : Prepended 1 (10 ∷ []) room line-bytes a i → Prepended 99 (tabbed (take (k + 1) (columns-of xs))) a i b j →
+        Prepended 88 (tabbed (take k (tracks-of ts))) b j c l → Prepended 11 (tabbed (t ∷ [])) c l d m → Prepended 11 (tabbed (s ∷ [])) d m e n →
         Prepended 3 (82 ∷ 79 ∷ 87 ∷ []) e n after at → Line-made (row-text (row-of k s ts xs)) after at
     unfolding row-text row-of row total
     row-made p q r u v w =
         let made = line-made (prepended-more (prepended-more (prepended-more (prepended-more (prepended-more p q) r) u) v) w) long in
-        let numbers = row-numbers s t (take k (tracks ts)) (take (k + 1) (columns xs)) in
+        let numbers = row-numbers s t (take k (tracks-of ts)) (take (k + 1) (columns-of xs)) in
         rw (← asks .added, ← add-one k) (rw numbers (simp append-assoc made))

@@ -1,10 +1,11 @@
 -- What is written over an output's bytes, whole or not at all. Assumes nothing: these are definitions.
 use mathlib.Core.Path.{_≡_}
 use mathlib.Core.Bool.{Bool, true, false}
-use mathlib.Core.List.{List, map, _++_}
+use mathlib.Core.List.{List, _++_}
 use Prim.Native.Nat.{ℕ, suc, _+_, _*_, _-_, _≤_, _<_}
 use lib.Dec.{leb}
 use lib.ListN.{length, getD, take, drop, replicate}
+use Rattle.stack.specs.Value.{tracks-of, columns-of}
 use Rattle.stack.specs.Stack.{Row, row, sum, total}
 use Rattle.stack.specs.declared.Tracks.{Tracks}
 use Rattle.stack.specs.declared.Columns.{Columns}
@@ -61,20 +62,14 @@ pub record Line-put-at (at : ℕ) (text before after : List ℕ) (r : ℕ) : Typ
   pub counted : r ≡ at + length text
   pub few : r ≤ at + line-bytes
 
-abbrev pub tracks : List Tracks → List ℕ
-tracks ts = map (λ (t : Tracks). t .0) ts
-
-abbrev pub columns : List Columns → List ℕ
-columns xs = map (λ (x : Columns). x .0) xs
-
 -- the row of a stack of k channels
 unfoldable pub row-of : (k spread : ℕ) → List Tracks → List Columns → Row
-row-of k s ts xs = row s (take k (tracks ts)) (take (suc k) (columns xs))
+row-of k s ts xs = row s (take k (tracks-of ts)) (take (suc k) (columns-of xs))
 
 -- what a row's writer asks
 pub record Row-asks (k total : ℕ) (ts : List Tracks) : Type 0 where
   pub channels : k ≤ 8
-  pub added : total ≡ sum (take k (tracks ts))
+  pub added : total ≡ sum (take k (tracks-of ts))
 
 -- while a line is copied: its first i bytes stand
 pub record Copying (line before : List ℕ) (i : ℕ) (now : List ℕ) : Type 0 where

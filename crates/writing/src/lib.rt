@@ -3,14 +3,13 @@ ghost use mathlib.Core.Path.{_≡_};
 ghost use mathlib.Core.List.{[], _∷_};
 ghost use Prim.Native.Nat.{_+_, _^_, _≤_, min};
 ghost use lib.ListN.{length, take};
+ghost use Rattle.stack.specs.Value.{tracks-of, columns-of};
 ghost use Rattle.writing.specs.TableText.{digits, tabbed, row-text, table-text, refusal-text};
 ghost use Rattle.writing.specs.Output.{
   cleared,
   Line-put,
   Line-put-at,
   line-bytes,
-  tracks,
-  columns,
   row-of,
   Row-asks,
 };
@@ -96,7 +95,7 @@ fn separations_before(
     separations: [Tracks; CHANNELS],
 ) -> usize
     requires { ⌜ (k ≤ 8) × Space 88 (now room) end ⌝ }
-    ensures { λ r. ⌜ Prepended 88 (tabbed (take k (tracks separations))) (now (room .entry)) end (now (room .exit)) r ⌝ }
+    ensures { λ r. ⌜ Prepended 88 (tabbed (take k (tracks-of separations))) (now (room .entry)) end (now (room .exit)) r ⌝ }
 {
     let mut at = end;
     let mut i = k;
@@ -111,7 +110,7 @@ fn separations_before(
 // The first n positions in front of a place.
 fn positions_before(room: &mut [u8], end: usize, n: usize, positions: [Columns; STRIPS]) -> usize
     requires { ⌜ (n ≤ 9) × Space 99 (now room) end ⌝ }
-    ensures { λ r. ⌜ Prepended 99 (tabbed (take n (columns positions))) (now (room .entry)) end (now (room .exit)) r ⌝ }
+    ensures { λ r. ⌜ Prepended 99 (tabbed (take n (columns-of positions))) (now (room .entry)) end (now (room .exit)) r ⌝ }
 {
     let mut at = end;
     let mut i = n;

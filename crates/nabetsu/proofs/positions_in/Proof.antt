@@ -5,8 +5,8 @@ use native.Mathlib.Nat.{add-comm}
 use native.Mathlib.Omega.{arith}
 use lib.ListN.{getD, drop, length-drop}
 use lib.Seq.{getD-drop}
+use Rattle.stack.specs.Value.{columns-of}
 use Rattle.stack.specs.declared.Columns.{Columns}
-use Rattle.nabetsu.specs.Entry.{columns}
 use Rattle.nabetsu.specs.Parts.{Copied}
 use Rattle.nabetsu.proofs.Copies.{copied-starts, named-steps, copied-ends}
 use borrow.Author.Needs.{needs}
@@ -14,7 +14,7 @@ use Rattle.nabetsu.proofs.positions_in.Statement.{statement}
 use Rattle.nabetsu.proofs.positions_in.Tie as tie
 
 abbrev Inv-loop : tie.InvT-loop
-Inv-loop placement to₀ i₀ to i = Copied (drop 8 placement) (columns to) i
+Inv-loop placement to₀ i₀ to i = Copied (drop 8 placement) (columns-of to) i
 
 abbrev μ-loop : tie.MeasureT-loop
 μ-loop placement to₀ i₀ to i = 9 - i
@@ -47,7 +47,7 @@ loop-again : tie.Need-loop-again Inv-loop μ-loop
 loop-again c = named-steps (λ (x : Columns). x .0) (drop 8 (c .before .before .before .args .placement .now)) (c .before .before .loop .to) (c .before .before .loop .i) _ (omega (arith, c .before .before .before .pre, c .before .loop-test .taken, length-drop 8 (c .before .before .before .args .placement .now))) (sym (getD-drop 8 (c .before .before .before .args .placement .now) (c .before .before .loop .i) 0 ∙ ap (λ j. getD (c .before .before .before .args .placement .now) j 0) (add-comm 8 (c .before .before .loop .i)))) (c .before .before .loop .inv)
 
 returns : tie.Need-returns Inv-loop μ-loop
-returns c = copied-ends (drop 8 (c .before .before .args .placement .now)) (columns (c .before .loop .to)) (c .before .loop .i) (omega (arith, c .before .before .pre, c .loop-test .left, length-drop 8 (c .before .before .args .placement .now))) (c .before .loop .inv)
+returns c = copied-ends (drop 8 (c .before .before .args .placement .now)) (columns-of (c .before .loop .to)) (c .before .loop .i) (omega (arith, c .before .before .pre, c .loop-test .left, length-drop 8 (c .before .before .args .placement .now))) (c .before .loop .inv)
 
 pub positions-in-spec : {M : Type 1} → statement M
 positions-in-spec =

@@ -4,8 +4,8 @@ use Prim.Native.Nat.{_-_}
 use native.Mathlib.Omega.{arith}
 use lib.ListN.{take, length-take}
 use lib.Seq.{getD-take}
+use Rattle.stack.specs.Value.{tracks-of}
 use Rattle.stack.specs.declared.Tracks.{Tracks}
-use Rattle.nabetsu.specs.Entry.{tracks}
 use Rattle.nabetsu.specs.Parts.{Copied}
 use Rattle.nabetsu.proofs.Copies.{copied-starts, named-steps, copied-ends}
 use borrow.Author.Needs.{needs}
@@ -13,7 +13,7 @@ use Rattle.nabetsu.proofs.separations_in.Statement.{statement}
 use Rattle.nabetsu.proofs.separations_in.Tie as tie
 
 abbrev Inv-loop : tie.InvT-loop
-Inv-loop placement to₀ i₀ to i = Copied (take 8 placement) (tracks to) i
+Inv-loop placement to₀ i₀ to i = Copied (take 8 placement) (tracks-of to) i
 
 abbrev μ-loop : tie.MeasureT-loop
 μ-loop placement to₀ i₀ to i = 8 - i
@@ -43,7 +43,7 @@ loop-again : tie.Need-loop-again Inv-loop μ-loop
 loop-again c = named-steps (λ (x : Tracks). x .0) (take 8 (c .before .before .before .args .placement .now)) (c .before .before .loop .to) (c .before .before .loop .i) _ (omega (arith, c .before .before .before .pre, c .before .loop-test .taken, length-take 8 (c .before .before .before .args .placement .now))) (sym (getD-take 8 (c .before .before .before .args .placement .now) (c .before .before .loop .i) 0 (c .before .loop-test .taken))) (c .before .before .loop .inv)
 
 returns : tie.Need-returns Inv-loop μ-loop
-returns c = copied-ends (take 8 (c .before .before .args .placement .now)) (tracks (c .before .loop .to)) (c .before .loop .i) (omega (arith, c .before .before .pre, c .loop-test .left, length-take 8 (c .before .before .args .placement .now))) (c .before .loop .inv)
+returns c = copied-ends (take 8 (c .before .before .args .placement .now)) (tracks-of (c .before .loop .to)) (c .before .loop .i) (omega (arith, c .before .before .pre, c .loop-test .left, length-take 8 (c .before .before .args .placement .now))) (c .before .loop .inv)
 
 pub separations-in-spec : {M : Type 1} → statement M
 separations-in-spec =

@@ -1,8 +1,9 @@
 -- positions_for meets its contract: the positions, bottom strip first. Assumes nothing.
 use Prim.Native.Nat.{_-_}
 use native.Mathlib.Omega.{arith}
+use Rattle.stack.specs.Value.{tracks-of, columns-of}
 use Rattle.numbers.proofs.Lists.{map-set}
-use Rattle.solver.specs.Arrays.{given, tracks, columns}
+use Rattle.solver.specs.Arrays.{given}
 use Rattle.solver.specs.Loops.{Positioning}
 use Rattle.solver.proofs.Fixing.{track-at}
 use Rattle.solver.proofs.Positioning.{positioning-start, position-small, next-asks, positioning-step, positioning-end}
@@ -11,7 +12,7 @@ use Rattle.solver.proofs.positions_for.Statement.{statement}
 use Rattle.solver.proofs.positions_for.Tie as tie
 
 abbrev Inv-loop : tie.InvT-loop
-Inv-loop low high counts from upto k ts starts xs₀ x₀ i₀ xs x i = Positioning (given low high counts from upto) k (tracks ts) i x (columns xs)
+Inv-loop low high counts from upto k ts starts xs₀ x₀ i₀ xs x i = Positioning (given low high counts from upto) k (tracks-of ts) i x (columns-of xs)
 
 abbrev μ-loop : tie.MeasureT-loop
 μ-loop low high counts from upto k ts starts xs₀ x₀ i₀ xs x i = k - i

@@ -1,9 +1,10 @@
 -- separations_for meets its contract: the separations, channel 1 first. Assumes nothing.
 use Prim.Native.Nat.{_-_}
 use native.Mathlib.Omega.{arith}
+use Rattle.stack.specs.Value.{tracks-of}
 use Rattle.numbers.proofs.Lists.{map-set}
 use Rattle.spans.specs.Spans.{span}
-use Rattle.solver.specs.Arrays.{given, tracks}
+use Rattle.solver.specs.Arrays.{given}
 use Rattle.solver.specs.Loops.{Separating}
 use Rattle.solver.proofs.Separating.{pass-on-asks, separating-start, separating-asks, separation-small, above-holds, separating-step, separating-end}
 use borrow.Author.Needs.{needs}
@@ -11,7 +12,7 @@ use Rattle.solver.proofs.separations_for.Statement.{statement}
 use Rattle.solver.proofs.separations_for.Tie as tie
 
 abbrev Inv-loop : tie.InvT-loop
-Inv-loop low high counts from upto k total first froms uptos ts₀ s₀ v₀ above₀ i₀ ts s v above i = Separating (given low high counts from upto) k total i v above (span (s .from) (s .upto)) (tracks ts)
+Inv-loop low high counts from upto k total first froms uptos ts₀ s₀ v₀ above₀ i₀ ts s v above i = Separating (given low high counts from upto) k total i v above (span (s .from) (s .upto)) (tracks-of ts)
 
 abbrev μ-loop : tie.MeasureT-loop
 μ-loop low high counts from upto k total first froms uptos ts₀ s₀ v₀ above₀ i₀ ts s v above i = k - i

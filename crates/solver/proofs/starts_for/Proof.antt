@@ -3,8 +3,9 @@ use mathlib.Core.Path.{refl}
 use Prim.Native.Nat.{_-_}
 use native.Mathlib.Omega.{arith}
 use lib.ListN.{replicate}
+use Rattle.stack.specs.Value.{tracks-of}
 use Rattle.spans.specs.Spans.{span}
-use Rattle.solver.specs.Arrays.{strips-held, given, tracks}
+use Rattle.solver.specs.Arrays.{strips-held, given}
 use Rattle.solver.specs.Loops.{Fixing}
 use Rattle.solver.proofs.Fixing.{track-at, fixing-start, fixing-asks, fixing-step, fixing-end}
 use borrow.Author.Needs.{needs}
@@ -12,7 +13,7 @@ use Rattle.solver.proofs.starts_for.Statement.{statement}
 use Rattle.solver.proofs.starts_for.Tie as tie
 
 abbrev Inv-loop : tie.InvT-loop
-Inv-loop low high counts from upto k ts s₀ starts₀ i₀ s starts i = Fixing (given low high counts from upto) k (tracks ts) i (span (s .from) (s .upto)) starts
+Inv-loop low high counts from upto k ts s₀ starts₀ i₀ s starts i = Fixing (given low high counts from upto) k (tracks-of ts) i (span (s .from) (s .upto)) starts
 
 abbrev μ-loop : tie.MeasureT-loop
 μ-loop low high counts from upto k ts s₀ starts₀ i₀ s starts i = i

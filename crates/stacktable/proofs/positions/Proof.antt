@@ -3,8 +3,8 @@ use mathlib.Core.Path.{_≡_, refl}
 use Prim.Native.Nat.{_+_, _-_, _≤_}
 use native.Mathlib.Omega.{arith}
 use lib.ListN.{getD}
+use Rattle.stack.specs.Value.{columns-of}
 use Rattle.numbers.specs.Lists.{filled, tabulate}
-use Rattle.nabetsu.specs.Entry.{columns}
 use Rattle.stack.specs.declared.Columns.{Columns}
 use Rattle.stacktable.specs.Output.{positions-in}
 use Rattle.stacktable.proofs.Arguments.{filled-more}
@@ -13,7 +13,7 @@ use Rattle.stacktable.proofs.positions.Statement.{statement}
 use Rattle.stacktable.proofs.positions.Tie as tie
 
 abbrev Inv-loop : tie.InvT-loop
-Inv-loop k numbers positions₀ i₀ i-end positions i = (i ≤ k + 1) × (columns positions ≡ filled 9 i (λ j. getD numbers (1 + k + j) 0) 0)
+Inv-loop k numbers positions₀ i₀ i-end positions i = (i ≤ k + 1) × (columns-of positions ≡ filled 9 i (λ j. getD numbers (1 + k + j) 0) 0)
 
 abbrev μ-loop : tie.MeasureT-loop
 μ-loop k numbers positions₀ i₀ i-end positions i = k + 1 - i

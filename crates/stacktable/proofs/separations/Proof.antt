@@ -3,8 +3,8 @@ use mathlib.Core.Path.{_≡_, refl}
 use Prim.Native.Nat.{_+_, _-_, _≤_}
 use native.Mathlib.Omega.{arith}
 use lib.ListN.{getD}
+use Rattle.stack.specs.Value.{tracks-of}
 use Rattle.numbers.specs.Lists.{filled, tabulate}
-use Rattle.nabetsu.specs.Entry.{tracks}
 use Rattle.stack.specs.declared.Tracks.{Tracks}
 use Rattle.stacktable.specs.Output.{separations-in}
 use Rattle.stacktable.proofs.Arguments.{filled-more}
@@ -13,7 +13,7 @@ use Rattle.stacktable.proofs.separations.Statement.{statement}
 use Rattle.stacktable.proofs.separations.Tie as tie
 
 abbrev Inv-loop : tie.InvT-loop
-Inv-loop k numbers separations₀ i₀ separations i = (i ≤ k) × (tracks separations ≡ filled 8 i (λ j. getD numbers (1 + j) 0) 0)
+Inv-loop k numbers separations₀ i₀ separations i = (i ≤ k) × (tracks-of separations ≡ filled 8 i (λ j. getD numbers (1 + j) 0) 0)
 
 abbrev μ-loop : tie.MeasureT-loop
 μ-loop k numbers separations₀ i₀ separations i = k - i

@@ -1,7 +1,7 @@
 -- are_columns_zero meets its contract: the loop keeps Zeros-from. Assumes nothing.
 use Prim.Native.Nat.{_-_}
 use borrow.Author.Count.{falls}
-use Rattle.trial.specs.Legal.{columns-of}
+use Rattle.stack.specs.Value.{columns-of}
 use Rattle.trial.specs.Trying.{Zeros-from}
 use Rattle.trial.proofs.Trying.{columns-long, column-at, zeros-start, zeros-step, zeros-refuse, zeros-end}
 use borrow.Author.Needs.{needs}

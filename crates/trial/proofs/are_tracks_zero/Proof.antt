@@ -1,7 +1,7 @@
 -- are_tracks_zero meets its contract: the loop keeps Zeros-from. Assumes nothing.
 use Prim.Native.Nat.{_-_}
 use borrow.Author.Count.{falls}
-use Rattle.trial.specs.Legal.{tracks-of}
+use Rattle.stack.specs.Value.{tracks-of}
 use Rattle.trial.specs.Trying.{Zeros-from}
 use Rattle.trial.proofs.Trying.{tracks-long, track-at, zeros-start, zeros-step, zeros-refuse, zeros-end}
 use borrow.Author.Needs.{needs}

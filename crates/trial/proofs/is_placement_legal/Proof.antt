@@ -1,8 +1,8 @@
 -- is_placement_legal meets its contract: the four verdicts make the trial's. Assumes nothing.
 use native.Mathlib.Omega.{arith}
 use borrow.Author.Tests.{not-true, not-false}
+use Rattle.stack.specs.Value.{tracks-of, columns-of}
 use Rattle.stack.proofs.Within.{few-channels}
-use Rattle.trial.specs.Legal.{tracks-of, columns-of}
 use Rattle.trial.proofs.Verdict.{tracks-refuse, columns-refuse, spread-refuses, channels-decide}
 use borrow.Author.Needs.{needs}
 use Rattle.trial.proofs.is_placement_legal.Statement.{statement}

@@ -2,9 +2,9 @@
 use mathlib.Core.Path.{_≡_, refl}
 use native.Mathlib.Omega.{arith}
 use lib.ListN.{length, take, drop}
+use Rattle.stack.specs.Value.{columns-of}
 use Rattle.stack.specs.declared.Columns.{Columns}
 use Rattle.writing.specs.TableText.{tabbed}
-use Rattle.writing.specs.Output.{columns}
 use Rattle.writing.specs.Room.{Putting}
 use Rattle.writing.proofs.Prepending.{prepended-looser, putting-starts, putting-space, putting-steps, putting-ends}
 use Rattle.writing.proofs.Rows.{none-put, one-put}
@@ -13,7 +13,7 @@ use Rattle.writing.proofs.positions_before.Statement.{statement}
 use Rattle.writing.proofs.positions_before.Tie as tie
 
 abbrev Inv-loop : tie.InvT-loop
-Inv-loop room₀ end n positions at₀ i₀ room at i = Putting 11 (λ j. tabbed (drop j (take n (columns positions)))) n room₀ end i room at
+Inv-loop room₀ end n positions at₀ i₀ room at i = Putting 11 (λ j. tabbed (drop j (take n (columns-of positions)))) n room₀ end i room at
 
 abbrev μ-loop : tie.MeasureT-loop
 μ-loop room₀ end n positions at₀ i₀ room at i = i
