@@ -13,7 +13,7 @@ use Rattle.numbers.specs.Lists.{tabulate}
 use Rattle.numbers.proofs.Lists.{length-tabulate, getD-tabulate, tabulate-same, tabulate-constant}
 use Rattle.stack.specs.declared.Tracks.{Tracks}
 use Rattle.stack.specs.declared.Columns.{Columns}
-use Rattle.trial.proofs.Trying.{track-at, column-at, tracks-long, columns-long}
+use Rattle.stack.proofs.Values.{track-at, column-at, tracks-long, columns-long}
 use Rattle.text.specs.Text.{Refusal, refusal, fine, or-else}
 use Rattle.text.specs.Outcome.{refusal-of, refused}
 use Rattle.text.specs.Driver.{Stack-read}

@@ -5,16 +5,31 @@ use Prim.Native.Nat.{ℕ, suc, _+_, _≤_, _<_}
 use native.Mathlib.Nat.{zero-add}
 use native.Mathlib.Numerals.{add-one}
 use native.Mathlib.Omega.{arith}
-use lib.ListN.{length, getD, set, replicate, getD-replicate}
+use lib.ListN.{length, getD, set, replicate, length-map, getD-replicate, List·getD-map}
 use lib.Seq.{getD-set-same, getD-set-other}
 use Rattle.numbers.specs.Lists.{tabulate}
 use Rattle.numbers.proofs.Lists.{length-tabulate, getD-tabulate, tabulate-same, tabulate-snoc, tabulate-set, tabulate-constant}
 use Rattle.stack.specs.Stack.{Pair, pair, p-at, q-at, stack}
-use Rattle.stack.specs.Value.{columns, strip, no-terminals, pair-at, channel-of, length-at, channel-at, stack-of}
+use Rattle.stack.specs.Value.{tracks, columns, tracks-of, columns-of, strip, no-terminals, pair-at, channel-of, length-at, channel-at, stack-of}
 use Rattle.stack.specs.Made.{bare}
+use Rattle.stack.specs.declared.Tracks.{Tracks}
+use Rattle.stack.specs.declared.Columns.{Columns}
 use Rattle.stack.specs.declared.Strip.{Strip}
 use Rattle.stack.specs.declared.Terminals.{Terminals}
 use Rattle.stack.specs.declared.Stack.{Stack as Stack-struct}
+
+-- the numbers of separations and of positions, place by place
+pub track-at : (ts : List Tracks) (i : ℕ) → getD (tracks-of ts) i 0 ≡ getD ts i (tracks 0) .0
+track-at ts i = List·getD-map (λ (t : Tracks). t .0) ts i (tracks 0)
+
+pub column-at : (xs : List Columns) (i : ℕ) → getD (columns-of xs) i 0 ≡ getD xs i (columns 0) .0
+column-at xs i = List·getD-map (λ (x : Columns). x .0) xs i (columns 0)
+
+pub tracks-long : (ts : List Tracks) (m : ℕ) → length ts ≡ m → length (tracks-of ts) ≡ m
+tracks-long ts m e = length-map ts (λ (t : Tracks). t .0) ∙ e
+
+pub columns-long : (xs : List Columns) (m : ℕ) → length xs ≡ m → length (columns-of xs) ≡ m
+columns-long xs m e = length-map xs (λ (x : Columns). x .0) ∙ e
 
 pub channel-length : (t : Terminals) → length (channel-of t) ≡ t .count
 unfolding channel-of

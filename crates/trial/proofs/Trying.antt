@@ -8,7 +8,7 @@ use native.Mathlib.Nat.{add-zero}
 use native.Mathlib.Numerals.{add-one}
 use native.Mathlib.Omega.{arith}
 use lib.Dec.{leb, eqb}
-use lib.ListN.{length, getD, drop, drop-of-length-le, length-map, List·getD-map}
+use lib.ListN.{length, getD, drop, drop-of-length-le}
 use lib.Seq.{drop-cons, getD-take, getD-drop, length-take-le}
 use borrow.Author.Tests.{eq-eqb, ne-eqb}
 use Rattle.stack.specs.Stack.{Pair, feasible, in-spread, channels-good}
@@ -16,22 +16,10 @@ use Rattle.stack.specs.Value.{strip, tracks, columns, no-terminals, channel-of,
 use Rattle.stack.specs.declared.Tracks.{Tracks}
 use Rattle.stack.specs.declared.Columns.{Columns}
 use Rattle.stack.specs.declared.Stack.{Stack as Stack-struct}
+use Rattle.stack.proofs.Values.{track-at, column-at, tracks-long, columns-long}
 use Rattle.stack.proofs.Within.{stack-channels, stack-strips, stack-channel, stack-strip}
 use Rattle.trial.specs.Legal.{all-zero}
 use Rattle.trial.specs.Trying.{used-separations, used-positions, Zeros-from, Spread-from, Channels-from}
-
--- the numbers of separations and of positions, place by place
-pub track-at : (ts : List Tracks) (i : ℕ) → getD (tracks-of ts) i 0 ≡ getD ts i (tracks 0) .0
-track-at ts i = List·getD-map (λ (t : Tracks). t .0) ts i (tracks 0)
-
-pub column-at : (xs : List Columns) (i : ℕ) → getD (columns-of xs) i 0 ≡ getD xs i (columns 0) .0
-column-at xs i = List·getD-map (λ (x : Columns). x .0) xs i (columns 0)
-
-pub tracks-long : (ts : List Tracks) (m : ℕ) → length ts ≡ m → length (tracks-of ts) ≡ m
-tracks-long ts m e = length-map ts (λ (t : Tracks). t .0) ∙ e
-
-pub columns-long : (xs : List Columns) (m : ℕ) → length xs ≡ m → length (columns-of xs) ≡ m
-columns-long xs m e = length-map xs (λ (x : Columns). x .0) ∙ e
 
 -- ZEROS
 zeros-next : (xs : List ℕ) (i : ℕ) → i < length xs → all-zero (drop i xs) ≡ (eqb (getD xs i 0) 0 && all-zero (drop (suc i) xs))

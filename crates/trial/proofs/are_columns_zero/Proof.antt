@@ -2,8 +2,9 @@
 use Prim.Native.Nat.{_-_}
 use borrow.Author.Count.{falls}
 use Rattle.stack.specs.Value.{columns-of}
+use Rattle.stack.proofs.Values.{columns-long, column-at}
 use Rattle.trial.specs.Trying.{Zeros-from}
-use Rattle.trial.proofs.Trying.{columns-long, column-at, zeros-start, zeros-step, zeros-refuse, zeros-end}
+use Rattle.trial.proofs.Trying.{zeros-start, zeros-step, zeros-refuse, zeros-end}
 use borrow.Author.Needs.{needs}
 use Rattle.trial.proofs.are_columns_zero.Statement.{statement}
 use Rattle.trial.proofs.are_columns_zero.Tie as tie

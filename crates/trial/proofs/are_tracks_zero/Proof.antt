@@ -2,8 +2,9 @@
 use Prim.Native.Nat.{_-_}
 use borrow.Author.Count.{falls}
 use Rattle.stack.specs.Value.{tracks-of}
+use Rattle.stack.proofs.Values.{tracks-long, track-at}
 use Rattle.trial.specs.Trying.{Zeros-from}
-use Rattle.trial.proofs.Trying.{tracks-long, track-at, zeros-start, zeros-step, zeros-refuse, zeros-end}
+use Rattle.trial.proofs.Trying.{zeros-start, zeros-step, zeros-refuse, zeros-end}
 use borrow.Author.Needs.{needs}
 use Rattle.trial.proofs.are_tracks_zero.Statement.{statement}
 use Rattle.trial.proofs.are_tracks_zero.Tie as tie
