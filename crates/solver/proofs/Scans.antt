@@ -16,10 +16,11 @@ use Rattle.spans.specs.Spans.{Span, span, nonempty}
 use Rattle.spans.specs.Solver.{first, first-open, most, start, stop, cell, back, first-total}
 use Rattle.spans.specs.Jump.{nearest, furthest, near-of, reach-of, shortfall, cell-short, short-at, None-within}
 use Rattle.solver.specs.Arrays.{bias, channels-held, strips-held, separations-held, totals-held, entry, spans-of, row, Sized, span-in, Given, low-of, high-of, count-of, window-of, level-of, levels, Stack-asks, Filled}
-use Rattle.solver.specs.Scan.{put, Strip-asks, Strip-done, jump-if, short-of, sums, Sums-are, Leasts-are, Counts-ask, Scanning, Total-asks, Scan-asks, Scan-is}
+use Rattle.solver.specs.Scan.{put, Strip-asks, Strip-done, jump-if, short-of, Empty-on, Empties-are, sums, Sums-are, Leasts-are, Counts-ask, Scanning, Total-asks, Scan-asks, Scan-is}
 use Rattle.solver.specs.Loops.{Searching}
 use Rattle.solver.proofs.Loops.{searching-hit, searching-miss, searching-end, totalling-start, ends-full, ends-empty}
 use Rattle.solver.proofs.Tables.{put-same, put-apart, sized-put}
+use Rattle.solver.proofs.Scanning.{short-empty}
 use Rattle.solver.proofs.Levels.{last-of, cell-back, back-ends, open-of, low-at-of, high-at-of, in-use as use-within}
 
 -- THE SUMS above each strip
@@ -156,6 +157,18 @@ module _ (g : Given) (k : ℕ) (froms uptos : List (List ℕ)) (a : Scan-asks g 
         here-jump = λ j n h e m t. absurd (omega arith);
       }
 
+  pub empties-start : Empties-are k 0 k top-froms top-uptos (replicate strips-held 0)
+  empties-start =
+      record {
+        size = refl;
+        empty = λ j u h l. absurd (omega (arith, none j h));
+        earlier = λ j h. omega (arith, none j (omega arith));
+        here = λ j h. omega (arith, none j h);
+      }
+    where
+      none : (j : ℕ) → j ≤ k → entry (replicate strips-held 0) j ≡ 0
+      none j h = getD-replicate strips-held j 0 0 (omega (arith, a .stack .channels))
+
 positive : {j : ℕ} (n : ℕ) → (n ≡ 0 → ⊥) → 0 < j → 0 < min j n
 positive zero h l = absurd (h refl)
 positive (suc n) h l = omega arith
@@ -187,8 +200,9 @@ module _ (g : Given) (k v i j : ℕ) (froms uptos : List (List ℕ)) (jump : ℕ
       omega (arith, ap (λ (t : Span). t .from) r, ap (λ (t : Span). t .upto) r, back-ends bias (window-of g (suc j)) (levels g (suc j) n) u, a .starts (suc j) (omega arith), a .ends (suc j) (omega arith))
 
   module _ (least last above : ℕ) (le : least ≡ first-open (low-of g j) (high-of g j) (count-of g j)) (la : last ≡ count-of g j) (ab : above ≡ most (levels g (suc j) n)) (used : v ≤ last + above) where
-    pub strip-asks : v < totals-held → Strip-asks j last above v (entry (g .froms) j) (entry (g .uptos) j) (row (g .lows) j) froms uptos
-    strip-asks t =
+    pub strip-asks : (es : List ℕ) → Empties-are k v i froms uptos es → v < totals-held →
+        Strip-asks j last above (entry es (j + 1)) v (entry (g .froms) j) (entry (g .uptos) j) (row (g .lows) j) froms uptos
+    strip-asks es m t =
         record {
           channel = omega (arith, a .channels);
           total = t;
@@ -199,6 +213,7 @@ module _ (g : Given) (k v i j : ℕ) (froms uptos : List (List ℕ)) (jump : ℕ
           lows-small = λ q l. a .lows j q (omega arith) (omega arith);
           starts = λ u l m. above-ends u l (omega arith) .0;
           ends = λ u l m. above-ends u l (omega arith) .1;
+          empties = λ u l. m .empty (j + 1) u (omega arith) l;
         }
 
     module _ (froms′ uptos′ : List (List ℕ)) (short : ℕ) (d : Strip-done (row (g .lows) j) (row (g .highs) j) j least last above v (window-of g j) froms uptos froms′ uptos′ short) (t : v < totals-held) where
@@ -257,6 +272,45 @@ module _ (g : Given) (k v i j : ℕ) (froms uptos : List (List ℕ)) (jump : ℕ
               let y : 0 < short = omega (arith, short-is, rw (← l, z) at x) in
               rw (← l, z) (omega (arith, short-is, jump-short (eqb short 0) refl y))
 
+      short-here : 0 < short → entry (row uptos′ j) v ≤ entry (row froms′ j) v
+      short-here x =
+          let e = short-empty (low-of g j) (high-of g j) least last above f (window-of g j) v (a .ends j (omega arith)) (rw (d .short-is) at x) in
+          rw (d .from-put, d .upto-put)
+          (omega (arith, put-same froms (s .sized-froms) j v (cell bias (low-of g j) (high-of g j) least last above f (window-of g j) v .from) (omega (arith, a .channels)) t, put-same uptos (s .sized-uptos) j v (cell bias (low-of g j) (high-of g j) least last above f (window-of g j) v .upto) (omega (arith, a .channels)) t))
+
+      pub empties-strip : (es : List ℕ) (x : ℕ) → Empties-are k v i froms uptos es → Empty-on (entry es j) v short x → Empties-are k v j froms′ uptos′ (set es j x)
+      empties-strip es x m o =
+          record {
+            size = length-set es j x ∙ m .size;
+            empty = λ p u l q. go p u l q (eq-or-not p j);
+            earlier = λ p l. rw (getD-set-other es j p x 0 (omega arith)) (m .earlier p (omega arith));
+            here = λ p l. bound p l (eq-or-not p j);
+          }
+        where
+          written : entry (set es j x) j ≡ x
+          written = getD-set-same es j x 0 (omega (arith, m .size, a .channels))
+
+          -- a cell that was empty and is not the one written
+          still : (p u : ℕ) → p ≤ k → u < entry es p → (p ≡ j → u ≡ v → ⊥) → entry (row uptos′ p) u ≤ entry (row froms′ p) u
+          still p u l q n =
+              let e = kept p u n in
+              omega (arith, ap (λ (t : Span). t .from) e, ap (λ (t : Span). t .upto) e, m .empty p u l q)
+
+          own : (u : ℕ) → (u < entry es j) ⊎ ((u ≡ v) × (0 < short)) → entry (row uptos′ j) u ≤ entry (row froms′ j) u
+          own u (inl q) = still j u (omega arith) q (λ y z. omega (arith, m .earlier j (omega arith)))
+          own u (inr q) = rw (q .0) (short-here (q .1))
+
+          go : (p u : ℕ) → p ≤ k → u < entry (set es j x) p → (p ≡ j) ⊎ (p ≡ j → ⊥) → entry (row uptos′ p) u ≤ entry (row froms′ p) u
+          go p u l q (inl e) = rw e (own u (o .known u (rw (e, written) at q)))
+          go p u l q (inr n) = still p u l (rw (getD-set-other es j p x 0 n) at q) (λ y z. n y)
+
+          bound : (p : ℕ) → p ≤ k → (p ≡ j) ⊎ (p ≡ j → ⊥) → entry (set es j x) p ≤ suc v
+          bound p l (inl e) = rw (e, written) (o .at-most (m .earlier j (omega arith)))
+          bound p l (inr n) = rw (getD-set-other es j p x 0 n) (m .here p l)
+
+  pub empties-skip : (es : List ℕ) → Empties-are k v i froms uptos es → Empties-are k v j froms uptos es
+  empties-skip es m = record { size = m .size; empty = m .empty; earlier = λ p l. m .earlier p (omega arith); here = m .here }
+
   -- a strip for which the total is beyond use
   pub scanning-skip : most (levels g j (suc n)) < v → Scanning g k v j froms uptos jump
   scanning-skip o =
@@ -279,6 +333,10 @@ module _ (g : Given) (k v i j : ℕ) (froms uptos : List (List ℕ)) (jump : ℕ
       jumps p m e u x (inr l) = let z : m ≡ n = omega arith in absurd (omega (arith, rw (← l, z) at u))
 
 -- THE LOOP OVER TOTALS
+pub empties-next : (k v : ℕ) (froms uptos : List (List ℕ)) (es : List ℕ) → Empties-are k v 0 froms uptos es → Empties-are k (v + 1) k froms uptos es
+empties-next k v froms uptos es m =
+    record { size = m .size; empty = m .empty; earlier = λ j l. omega (arith, m .here j (omega arith)); here = λ j l. omega (arith, m .here j l) }
+
 module _ (g : Given) (k cap : ℕ) where
   abbrev bottom-span : ℕ → Span
   bottom-span v = back bias (window-of g 0) (levels g 0 k) v
@@ -349,8 +407,8 @@ module _ (g : Given) (k cap : ℕ) where
       }
 
 -- THE LOOP OVER STRIPS, as the code goes: from strip i to strip i - 1
-module _ (g : Given) (k v : ℕ) (ls ms : List ℕ) (froms₀ uptos₀ : List (List ℕ)) (before : ℕ) (t : Total-asks g k v ls ms froms₀ uptos₀ before)
-    (i : ℕ) (froms uptos : List (List ℕ)) (jump : ℕ) (some : 0 < i) (inside : i ≤ k) (s : Scanning g k v i froms uptos jump) where
+module _ (g : Given) (k v : ℕ) (ls ms es₀ : List ℕ) (froms₀ uptos₀ : List (List ℕ)) (before : ℕ) (t : Total-asks g k v ls ms es₀ froms₀ uptos₀ before)
+    (i : ℕ) (froms uptos : List (List ℕ)) (jump : ℕ) (es : List ℕ) (some : 0 < i) (inside : i ≤ k) (s : Scanning g k v i froms uptos jump) (m : Empties-are k v i froms uptos es) where
   abbrev j : ℕ
   j = i - 1
 
@@ -369,16 +427,21 @@ module _ (g : Given) (k v : ℕ) (ls ms : List ℕ) (froms₀ uptos₀ : List (L
   used-of : v ≤ entry ms j → v ≤ count-of g j + entry ms (j + 1)
   used-of h = omega (arith, most-of, above-of, most-here g k v i j froms uptos jump (t .stack) s strip-below inside)
 
-  pub total-strip-asks : v ≤ entry ms j → Strip-asks j (count-of g j) (entry ms (j + 1)) v (entry (g .froms) j) (entry (g .uptos) j) (row (g .lows) j) froms uptos
+  pub total-strip-asks : v ≤ entry ms j → Strip-asks j (count-of g j) (entry ms (j + 1)) (entry es (j + 1)) v (entry (g .froms) j) (entry (g .uptos) j) (row (g .lows) j) froms uptos
   total-strip-asks h =
-      strip-asks g k v i j froms uptos jump (t .stack) s strip-below inside (entry ls j) (count-of g j) (entry ms (j + 1)) least-of refl above-of (used-of h) (t .total)
+      strip-asks g k v i j froms uptos jump (t .stack) s strip-below inside (entry ls j) (count-of g j) (entry ms (j + 1)) least-of refl above-of (used-of h) es m (t .total)
 
-  pub total-strip : v ≤ entry ms j → (froms′ uptos′ : List (List ℕ)) (short next : ℕ) →
+  pub total-strip : v ≤ entry ms j → (froms′ uptos′ : List (List ℕ)) (short next empty : ℕ) →
       Strip-done (row (g .lows) j) (row (g .highs) j) j (entry ls j) (count-of g j) (entry ms (j + 1)) v (window-of g j) froms uptos froms′ uptos′ short →
-      next ≡ jump-if (eqb short 0) jump short → Scanning g k v j froms′ uptos′ next
-  total-strip h froms′ uptos′ short next d e =
-      rw e
-      (scanning-strip g k v i j froms uptos jump (t .stack) s strip-below inside (entry ls j) (count-of g j) (entry ms (j + 1)) least-of refl above-of (used-of h) froms′ uptos′ short d (t .total))
+      Empty-on (entry es j) v short empty → next ≡ jump-if (eqb short 0) jump short → Scanning g k v j froms′ uptos′ next × Empties-are k v j froms′ uptos′ (set es j empty)
+  total-strip h froms′ uptos′ short next empty d o e = (
+    rw e
+        (scanning-strip g k v i j froms uptos jump (t .stack) s strip-below inside (entry ls j) (count-of g j) (entry ms (j + 1)) least-of refl above-of (used-of h) froms′ uptos′ short d (t .total)),
+    empties-strip g k v i j froms uptos jump (t .stack) s strip-below inside (entry ls j) (count-of g j) (entry ms (j + 1)) least-of refl above-of (used-of h) froms′ uptos′ short d (t .total) es empty m o,
+  )
 
-  pub total-skip : entry ms j < v → Scanning g k v j froms uptos jump
-  total-skip h = scanning-skip g k v i j froms uptos jump (t .stack) s strip-below inside (omega (arith, most-of))
+  pub total-skip : entry ms j < v → Scanning g k v j froms uptos jump × Empties-are k v j froms uptos es
+  total-skip h = (
+    scanning-skip g k v i j froms uptos jump (t .stack) s strip-below inside (omega (arith, most-of)),
+    empties-skip g k v i j froms uptos jump (t .stack) s strip-below inside es m,
+  )

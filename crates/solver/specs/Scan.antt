@@ -2,13 +2,14 @@
 -- spread may grow before a total below it can be had. Assumes nothing: these are definitions.
 use mathlib.Core.Path.{_≡_}
 use mathlib.Core.Bool.{Bool, true, false}
+use mathlib.Core.Logic.{_⊎_}
 use mathlib.Core.List.{List, []}
 use Prim.Native.Nat.{ℕ, zero, suc, _+_, _-_, _*_, _≤_, _<_, min}
 use lib.Dec.{eqb}
 use lib.ListN.{length, getD, set}
 use Rattle.spans.specs.Spans.{Span, span}
 use Rattle.spans.specs.Solver.{first-open, most, cell, back, first-total}
-use Rattle.spans.specs.Jump.{nearest, furthest, cell-short, short-at}
+use Rattle.spans.specs.Jump.{nearest, furthest, between, shortfall, cell-short, short-at}
 use Rattle.solver.specs.Arrays.{bias, channels-held, strips-held, separations-held, totals-held, entry, spans-of, row, Sized, span-in, Given, low-of, high-of, count-of, window-of, level-of, levels, Stack-asks, Filled}
 use Rattle.solver.specs.declared.Ends.{Ends}
 use Rattle.solver.specs.declared.Scan.{Scan}
@@ -26,10 +27,21 @@ pub record Ends-ask (v start stop : ℕ) (lows froms uptos : List ℕ) : Type 0 
   pub starts : (u : ℕ) → u + start ≤ v → entry froms u ≤ bias
   pub ends : (u : ℕ) → u + start ≤ v → entry uptos u ≤ bias
 
-pub record Ends-are (lows highs froms uptos : List ℕ) (v start stop : ℕ) (r : Ends) : Type 0 where
+-- the ends s stretched by separations from start to below stop
+pub record Ends-are (lows highs froms uptos : List ℕ) (v start stop : ℕ) (s r : Ends) : Type 0 where
   pub small : r .near ≤ bias
-  pub near-is : r .near ≡ nearest bias (entry highs) (λ q. spans-of froms uptos (v - q)) start (stop - start) bias
-  pub reach-is : r .reach ≡ furthest bias (entry lows) (λ q. spans-of froms uptos (v - q)) start (stop - start) 0
+  pub near-is : r .near ≡ nearest bias (entry highs) (λ q. spans-of froms uptos (v - q)) start (stop - start) (s .near)
+  pub reach-is : r .reach ≡ furthest bias (entry lows) (λ q. spans-of froms uptos (v - q)) start (stop - start) (s .reach)
+
+-- ends that give the same span in the window w, and the same shortfall, as those of separations from start to below stop
+pub record Ends-serve (lows highs froms uptos : List ℕ) (v start stop : ℕ) (w : Span) (r : Ends) : Type 0 where
+  pub small : r .near ≤ bias
+  pub span-is :
+      between bias w (r .near) (r .reach)
+      ≡ between bias w (nearest bias (entry highs) (λ q. spans-of froms uptos (v - q)) start (stop - start) bias) (furthest bias (entry lows) (λ q. spans-of froms uptos (v - q)) start (stop - start) 0)
+  pub short-is :
+      shortfall bias w (r .near) (r .reach)
+      ≡ shortfall bias w (nearest bias (entry highs) (λ q. spans-of froms uptos (v - q)) start (stop - start) bias) (furthest bias (entry lows) (λ q. spans-of froms uptos (v - q)) start (stop - start) 0)
 
 -- ends found so far, at separation q
 pub record Stretching (b : ℕ) (low high : ℕ → ℕ) (f : ℕ → Span) (stop q near reach nearest-of furthest-of : ℕ) : Type 0 where
@@ -37,8 +49,8 @@ pub record Stretching (b : ℕ) (low high : ℕ → ℕ) (f : ℕ → Span) (sto
   pub ends-left : furthest b low f q (stop - q) reach ≡ furthest-of
   pub near-small : near ≤ b
 
--- what one cell asks
-pub record Strip-asks (i last above v from upto : ℕ) (lows : List ℕ) (froms uptos : List (List ℕ)) : Type 0 where
+-- what one cell asks; in the strip above the totals below empty have empty spans
+pub record Strip-asks (i last above empty v from upto : ℕ) (lows : List ℕ) (froms uptos : List (List ℕ)) : Type 0 where
   pub channel : i < channels-held
   pub total : v < totals-held
   pub listed : last < separations-held
@@ -48,6 +60,7 @@ pub record Strip-asks (i last above v from upto : ℕ) (lows : List ℕ) (froms 
   pub lows-small : (q : ℕ) → q ≤ last → entry lows q ≤ 2 * bias
   pub starts : (u : ℕ) → u ≤ v → u ≤ above → entry (row froms (i + 1)) u ≤ bias
   pub ends : (u : ℕ) → u ≤ v → u ≤ above → entry (row uptos (i + 1)) u ≤ bias
+  pub empties : (u : ℕ) → u < empty → entry (row uptos (i + 1)) u ≤ entry (row froms (i + 1)) u
 
 -- the cell written, and its shortfall
 pub record Strip-done (lows highs : List ℕ) (i least last above v : ℕ) (w : Span) (froms uptos froms′ uptos′ : List (List ℕ)) (short : ℕ) : Type 0 where
@@ -59,6 +72,18 @@ pub record Strip-done (lows highs : List ℕ) (i least last above v : ℕ) (w : 
 abbrev pub jump-if : (none : Bool) → (jump short : ℕ) → ℕ
 jump-if true j s = j
 jump-if false j s = min j s
+
+-- totals below n had empty spans; totals below r have, if that of v is short by so much
+pub record Empty-on (n v short r : ℕ) : Type 0 where
+  pub known : (u : ℕ) → u < r → (u < n) ⊎ ((u ≡ v) × (0 < short))
+  pub at-most : n ≤ v → r ≤ suc v
+
+-- for each strip so many first totals with an empty span: of totals below v, and for strips from i on of total v
+pub record Empties-are (k v i : ℕ) (froms uptos : List (List ℕ)) (r : List ℕ) : Type 0 where
+  pub size : length r ≡ strips-held
+  pub empty : (j u : ℕ) → j ≤ k → u < entry r j → entry (row uptos j) u ≤ entry (row froms j) u
+  pub earlier : (j : ℕ) → j < i → entry r j ≤ v
+  pub here : (j : ℕ) → j ≤ k → entry r j ≤ suc v
 
 -- the shortfall of strip j's span at the total u, with n + 1 channels above it
 abbrev pub short-of : Given → (j n u : ℕ) → ℕ
@@ -99,12 +124,13 @@ pub record Scan-is (g : Given) (k cap : ℕ) (froms uptos : List (List ℕ)) (r 
   pub jump-is : (j n u : ℕ) → j + suc n ≡ k → u < r .total → u ≤ most (levels g j (suc n)) → 0 < short-of g j n u → r .jump ≤ short-of g j n u
 
 -- what the scan asks of one total
-pub record Total-asks (g : Given) (k v : ℕ) (ls ms : List ℕ) (froms uptos : List (List ℕ)) (jump : ℕ) : Type 0 where
+pub record Total-asks (g : Given) (k v : ℕ) (ls ms es : List ℕ) (froms uptos : List (List ℕ)) (jump : ℕ) : Type 0 where
   pub stack : Stack-asks g k
   pub total : v < totals-held
   pub mosts : Sums-are (g .counts) k 0 ms
   pub leasts : Leasts-are (g .lows) (g .highs) (g .counts) k ls
   pub tables : Scanning g k v k froms uptos jump
+  pub empties : Empties-are k v k froms uptos es
 
 -- k channels whose counts are within the arrays
 pub record Counts-ask (counts : List ℕ) (k : ℕ) : Type 0 where

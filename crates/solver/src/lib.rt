@@ -11,9 +11,9 @@ ghost use lib.ListN.{replicate};
 ghost use lib.Dec.{ltb, eqb};
 ghost use Rattle.spans.specs.Spans.{span, cut, shift-back, shift-on};
 ghost use Rattle.spans.specs.Jump.{min-if, max-if};
-ghost use Rattle.solver.specs.Scan.{Ends-ask, Ends-are, Strip-asks, Strip-done, Counts-ask, sums, Sums-are, Leasts-are, jump-if, Total-asks, Scanning, Scan-asks, Scan-is};
+ghost use Rattle.solver.specs.Scan.{Ends-ask, Ends-are, Ends-serve, Strip-asks, Strip-done, Counts-ask, sums, Sums-are, Leasts-are, jump-if, Empty-on, Empties-are, Total-asks, Scanning, Scan-asks, Scan-is};
 ghost use Rattle.spans.specs.Solver.{first-open, start, stop, first-serving, separations, positions};
-ghost use Rattle.solver.specs.Arrays.{bias, channels-held, strips-held, separations-held, entry, spans-of, given, Serve-asks, window-of, levels, tracks, store, Separate-asks, Stack-asks, Starts-are, Next-asks, Position-asks, columns, taken, Place-asks, Placement-is};
+ghost use Rattle.solver.specs.Arrays.{bias, channels-held, strips-held, separations-held, totals-held, entry, spans-of, given, Serve-asks, window-of, levels, tracks, store, Separate-asks, Stack-asks, Starts-are, Next-asks, Position-asks, columns, taken, Place-asks, Placement-is};
 
 const SEPARATIONS: usize = Stack::MAX_SEPARATION + 1;
 
@@ -316,7 +316,7 @@ fn stretch(e: Ends, from: u64, upto: u64, low: u64, high: u64) -> Ends
     }
 }
 
-// The ends of the spans of the strip above for what separations from start to below stop leave of total v, each shifted back by its limit.
+// The ends stretched by the spans of the strip above for what separations from start to below stop leave of total v, each shifted back by its limit.
 fn reach_back(
     low: &[u64; SEPARATIONS],
     high: &[u64; SEPARATIONS],
@@ -325,14 +325,12 @@ fn reach_back(
     v: usize,
     start: usize,
     stop: usize,
+    before: Ends,
 ) -> Ends
-    requires { ⌜ Ends-ask v start stop (now low) (now froms) (now uptos) ⌝ }
-    ensures { λ r. ⌜ Ends-are (now (low .entry)) (now (high .entry)) (now (froms .entry)) (now (uptos .entry)) v start stop r ⌝ }
+    requires { ⌜ Ends-ask v start stop (now low) (now froms) (now uptos) × (before .near ≤ bias) ⌝ }
+    ensures { λ r. ⌜ Ends-are (now (low .entry)) (now (high .entry)) (now (froms .entry)) (now (uptos .entry)) v start stop before r ⌝ }
 {
-    let mut e = Ends {
-        near: Stack::BIAS,
-        reach: 0,
-    };
+    let mut e = before;
     let mut q = start;
     while q < stop {
         let u = v - q;
@@ -343,7 +341,45 @@ fn reach_back(
     e
 }
 
-// Writes the span of strip i for total v, from the spans of the strip above, and answers by how much it is short.
+// Ends for the window (from, upto) from separations start to below stop. If the last one's alone reach over the whole window, the others change nothing in it.
+fn ends_in(
+    low: &[u64; SEPARATIONS],
+    high: &[u64; SEPARATIONS],
+    froms: &[u64; TOTALS],
+    uptos: &[u64; TOTALS],
+    v: usize,
+    start: usize,
+    stop: usize,
+    from: u64,
+    upto: u64,
+) -> Ends
+    requires { ⌜ Ends-ask v start stop (now low) (now froms) (now uptos) × (start < stop) × (upto ≤ bias) ⌝ }
+    ensures { λ r. ⌜ Ends-serve (now (low .entry)) (now (high .entry)) (now (froms .entry)) (now (uptos .entry)) v start stop (span from upto) r ⌝ }
+{
+    let none = Ends {
+        near: Stack::BIAS,
+        reach: 0,
+    };
+    let q = stop - 1;
+    let u = v - q;
+    let e = stretch(none, froms[u], uptos[u], low[q], high[q]);
+    if e.near <= from {
+        if upto + Stack::BIAS <= e.reach {
+            return e;
+        }
+    }
+    reach_back(low, high, froms, uptos, v, start, q, e)
+}
+
+// One past the last separation of use that leaves no less than the first `empty` totals.
+fn stop_above(last: usize, v: usize, empty: usize) -> usize
+    requires { ⌜ (last < separations-held) × (v < totals-held) ⌝ }
+    ensures { λ r. ⌜ r ≡ min (last + 1) (v + 1 - empty) ⌝ }
+{
+    lesser(last as u64 + 1, difference(v as u64 + 1, empty as u64)) as usize
+}
+
+// Writes the span of strip i for total v, from the spans of the strip above, of which the first `empty` are empty, and answers by how much it is short.
 fn scan_strip(
     low: &[u64; SEPARATIONS],
     high: &[u64; SEPARATIONS],
@@ -351,23 +387,33 @@ fn scan_strip(
     least: usize,
     last: usize,
     above: usize,
+    empty: usize,
     from: u64,
     upto: u64,
     v: usize,
     froms: &mut [[u64; TOTALS]; STRIPS],
     uptos: &mut [[u64; TOTALS]; STRIPS],
 ) -> u64
-    requires { ⌜ Strip-asks i last above v from upto (now low) (now froms) (now uptos) ⌝ }
+    requires { ⌜ Strip-asks i last above empty v from upto (now low) (now froms) (now uptos) ⌝ }
     ensures { λ r. ⌜ Strip-done (now (low .entry)) (now (high .entry)) i least last above v (span from upto) (now (froms .entry)) (now (uptos .entry)) (now (froms .exit)) (now (uptos .exit)) r ⌝ }
 {
-    let e = reach_back(
+    let first = start(least, last, above, v);
+    let end = stop_above(last, v, empty);
+    if end <= first {
+        froms[i][v] = greater(from, upto);
+        uptos[i][v] = 0;
+        return 2 * Stack::BIAS + 1;
+    }
+    let e = ends_in(
         low,
         high,
         &froms[i + 1],
         &uptos[i + 1],
         v,
-        start(least, last, above, v),
-        stop(last, v),
+        first,
+        end,
+        from,
+        upto,
     );
     froms[i][v] = greater(from, lesser(upto, e.near));
     uptos[i][v] = lesser(upto, difference(e.reach, Stack::BIAS));
@@ -427,6 +473,20 @@ fn shorter(jump: u64, short: u64) -> u64
     lesser(jump, short)
 }
 
+// How many first totals have an empty span, count of those below v, where the span for v is short by so much.
+fn count_empty(count: usize, v: usize, short: u64) -> usize
+    requires { ⌜ v < totals-held ⌝ }
+    ensures { λ r. ⌜ Empty-on count v short r ⌝ }
+{
+    if short == 0 {
+        return count;
+    }
+    if count < v {
+        return count;
+    }
+    v + 1
+}
+
 // Writes the spans of strips k - 1 to 0 for total v, and answers the jump cut down to their shortfalls.
 fn scan_total(
     low: &[[u64; SEPARATIONS]; CHANNELS],
@@ -439,11 +499,12 @@ fn scan_total(
     k: usize,
     v: usize,
     before: u64,
+    empties: &mut [usize; STRIPS],
     froms: &mut [[u64; TOTALS]; STRIPS],
     uptos: &mut [[u64; TOTALS]; STRIPS],
 ) -> u64
-    requires { ⌜ Total-asks (given (now low) (now high) (now counts) (now from) (now upto)) k v (now leasts) (now sums) (now froms) (now uptos) before ⌝ }
-    ensures { λ r. ⌜ Scanning (given (now (low .entry)) (now (high .entry)) (now (counts .entry)) (now (from .entry)) (now (upto .entry))) k v 0 (now (froms .exit)) (now (uptos .exit)) r ⌝ }
+    requires { ⌜ Total-asks (given (now low) (now high) (now counts) (now from) (now upto)) k v (now leasts) (now sums) (now empties) (now froms) (now uptos) before ⌝ }
+    ensures { λ r. ⌜ Scanning (given (now (low .entry)) (now (high .entry)) (now (counts .entry)) (now (from .entry)) (now (upto .entry))) k v 0 (now (froms .exit)) (now (uptos .exit)) r × Empties-are k v 0 (now (froms .exit)) (now (uptos .exit)) (now (empties .exit)) ⌝ }
 {
     let mut jump = before;
     let mut i = k;
@@ -457,12 +518,14 @@ fn scan_total(
                 leasts[i],
                 counts[i],
                 sums[i + 1],
+                empties[i + 1],
                 from[i],
                 upto[i],
                 v,
                 froms,
                 uptos,
             );
+            empties[i] = count_empty(empties[i], v, short);
             jump = shorter(jump, short);
         }
     }
@@ -489,6 +552,7 @@ pub fn scan_totals(
     let above = sums[1];
     froms[k][0] = from[k];
     uptos[k][0] = upto[k];
+    let mut empties = [0usize; STRIPS];
     let mut jump = Stack::BIAS;
     let mut v = 0;
     while v <= cap {
@@ -503,6 +567,7 @@ pub fn scan_totals(
             k,
             v,
             jump,
+            &mut empties,
             froms,
             uptos,
         );

@@ -10,13 +10,13 @@ use Rattle.solver.proofs.reach_back.Statement.{statement}
 use Rattle.solver.proofs.reach_back.Tie as tie
 
 abbrev Inv-loop : tie.InvT-loop
-Inv-loop low high froms uptos v start stop e₀ q₀ e q = (start ≤ q) × Stretching bias (entry low) (entry high) (λ i. spans-of froms uptos (v - i)) stop q (e .near) (e .reach) (nearest bias (entry high) (λ i. spans-of froms uptos (v - i)) start (stop - start) bias) (furthest bias (entry low) (λ i. spans-of froms uptos (v - i)) start (stop - start) 0)
+Inv-loop low high froms uptos v start stop before q₀ e q = (start ≤ q) × Stretching bias (entry low) (entry high) (λ i. spans-of froms uptos (v - i)) stop q (e .near) (e .reach) (nearest bias (entry high) (λ i. spans-of froms uptos (v - i)) start (stop - start) (before .near)) (furthest bias (entry low) (λ i. spans-of froms uptos (v - i)) start (stop - start) (before .reach))
 
 abbrev μ-loop : tie.MeasureT-loop
-μ-loop low high froms uptos v start stop e₀ q₀ e q = stop - q
+μ-loop low high froms uptos v start stop before q₀ e q = stop - q
 
 loop-holds : tie.Need-loop-holds Inv-loop μ-loop
-loop-holds c = (omega arith, stretching-starts bias (entry (c .args .low .now)) (entry (c .args .high .now)) (λ q. spans-of (c .args .froms .now) (c .args .uptos .now) (c .args .v - q)) (c .args .stop) (c .args .start) bias 0 (omega arith))
+loop-holds c = (omega arith, stretching-starts bias (entry (c .args .low .now)) (entry (c .args .high .now)) (λ q. spans-of (c .args .froms .now) (c .args .uptos .now) (c .args .v - q)) (c .args .stop) (c .args .start) (c .args .before .near) (c .args .before .reach) (c .pre .1))
 
 sub-u : tie.Need-sub-u Inv-loop μ-loop
 sub-u c = search needs
@@ -47,7 +47,7 @@ element-copy-out-stretch-4 c = search needs
 
 stretch-requires : tie.Need-stretch-requires Inv-loop μ-loop
 stretch-requires c κs = let u : ℕ = c .before .before .before .before .before .before .args .v - c .before .before .before .before .before .loop .q in
-    (c .before .before .before .before .before .before .pre .starts u (omega arith), c .before .before .before .before .before .before .pre .ends u (omega arith), c .before .before .before .before .before .before .pre .lows-small (c .before .before .before .before .before .loop .q) (omega arith))
+    (c .before .before .before .before .before .before .pre .0 .starts u (omega arith), c .before .before .before .before .before .before .pre .0 .ends u (omega arith), c .before .before .before .before .before .before .pre .0 .lows-small (c .before .before .before .before .before .loop .q) (omega arith))
 
 add-q : tie.Need-add-q Inv-loop μ-loop
 add-q c = search needs
