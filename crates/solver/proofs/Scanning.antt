@@ -15,7 +15,7 @@ use Rattle.spans.specs.Spans.{Span, span, nonempty}
 use Rattle.spans.specs.Solver.{start, stop, cell}
 use Rattle.spans.specs.Jump.{min-if, max-if, nearest, furthest, between, shortfall, near-of, reach-of, cell-short}
 use Rattle.solver.specs.Arrays.{bias, entry, spans-of, row}
-use Rattle.solver.specs.Scan.{put, Ends-ask, Ends-are, Ends-serve, Stretching, Strip-asks, Strip-done, Empty-on}
+use Rattle.solver.specs.Scan.{put, Ends-ask, Ends-are, Ends-serve, Stretching, Strip-asks, Strip-done, none-in, Empty-on}
 use Rattle.solver.specs.declared.Ends.{Ends}
 use Rattle.solver.proofs.Loops.{one-left, none-left}
 use Rattle.spans.proofs.Jump.{cell-ends}
@@ -196,6 +196,12 @@ untried last v empty first end q e h k =
     let m : q < stop last v = omega arith in
     omega arith
 
+within : (last v first q : ℕ) → q < first + (stop last v - first) → first ≤ q → q ≤ v
+within last v first q k h = omega arith
+
+left-of : (first v q : ℕ) → first ≤ q → q ≤ v → v - q + first ≤ v
+left-of first v q h k = omega arith
+
 -- THE SEPARATIONS TRIED: those left out leave totals whose spans in the strip above are empty
 module _ (i least last above empty v from upto first end : ℕ) (lows : List ℕ) (froms uptos : List (List ℕ)) (a : Strip-asks i last above empty v from upto lows froms uptos)
     (s : first ≡ start least last above v) (e : end ≡ min (last + 1) (v + 1 - empty)) where
@@ -218,7 +224,7 @@ module _ (i least last above empty v from upto first end : ℕ) (lows : List ℕ
   above-spans = spans-of (row froms (i + 1)) (row uptos (i + 1))
 
   left-empty : (q : ℕ) → first + (end - first) ≤ q → q < first + (stop last v - first) → nonempty (above-spans (v - q)) ≡ false
-  left-empty q h k = le-ltb (entry (row froms (i + 1)) (v - q)) (entry (row uptos (i + 1)) (v - q)) (a .empties (v - q) (untried last v empty first end q e h k))
+  left-empty q h k = le-ltb (entry (row froms (i + 1)) (v - q)) (entry (row uptos (i + 1)) (v - q)) (a .empties (v - q) (untried last v empty first end q e h k) (left-over (v - q) (left-of first v q (omega arith) (within last v first q k (omega arith)))))
 
   near-tried : (highs : List ℕ) → nearest bias (entry highs) (λ q. above-spans (v - q)) first (end - first) bias ≡ near-of bias bias (entry highs) least last above above-spans v
   near-tried highs = rw (← s) (nearest-cut bias (entry highs) (λ q. above-spans (v - q)) first (end - first) (stop last v - first) bias (rw e (tried-less last v empty first)) left-empty)
@@ -251,14 +257,31 @@ module _ (i least last above empty v from upto first end : ℕ) (lows : List ℕ
   strip-done highs r x y z d p q t = cell-put highs (r .near) (r .reach) (d .span-is) (d .short-is) x y z (ap₂ span p q) t
 
   -- no separation to try
-  pub strip-none : (highs : List ℕ) (x : ℕ) → end ≤ first → x ≡ max from upto →
-      Strip-done lows highs i least last above v (span from upto) froms uptos (put froms i v x) (put uptos i v 0) (2 * bias + 1)
-  unfolding nearest furthest
-  strip-none highs x h p =
+  pub cell-none : (highs : List ℕ) → end ≤ first →
+      (cell bias (entry lows) (entry highs) least last above above-spans (span from upto) v ≡ none-in (span from upto))
+      × (cell-short bias bias (entry lows) (entry highs) least last above above-spans (span from upto) v ≡ 2 * bias + 1)
+  unfolding nearest furthest cell-short
+  cell-none highs h =
       let z : 0 ≡ end - first = none-left end first h in
       let d : _ = ap (λ (m : ℕ). nearest bias (entry highs) (λ q. above-spans (v - q)) first m bias) z in
       let g : _ = ap (λ (m : ℕ). furthest bias (entry lows) (λ q. above-spans (v - q)) first m 0) z in
-      cell-put highs bias 0 (ap₂ (between bias (span from upto)) d g) (ap₂ (shortfall bias (span from upto)) d g) x 0 (2 * bias + 1) (ap₂ span (omega (arith, a .end)) (omega arith)) (omega (arith, a .start))
+      let n : bias ≡ near-of bias bias (entry highs) least last above above-spans v = d ∙ near-tried highs in
+      let r : 0 ≡ reach-of bias (entry lows) least last above above-spans v = g ∙ reach-tried in
+      let s : 2 * bias + 1 ≡ shortfall bias (span from upto) bias 0 = omega (arith, a .start) in
+      let c : none-in (span from upto) ≡ between bias (span from upto) bias 0 = ap₂ span (omega (arith, a .end)) (omega arith) in (
+        sym (c ∙ (ap₂ (between bias (span from upto)) n r ∙ sym (cell-ends bias bias (entry lows) (entry highs) least last above above-spans (span from upto) v (a .end)))),
+        sym (s ∙ ap₂ (shortfall bias (span from upto)) n r),
+      )
+
+  pub strip-none : (highs : List ℕ) (x : ℕ) → end ≤ first → x ≡ max from upto →
+      Strip-done lows highs i least last above v (span from upto) froms uptos (put froms i v x) (put uptos i v 0) (2 * bias + 1)
+  strip-none highs x h p =
+      let c = cell-none highs h in
+      record {
+        from-put = ap (put froms i v) (p ∙ sym (ap (λ (k : Span). k .from) (c .0)));
+        upto-put = ap (put uptos i v) (sym (ap (λ (k : Span). k .upto) (c .0)));
+        short-is = sym (c .1);
+      }
 
 -- a cell that is short is empty
 short-ends : (b from upto near reach : ℕ) → min (upto + b) reach < max from near + 1 + b → min upto (reach - b) ≤ max from near

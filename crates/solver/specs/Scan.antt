@@ -4,7 +4,7 @@ use mathlib.Core.Path.{_≡_}
 use mathlib.Core.Bool.{Bool, true, false}
 use mathlib.Core.Logic.{_⊎_}
 use mathlib.Core.List.{List, []}
-use Prim.Native.Nat.{ℕ, zero, suc, _+_, _-_, _*_, _≤_, _<_, min}
+use Prim.Native.Nat.{ℕ, zero, suc, _+_, _-_, _*_, _≤_, _<_, min, max}
 use lib.Dec.{eqb}
 use lib.ListN.{length, getD, set}
 use Rattle.spans.specs.Spans.{Span, span}
@@ -60,7 +60,7 @@ pub record Strip-asks (i last above empty v from upto : ℕ) (lows : List ℕ) (
   pub lows-small : (q : ℕ) → q ≤ last → entry lows q ≤ 2 * bias
   pub starts : (u : ℕ) → u ≤ v → u ≤ above → entry (row froms (i + 1)) u ≤ bias
   pub ends : (u : ℕ) → u ≤ v → u ≤ above → entry (row uptos (i + 1)) u ≤ bias
-  pub empties : (u : ℕ) → u < empty → entry (row uptos (i + 1)) u ≤ entry (row froms (i + 1)) u
+  pub empties : (u : ℕ) → u < empty → u ≤ above → entry (row uptos (i + 1)) u ≤ entry (row froms (i + 1)) u
 
 -- the cell written, and its shortfall
 pub record Strip-done (lows highs : List ℕ) (i least last above v : ℕ) (w : Span) (froms uptos froms′ uptos′ : List (List ℕ)) (short : ℕ) : Type 0 where
@@ -78,12 +78,24 @@ pub record Empty-on (n v short r : ℕ) : Type 0 where
   pub known : (u : ℕ) → u < r → (u < n) ⊎ ((u ≡ v) × (0 < short))
   pub at-most : n ≤ v → r ≤ suc v
 
--- for each strip so many first totals with an empty span: of totals below v, and for strips from i on of total v
-pub record Empties-are (k v i : ℕ) (froms uptos : List (List ℕ)) (r : List ℕ) : Type 0 where
+-- what stands for the span in the window w of a strip that nothing serves
+abbrev pub none-in : Span → Span
+none-in w = span (max (w .from) (w .upto)) 0
+
+-- each strip below strip i has that span for every total
+pub record Cleared (starts ends : List ℕ) (i : ℕ) (froms uptos : List (List ℕ)) : Type 0 where
+  pub sized-froms : Sized froms
+  pub sized-uptos : Sized uptos
+  pub cleared : (j u : ℕ) → j < i → u < totals-held → span-in froms uptos j u ≡ none-in (spans-of starts ends j)
+
+-- for each strip so many first totals with an empty span: of totals below v, and for strips from i on of total v; what is not scanned yet is cleared
+pub record Empties-are (g : Given) (k v i : ℕ) (froms uptos : List (List ℕ)) (r : List ℕ) : Type 0 where
   pub size : length r ≡ strips-held
   pub empty : (j u : ℕ) → j ≤ k → u < entry r j → entry (row uptos j) u ≤ entry (row froms j) u
   pub earlier : (j : ℕ) → j < i → entry r j ≤ v
   pub here : (j : ℕ) → j ≤ k → entry r j ≤ suc v
+  pub later-cleared : (j u : ℕ) → j < k → v < u → u < totals-held → span-in froms uptos j u ≡ none-in (window-of g j)
+  pub here-cleared : (j : ℕ) → j < i → v < totals-held → span-in froms uptos j v ≡ none-in (window-of g j)
 
 -- the shortfall of strip j's span at the total u, with n + 1 channels above it
 abbrev pub short-of : Given → (j n u : ℕ) → ℕ
@@ -112,6 +124,7 @@ pub record Scanning (g : Given) (k v i : ℕ) (froms uptos : List (List ℕ)) (j
   pub earlier : (j n u : ℕ) → j + n ≡ k → u < v → u ≤ most (levels g j n) → span-in froms uptos j u ≡ back bias (window-of g j) (levels g j n) u
   pub here : (j n : ℕ) → i ≤ j → j + n ≡ k → v ≤ most (levels g j n) → span-in froms uptos j v ≡ back bias (window-of g j) (levels g j n) v
   pub jump-some : 0 < jump
+  pub jump-small : jump ≤ bias
   pub earlier-jump : (j n u : ℕ) → j + suc n ≡ k → u < v → u ≤ most (levels g j (suc n)) → 0 < short-of g j n u → jump ≤ short-of g j n u
   pub here-jump : (j n : ℕ) → i ≤ j → j + suc n ≡ k → v ≤ most (levels g j (suc n)) → 0 < short-of g j n v → jump ≤ short-of g j n v
 
@@ -130,7 +143,7 @@ pub record Total-asks (g : Given) (k v : ℕ) (ls ms es : List ℕ) (froms uptos
   pub mosts : Sums-are (g .counts) k 0 ms
   pub leasts : Leasts-are (g .lows) (g .highs) (g .counts) k ls
   pub tables : Scanning g k v k froms uptos jump
-  pub empties : Empties-are k v k froms uptos es
+  pub empties : Empties-are g k v k froms uptos es
 
 -- k channels whose counts are within the arrays
 pub record Counts-ask (counts : List ℕ) (k : ℕ) : Type 0 where

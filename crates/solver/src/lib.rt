@@ -11,9 +11,9 @@ ghost use lib.ListN.{replicate};
 ghost use lib.Dec.{ltb, eqb};
 ghost use Rattle.spans.specs.Spans.{span, cut, shift-back, shift-on};
 ghost use Rattle.spans.specs.Jump.{min-if, max-if};
-ghost use Rattle.solver.specs.Scan.{Ends-ask, Ends-are, Ends-serve, Strip-asks, Strip-done, Counts-ask, sums, Sums-are, Leasts-are, jump-if, Empty-on, Empties-are, Total-asks, Scanning, Scan-asks, Scan-is};
+ghost use Rattle.solver.specs.Scan.{Ends-ask, Ends-are, Ends-serve, Strip-asks, Strip-done, Counts-ask, sums, Sums-are, Leasts-are, jump-if, Empty-on, Empties-are, Cleared, Total-asks, Scanning, Scan-asks, Scan-is};
 ghost use Rattle.spans.specs.Solver.{first-open, start, stop, first-serving, separations, positions};
-ghost use Rattle.solver.specs.Arrays.{bias, channels-held, strips-held, separations-held, totals-held, entry, spans-of, given, Serve-asks, window-of, levels, tracks, store, Separate-asks, Stack-asks, Starts-are, Next-asks, Position-asks, columns, taken, Place-asks, Placement-is};
+ghost use Rattle.solver.specs.Arrays.{bias, channels-held, strips-held, separations-held, totals-held, entry, spans-of, Sized, given, Serve-asks, window-of, levels, tracks, store, Separate-asks, Stack-asks, Starts-are, Next-asks, Position-asks, columns, taken, Place-asks, Placement-is};
 
 const SEPARATIONS: usize = Stack::MAX_SEPARATION + 1;
 
@@ -473,21 +473,23 @@ fn shorter(jump: u64, short: u64) -> u64
     lesser(jump, short)
 }
 
-// How many first totals have an empty span, count of those below v, where the span for v is short by so much.
-fn count_empty(count: usize, v: usize, short: u64) -> usize
+// How many first totals have an empty span: count or bound of them are known, and the span for v is short by so much.
+fn count_empty(count: usize, bound: usize, v: usize, short: u64) -> usize
     requires { ⌜ v < totals-held ⌝ }
-    ensures { λ r. ⌜ Empty-on count v short r ⌝ }
+    ensures { λ r. ⌜ Empty-on (max count bound) v short r ⌝ }
 {
+    let known = greater(count as u64, bound as u64) as usize;
     if short == 0 {
-        return count;
+        return known;
     }
-    if count < v {
-        return count;
+    if known < v {
+        return known;
     }
     v + 1
 }
 
-// Writes the spans of strips k - 1 to 0 for total v, and answers the jump cut down to their shortfalls.
+// Writes the spans of strips k - 1 to 0 for total v, and answers the jump cut down to their shortfalls. Where no separation leaves a span of the strip
+// above, the spans of this strip and of those below it are empty, as they stand.
 fn scan_total(
     low: &[[u64; SEPARATIONS]; CHANNELS],
     high: &[[u64; SEPARATIONS]; CHANNELS],
@@ -504,12 +506,16 @@ fn scan_total(
     uptos: &mut [[u64; TOTALS]; STRIPS],
 ) -> u64
     requires { ⌜ Total-asks (given (now low) (now high) (now counts) (now from) (now upto)) k v (now leasts) (now sums) (now empties) (now froms) (now uptos) before ⌝ }
-    ensures { λ r. ⌜ Scanning (given (now (low .entry)) (now (high .entry)) (now (counts .entry)) (now (from .entry)) (now (upto .entry))) k v 0 (now (froms .exit)) (now (uptos .exit)) r × Empties-are k v 0 (now (froms .exit)) (now (uptos .exit)) (now (empties .exit)) ⌝ }
+    ensures { λ r. ⌜ Scanning (given (now (low .entry)) (now (high .entry)) (now (counts .entry)) (now (from .entry)) (now (upto .entry))) k v 0 (now (froms .exit)) (now (uptos .exit)) r × Empties-are (given (now (low .entry)) (now (high .entry)) (now (counts .entry)) (now (from .entry)) (now (upto .entry))) k v 0 (now (froms .exit)) (now (uptos .exit)) (now (empties .exit)) ⌝ }
 {
     let mut jump = before;
     let mut i = k;
     while 0 < i {
         i -= 1;
+        let bound = leasts[i] + empties[i + 1];
+        if v < bound {
+            return jump;
+        }
         if v <= sums[i] {
             let short = scan_strip(
                 &low[i],
@@ -525,11 +531,28 @@ fn scan_total(
                 froms,
                 uptos,
             );
-            empties[i] = count_empty(empties[i], v, short);
+            empties[i] = count_empty(empties[i], bound, v, short);
             jump = shorter(jump, short);
         }
     }
     jump
+}
+
+// Gives each strip below strip k an empty span for every total.
+fn clear(
+    from: &[u64; STRIPS],
+    upto: &[u64; STRIPS],
+    k: usize,
+    froms: &mut [[u64; TOTALS]; STRIPS],
+    uptos: &mut [[u64; TOTALS]; STRIPS],
+)
+    requires { ⌜ (k ≤ channels-held) × Sized (now froms) × Sized (now uptos) ⌝ }
+    ensures { λ r. ⌜ Cleared (now (from .entry)) (now (upto .entry)) k (now (froms .exit)) (now (uptos .exit)) ⌝ }
+{
+    for i in 0..k {
+        froms[i] = [greater(from[i], upto[i]); TOTALS];
+        uptos[i] = [0u64; TOTALS];
+    }
 }
 
 // The first total up to cap that can be had, or one more than cap, with the tables of spans for the totals up to it.
@@ -550,6 +573,7 @@ pub fn scan_totals(
     let sums = sums_above(counts, k);
     let leasts = least_opens(low, high, counts, k);
     let above = sums[1];
+    clear(from, upto, k, froms, uptos);
     froms[k][0] = from[k];
     uptos[k][0] = upto[k];
     let mut empties = [0usize; STRIPS];

@@ -14,7 +14,7 @@ use Rattle.solver.proofs.scan_totals.Statement.{statement}
 use Rattle.solver.proofs.scan_totals.Tie as tie
 
 abbrev Inv-loop : tie.InvT-loop
-Inv-loop low high counts from upto k cap froms₀ uptos₀ sums leasts above empties₀ jump₀ v₀ froms uptos empties jump v = (v ≤ cap + 1) × Scanning (given low high counts from upto) k v k froms uptos jump × Searching (λ u. nonempty (back bias (window-of (given low high counts from upto) 0) (levels (given low high counts from upto) 0 k) u)) (suc cap) v (first-total (back bias (window-of (given low high counts from upto) 0) (levels (given low high counts from upto) 0 k)) cap) × Empties-are k v k froms uptos empties
+Inv-loop low high counts from upto k cap froms₀ uptos₀ sums leasts above empties₀ jump₀ v₀ froms uptos empties jump v = (v ≤ cap + 1) × Scanning (given low high counts from upto) k v k froms uptos jump × Searching (λ u. nonempty (back bias (window-of (given low high counts from upto) 0) (levels (given low high counts from upto) 0 k) u)) (suc cap) v (first-total (back bias (window-of (given low high counts from upto) 0) (levels (given low high counts from upto) 0 k)) cap) × Empties-are (given low high counts from upto) k v k froms uptos empties
 
 abbrev μ-loop : tie.MeasureT-loop
 μ-loop low high counts from upto k cap froms₀ uptos₀ sums leasts above empties₀ jump₀ v₀ froms uptos empties jump v = suc cap - v
@@ -27,6 +27,9 @@ least-opens-requires c κs = record { channels = c .before .pre .stack .channels
 
 array-read-above : tie.Need-array-read-above Inv-loop μ-loop
 array-read-above c = search needs
+
+clear-requires : tie.Need-clear-requires Inv-loop μ-loop
+clear-requires c κs = (c .before .before .before .before .pre .stack .channels, c .before .before .before .before .pre .sized-froms, c .before .before .before .before .pre .sized-uptos)
 
 mul-froms : tie.Need-mul-froms Inv-loop μ-loop
 mul-froms c = search needs
@@ -59,11 +62,11 @@ index-2-uptos : tie.Need-index-2-uptos Inv-loop μ-loop
 index-2-uptos c = search needs
 
 loop-holds : tie.Need-loop-holds Inv-loop μ-loop
-loop-holds c = let a = none-yet (given (c .before .before .before .before .args .low .now) (c .before .before .before .before .args .high .now) (c .before .before .before .before .args .counts .now) (c .before .before .before .before .args .from .now) (c .before .before .before .before .args .upto .now)) (c .before .before .before .before .args .k) _ _ _ (c .before .before .before .before .pre) in
-    (omega arith, scanning-start (given (c .before .before .before .before .args .low .now) (c .before .before .before .before .args .high .now) (c .before .before .before .before .args .counts .now) (c .before .before .before .before .args .from .now) (c .before .before .before .before .args .upto .now)) (c .before .before .before .before .args .k) _ _ a, totalling-start _ (c .before .before .before .before .args .cap), empties-start (given (c .before .before .before .before .args .low .now) (c .before .before .before .before .args .high .now) (c .before .before .before .before .args .counts .now) (c .before .before .before .before .args .from .now) (c .before .before .before .before .args .upto .now)) (c .before .before .before .before .args .k) _ _ a)
+loop-holds c = let a = none-yet (given (c .before .before .before .before .before .before .before .args .low .now) (c .before .before .before .before .before .before .before .args .high .now) (c .before .before .before .before .before .before .before .args .counts .now) (c .before .before .before .before .before .before .before .args .from .now) (c .before .before .before .before .before .before .before .args .upto .now)) (c .before .before .before .before .before .before .before .args .k) _ _ _ _ _ (c .before .before .before .before .before .before .before .pre) (c .before .before .clear .ensures) in
+    (omega arith, scanning-start (given (c .before .before .before .before .before .before .before .args .low .now) (c .before .before .before .before .before .before .before .args .high .now) (c .before .before .before .before .before .before .before .args .counts .now) (c .before .before .before .before .before .before .before .args .from .now) (c .before .before .before .before .before .before .before .args .upto .now)) (c .before .before .before .before .before .before .before .args .k) _ _ a, totalling-start _ (c .before .before .before .before .before .before .before .args .cap), empties-start (given (c .before .before .before .before .before .before .before .args .low .now) (c .before .before .before .before .before .before .before .args .high .now) (c .before .before .before .before .before .before .before .args .counts .now) (c .before .before .before .before .before .before .before .args .from .now) (c .before .before .before .before .before .before .before .args .upto .now)) (c .before .before .before .before .before .before .before .args .k) _ _ a (c .before .before .clear .ensures))
 
 scan-total-requires : tie.Need-scan-total-requires Inv-loop μ-loop
-scan-total-requires c κs = record { stack = c .before .before .before .before .before .before .before .before .before .before .before .pre .stack; total = omega (arith, c .before .before .before .before .before .before .before .before .before .before .before .pre .total); mosts = c .before .before .before .before .before .before .before .before .before .before .sums-above .ensures; leasts = c .before .before .before .before .before .before .before .before .before .least-opens .ensures; tables = c .before .before .before .before .before .before .loop .inv .1; empties = c .before .before .before .before .before .before .loop .inv .3 }
+scan-total-requires c κs = record { stack = c .before .before .before .before .before .before .before .before .before .before .before .before .before .before .pre .stack; total = omega (arith, c .before .before .before .before .before .before .before .before .before .before .before .before .before .before .pre .total); mosts = c .before .before .before .before .before .before .before .before .before .before .before .before .before .sums-above .ensures; leasts = c .before .before .before .before .before .before .before .before .before .before .before .before .least-opens .ensures; tables = c .before .before .before .before .before .before .loop .inv .1; empties = c .before .before .before .before .before .before .loop .inv .3 }
 
 mul-if1 : tie.Need-mul-if1 Inv-loop μ-loop
 mul-if1 c = search needs
@@ -84,7 +87,7 @@ index-2-if1-2 : tie.Need-index-2-if1-2 Inv-loop μ-loop
 index-2-if1-2 c = search needs
 
 returns : tie.Need-returns Inv-loop μ-loop
-returns c = scan-found (given (c .before .before .before .before .before .before .before .before .before .before .before .before .before .before .before .args .low .now) (c .before .before .before .before .before .before .before .before .before .before .before .before .before .before .before .args .high .now) (c .before .before .before .before .before .before .before .before .before .before .before .before .before .before .before .args .counts .now) (c .before .before .before .before .before .before .before .before .before .before .before .before .before .before .before .args .from .now) (c .before .before .before .before .before .before .before .before .before .before .before .before .before .before .before .args .upto .now)) (c .before .before .before .before .before .before .before .before .before .before .before .before .before .before .before .args .k) (c .before .before .before .before .before .before .before .before .before .before .before .before .before .before .before .args .cap) (c .before .before .before .before .before .before .before .before .before .before .loop .v) (c .before .before .before .scan-total .result) _ _ (c .before .before .before .scan-total .ensures .0) (c .before .before .before .before .before .before .before .before .before .before .before .before .before .before .before .pre .of-use) (c .before .before .before .before .before .before .before .before .before .loop-test .taken) _ (c .before .before .before .before .before .before .before .before .before .before .loop .inv .2) (c .before .before .before .before .before .before .before .before .before .before .loop .jump) _ _ _ (c .before .before .before .before .before .before .before .before .before .before .loop .inv .1) refl (above-sum (given (c .before .before .before .before .before .before .before .before .before .before .before .before .before .before .before .args .low .now) (c .before .before .before .before .before .before .before .before .before .before .before .before .before .before .before .args .high .now) (c .before .before .before .before .before .before .before .before .before .before .before .before .before .before .before .args .counts .now) (c .before .before .before .before .before .before .before .before .before .before .before .before .before .before .before .args .from .now) (c .before .before .before .before .before .before .before .before .before .before .before .before .before .before .before .args .upto .now)) (c .before .before .before .before .before .before .before .before .before .before .before .before .before .before .before .args .k) _ (c .before .before .before .before .before .before .before .before .before .before .before .before .before .before .before .pre .stack) (c .before .before .before .before .before .before .before .before .before .before .before .before .before .before .sums-above .ensures)) (c .if1 .taken)
+returns c = scan-found (given (c .before .before .before .before .before .before .before .before .before .before .before .before .before .before .before .before .before .before .args .low .now) (c .before .before .before .before .before .before .before .before .before .before .before .before .before .before .before .before .before .before .args .high .now) (c .before .before .before .before .before .before .before .before .before .before .before .before .before .before .before .before .before .before .args .counts .now) (c .before .before .before .before .before .before .before .before .before .before .before .before .before .before .before .before .before .before .args .from .now) (c .before .before .before .before .before .before .before .before .before .before .before .before .before .before .before .before .before .before .args .upto .now)) (c .before .before .before .before .before .before .before .before .before .before .before .before .before .before .before .before .before .before .args .k) (c .before .before .before .before .before .before .before .before .before .before .before .before .before .before .before .before .before .before .args .cap) (c .before .before .before .before .before .before .before .before .before .before .loop .v) (c .before .before .before .scan-total .result) _ _ (c .before .before .before .scan-total .ensures .0) (c .before .before .before .before .before .before .before .before .before .before .before .before .before .before .before .before .before .before .pre .of-use) (c .before .before .before .before .before .before .before .before .before .loop-test .taken) _ (c .before .before .before .before .before .before .before .before .before .before .loop .inv .2) (c .before .before .before .before .before .before .before .before .before .before .loop .jump) _ _ _ (c .before .before .before .before .before .before .before .before .before .before .loop .inv .1) refl (above-sum (given (c .before .before .before .before .before .before .before .before .before .before .before .before .before .before .before .before .before .before .args .low .now) (c .before .before .before .before .before .before .before .before .before .before .before .before .before .before .before .before .before .before .args .high .now) (c .before .before .before .before .before .before .before .before .before .before .before .before .before .before .before .before .before .before .args .counts .now) (c .before .before .before .before .before .before .before .before .before .before .before .before .before .before .before .before .before .before .args .from .now) (c .before .before .before .before .before .before .before .before .before .before .before .before .before .before .before .before .before .before .args .upto .now)) (c .before .before .before .before .before .before .before .before .before .before .before .before .before .before .before .before .before .before .args .k) _ (c .before .before .before .before .before .before .before .before .before .before .before .before .before .before .before .before .before .before .pre .stack) (c .before .before .before .before .before .before .before .before .before .before .before .before .before .before .before .before .before .sums-above .ensures)) (c .if1 .taken)
 
 add-v : tie.Need-add-v Inv-loop μ-loop
 add-v c = search needs
@@ -93,10 +96,10 @@ loop-less : tie.Need-loop-less Inv-loop μ-loop
 loop-less c = search needs
 
 loop-again : tie.Need-loop-again Inv-loop μ-loop
-loop-again c = (omega arith, scanning-next (given (c .before .before .before .before .before .before .before .before .before .before .before .before .before .before .before .args .low .now) (c .before .before .before .before .before .before .before .before .before .before .before .before .before .before .before .args .high .now) (c .before .before .before .before .before .before .before .before .before .before .before .before .before .before .before .args .counts .now) (c .before .before .before .before .before .before .before .before .before .before .before .before .before .before .before .args .from .now) (c .before .before .before .before .before .before .before .before .before .before .before .before .before .before .before .args .upto .now)) (c .before .before .before .before .before .before .before .before .before .before .before .before .before .before .before .args .k) (c .before .before .before .before .before .before .before .before .before .before .before .before .before .before .before .args .cap) (c .before .before .before .before .before .before .before .before .before .before .loop .v) (c .before .before .before .scan-total .result) _ _ (c .before .before .before .scan-total .ensures .0), totals-miss (given (c .before .before .before .before .before .before .before .before .before .before .before .before .before .before .before .args .low .now) (c .before .before .before .before .before .before .before .before .before .before .before .before .before .before .before .args .high .now) (c .before .before .before .before .before .before .before .before .before .before .before .before .before .before .before .args .counts .now) (c .before .before .before .before .before .before .before .before .before .before .before .before .before .before .before .args .from .now) (c .before .before .before .before .before .before .before .before .before .before .before .before .before .before .before .args .upto .now)) (c .before .before .before .before .before .before .before .before .before .before .before .before .before .before .before .args .k) (c .before .before .before .before .before .before .before .before .before .before .before .before .before .before .before .args .cap) (c .before .before .before .before .before .before .before .before .before .before .loop .v) (c .before .before .before .scan-total .result) _ _ (c .before .before .before .scan-total .ensures .0) (c .before .before .before .before .before .before .before .before .before .before .before .before .before .before .before .pre .of-use) (c .before .before .before .before .before .before .before .before .before .loop-test .taken) _ (c .before .before .before .before .before .before .before .before .before .before .loop .inv .2) (c .if1 .left), empties-next (c .before .before .before .before .before .before .before .before .before .before .before .before .before .before .before .args .k) (c .before .before .before .before .before .before .before .before .before .before .loop .v) _ _ _ (c .before .before .before .scan-total .ensures .1))
+loop-again c = (omega arith, scanning-next (given (c .before .before .before .before .before .before .before .before .before .before .before .before .before .before .before .before .before .before .args .low .now) (c .before .before .before .before .before .before .before .before .before .before .before .before .before .before .before .before .before .before .args .high .now) (c .before .before .before .before .before .before .before .before .before .before .before .before .before .before .before .before .before .before .args .counts .now) (c .before .before .before .before .before .before .before .before .before .before .before .before .before .before .before .before .before .before .args .from .now) (c .before .before .before .before .before .before .before .before .before .before .before .before .before .before .before .before .before .before .args .upto .now)) (c .before .before .before .before .before .before .before .before .before .before .before .before .before .before .before .before .before .before .args .k) (c .before .before .before .before .before .before .before .before .before .before .before .before .before .before .before .before .before .before .args .cap) (c .before .before .before .before .before .before .before .before .before .before .loop .v) (c .before .before .before .scan-total .result) _ _ (c .before .before .before .scan-total .ensures .0), totals-miss (given (c .before .before .before .before .before .before .before .before .before .before .before .before .before .before .before .before .before .before .args .low .now) (c .before .before .before .before .before .before .before .before .before .before .before .before .before .before .before .before .before .before .args .high .now) (c .before .before .before .before .before .before .before .before .before .before .before .before .before .before .before .before .before .before .args .counts .now) (c .before .before .before .before .before .before .before .before .before .before .before .before .before .before .before .before .before .before .args .from .now) (c .before .before .before .before .before .before .before .before .before .before .before .before .before .before .before .before .before .before .args .upto .now)) (c .before .before .before .before .before .before .before .before .before .before .before .before .before .before .before .before .before .before .args .k) (c .before .before .before .before .before .before .before .before .before .before .before .before .before .before .before .before .before .before .args .cap) (c .before .before .before .before .before .before .before .before .before .before .loop .v) (c .before .before .before .scan-total .result) _ _ (c .before .before .before .scan-total .ensures .0) (c .before .before .before .before .before .before .before .before .before .before .before .before .before .before .before .before .before .before .pre .of-use) (c .before .before .before .before .before .before .before .before .before .loop-test .taken) _ (c .before .before .before .before .before .before .before .before .before .before .loop .inv .2) (c .if1 .left), empties-next (given (c .before .before .before .before .before .before .before .before .before .before .before .before .before .before .before .before .before .before .args .low .now) (c .before .before .before .before .before .before .before .before .before .before .before .before .before .before .before .before .before .before .args .high .now) (c .before .before .before .before .before .before .before .before .before .before .before .before .before .before .before .before .before .before .args .counts .now) (c .before .before .before .before .before .before .before .before .before .before .before .before .before .before .before .before .before .before .args .from .now) (c .before .before .before .before .before .before .before .before .before .before .before .before .before .before .before .before .before .before .args .upto .now)) (c .before .before .before .before .before .before .before .before .before .before .before .before .before .before .before .before .before .before .args .k) (c .before .before .before .before .before .before .before .before .before .before .loop .v) _ _ _ (c .before .before .before .scan-total .ensures .1))
 
 returns-2 : tie.Need-returns-2 Inv-loop μ-loop
-returns-2 c = scan-none (given (c .before .before .before .before .before .before .args .low .now) (c .before .before .before .before .before .before .args .high .now) (c .before .before .before .before .before .before .args .counts .now) (c .before .before .before .before .before .before .args .from .now) (c .before .before .before .before .before .before .args .upto .now)) (c .before .before .before .before .before .before .args .k) (c .before .before .before .before .before .before .args .cap) (c .before .loop .v) _ (c .before .loop .jump) _ _ (above-sum (given (c .before .before .before .before .before .before .args .low .now) (c .before .before .before .before .before .before .args .high .now) (c .before .before .before .before .before .before .args .counts .now) (c .before .before .before .before .before .before .args .from .now) (c .before .before .before .before .before .before .args .upto .now)) (c .before .before .before .before .before .before .args .k) _ (c .before .before .before .before .before .before .pre .stack) (c .before .before .before .before .before .sums-above .ensures)) (c .loop-test .left) (c .before .loop .inv .0) (c .before .loop .inv .1) (c .before .loop .inv .2)
+returns-2 c = scan-none (given (c .before .before .before .before .before .before .before .before .before .args .low .now) (c .before .before .before .before .before .before .before .before .before .args .high .now) (c .before .before .before .before .before .before .before .before .before .args .counts .now) (c .before .before .before .before .before .before .before .before .before .args .from .now) (c .before .before .before .before .before .before .before .before .before .args .upto .now)) (c .before .before .before .before .before .before .before .before .before .args .k) (c .before .before .before .before .before .before .before .before .before .args .cap) (c .before .loop .v) _ (c .before .loop .jump) _ _ (above-sum (given (c .before .before .before .before .before .before .before .before .before .args .low .now) (c .before .before .before .before .before .before .before .before .before .args .high .now) (c .before .before .before .before .before .before .before .before .before .args .counts .now) (c .before .before .before .before .before .before .before .before .before .args .from .now) (c .before .before .before .before .before .before .before .before .before .args .upto .now)) (c .before .before .before .before .before .before .before .before .before .args .k) _ (c .before .before .before .before .before .before .before .before .before .pre .stack) (c .before .before .before .before .before .before .before .before .sums-above .ensures)) (c .loop-test .left) (c .before .loop .inv .0) (c .before .loop .inv .1) (c .before .loop .inv .2)
 
 pub scan-totals-spec : {M : Type 1} → statement M
 scan-totals-spec =
@@ -107,6 +110,7 @@ scan-totals-spec =
     sums-above-requires
     least-opens-requires
     array-read-above
+    clear-requires
     mul-froms
     element-copy-out-froms
     mul-froms-2
