@@ -16,7 +16,7 @@ use Rattle.spans.specs.Spans.{Span, span, nonempty}
 use Rattle.spans.specs.Solver.{first, opens, first-open, most, start, stop, cell, back, first-total}
 use Rattle.spans.specs.Jump.{nearest, furthest, near-of, reach-of, shortfall, cell-short, short-at, None-within}
 use Rattle.solver.specs.Arrays.{bias, channels-held, strips-held, separations-held, totals-held, entry, spans-of, row, Sized, span-in, Given, low-of, high-of, count-of, window-of, level-of, levels, Stack-asks, Filled}
-use Rattle.solver.specs.Scan.{put, Strip-asks, Strip-done, jump-if, short-of, Empty-on, none-in, Cleared, Empties-are, sums, Sums-are, Leasts-are, Counts-ask, Scanning, Total-asks, Scan-asks, Scan-is}
+use Rattle.solver.specs.Scan.{put, Strip-asks, Strip-done, jump-if, short-of, Empty-on, none-in, Row-is, Cleared, Only-at, Empties-are, sums, Sums-are, Leasts-are, Counts-ask, Scanning, Total-asks, Scan-asks, Scan-is}
 use Rattle.solver.specs.Loops.{Searching}
 use Rattle.solver.proofs.Loops.{searching-hit, searching-miss, searching-end, totalling-start, ends-full, ends-empty}
 use Rattle.solver.proofs.Tables.{put-same, put-apart, sized-put}
@@ -128,45 +128,49 @@ module _ (g : Given) (i n v : ℕ) (f : ℕ → Span) where
 pub above-sum : (g : Given) (k : ℕ) (r : List ℕ) → Stack-asks g k → Sums-are (g .counts) k 0 r → entry r 1 ≡ most (levels g 1 (k - 1))
 above-sum g k r a s = s .sums-are 1 (k - 1) (omega arith) (omega (arith, a .some)) ∙ sym (most-sums g 1 (k - 1))
 
--- THE TABLES CLEARED, strip by strip
-pub clear-start : (starts ends : List ℕ) (froms uptos : List (List ℕ)) → Sized froms → Sized uptos → Cleared starts ends 0 froms uptos
-clear-start starts ends froms uptos s t = record { sized-froms = s; sized-uptos = t; cleared = λ j u h l. absurd (omega arith) }
+-- THE TABLES CLEARED, row by row
+pub row-start : (x : ℕ) (r : List ℕ) → length r ≡ totals-held → Row-is x 0 r
+row-start x r h = record { size = h; written = λ u l. absurd (omega arith) }
 
-module _ (t : List (List ℕ)) (s : Sized t) (i x : ℕ) (h : i < strips-held) where
-  abbrev filled : List (List ℕ)
-  filled = set t i (replicate totals-held x)
+pub row-step : (x n : ℕ) (r : List ℕ) → n < totals-held → Row-is x n r → Row-is x (n + 1) (set r n x)
+row-step x n r h s = record { size = length-set r n x ∙ s .size; written = λ u l. go u (lt-or-eq u n (omega arith)) }
+  where
+    go : (u : ℕ) → (u < n) ⊎ (u ≡ n) → entry (set r n x) u ≡ x
+    go u (inl l) = getD-set-other r n u x 0 (omega arith) ∙ s .written u l
+    go u (inr e) = rw e (getD-set-same r n x 0 (omega (arith, s .size)))
 
-  row-filled : row filled i ≡ replicate totals-held x
-  row-filled = getD-set-same t i (replicate totals-held x) [] (omega (arith, s .rows))
+pub clear-start : (starts ends : List ℕ) (cap : ℕ) (froms uptos : List (List ℕ)) → Sized froms → Sized uptos → Cleared starts ends 0 0 cap froms uptos
+clear-start starts ends cap froms uptos s t = record { sized-froms = s; sized-uptos = t; cleared = λ j u h l m. absurd (omega arith) }
 
-  fill-same : (u : ℕ) → u < totals-held → entry (row filled i) u ≡ x
-  fill-same u l = rw row-filled (getD-replicate totals-held u x 0 l)
+module _ (t : List (List ℕ)) (s : Sized t) (i x n : ℕ) (r : List ℕ) (h : i < strips-held) (f : Row-is x n r) where
+  fill-same : (u : ℕ) → u < n → entry (row (set t i r) i) u ≡ x
+  fill-same u l = rw (getD-set-same t i r [] (omega (arith, s .rows))) (f .written u l)
 
-  fill-other : (j : ℕ) → (j ≡ i → ⊥) → row filled j ≡ row t j
-  fill-other j n = getD-set-other t i j (replicate totals-held x) [] n
+  fill-other : (j : ℕ) → (j ≡ i → ⊥) → row (set t i r) j ≡ row t j
+  fill-other j n = getD-set-other t i j r [] n
 
-  sized-fill : Sized filled
-  sized-fill = record { rows = length-set t i (replicate totals-held x) ∙ s .rows; cells = λ j k. go j k (eq-or-not j i) }
+  sized-fill : Sized (set t i r)
+  sized-fill = record { rows = length-set t i r ∙ s .rows; cells = λ j k. go j k (eq-or-not j i) }
     where
-      go : (j : ℕ) → j < strips-held → (j ≡ i) ⊎ (j ≡ i → ⊥) → length (row filled j) ≡ totals-held
-      go j k (inl e) = rw (e, row-filled) (length-replicate totals-held x)
+      go : (j : ℕ) → j < strips-held → (j ≡ i) ⊎ (j ≡ i → ⊥) → length (row (set t i r) j) ≡ totals-held
+      go j k (inl e) = rw (e, getD-set-same t i r [] (omega (arith, s .rows))) (f .size)
       go j k (inr n) = rw (fill-other j n) (s .cells j k)
 
-pub clear-step : (starts ends : List ℕ) (i x : ℕ) (froms uptos : List (List ℕ)) → i < strips-held → Cleared starts ends i froms uptos →
-    x ≡ max (entry starts i) (entry ends i) → Cleared starts ends (i + 1) (set froms i (replicate totals-held x)) (set uptos i (replicate totals-held 0))
-clear-step starts ends i x froms uptos h c e =
+pub clear-step : (starts ends : List ℕ) (i cap x : ℕ) (froms uptos : List (List ℕ)) (r e : List ℕ) → i < strips-held → Cleared starts ends i 0 cap froms uptos →
+    x ≡ max (entry starts i) (entry ends i) → Row-is x (cap + 1) r → Row-is 0 (cap + 1) e → Cleared starts ends (i + 1) 0 cap (set froms i r) (set uptos i e)
+clear-step starts ends i cap x froms uptos r e h c p f g =
     record {
-      sized-froms = sized-fill froms (c .sized-froms) i x h;
-      sized-uptos = sized-fill uptos (c .sized-uptos) i 0 h;
-      cleared = λ j u l m. go j u m (lt-or-eq j i (omega arith));
+      sized-froms = sized-fill froms (c .sized-froms) i x (cap + 1) r h f;
+      sized-uptos = sized-fill uptos (c .sized-uptos) i 0 (cap + 1) e h g;
+      cleared = λ j u l m o. go j u m o (lt-or-eq j i (omega arith));
     }
   where
-    go : (j u : ℕ) → u < totals-held → (j < i) ⊎ (j ≡ i) → span-in (set froms i (replicate totals-held x)) (set uptos i (replicate totals-held 0)) j u ≡ none-in (spans-of starts ends j)
-    go j u m (inl l) =
-        rw (fill-other froms (c .sized-froms) i x h j (omega arith), fill-other uptos (c .sized-uptos) i 0 h j (omega arith)) (c .cleared j u l m)
-    go j u m (inr l) = rw l (ap₂ span (fill-same froms (c .sized-froms) i x h u m ∙ e) (fill-same uptos (c .sized-uptos) i 0 h u m))
+    go : (j u : ℕ) → 0 ≤ u → u ≤ cap → (j < i) ⊎ (j ≡ i) → span-in (set froms i r) (set uptos i e) j u ≡ none-in (spans-of starts ends j)
+    go j u m o (inl l) =
+        rw (fill-other froms (c .sized-froms) i x (cap + 1) r h f j (omega arith), fill-other uptos (c .sized-uptos) i 0 (cap + 1) e h g j (omega arith)) (c .cleared j u l m o)
+    go j u m o (inr l) = rw l (ap₂ span (fill-same froms (c .sized-froms) i x (cap + 1) r h f u (omega arith) ∙ p) (fill-same uptos (c .sized-uptos) i 0 (cap + 1) e h g u (omega arith)))
 
-pub none-yet : (g : Given) (k cap : ℕ) (froms₀ uptos₀ froms uptos : List (List ℕ)) → Scan-asks g k cap froms₀ uptos₀ → Cleared (g .froms) (g .uptos) k froms uptos → Scan-asks g k 0 froms uptos
+pub none-yet : (g : Given) (k cap : ℕ) (froms₀ uptos₀ froms uptos : List (List ℕ)) → Scan-asks g k cap froms₀ uptos₀ → Cleared (g .froms) (g .uptos) k 0 cap froms uptos → Scan-asks g k 0 froms uptos
 none-yet g k cap froms₀ uptos₀ froms uptos a c =
     record { stack = a .stack; total = omega arith; of-use = omega arith; sized-froms = c .sized-froms; sized-uptos = c .sized-uptos }
 
@@ -197,24 +201,27 @@ module _ (g : Given) (k : ℕ) (froms uptos : List (List ℕ)) (a : Scan-asks g 
         here-jump = λ j n h e m t. absurd (omega arith);
       }
 
-  pub empties-start : Cleared (g .froms) (g .uptos) k froms uptos → Empties-are g k 0 k top-froms top-uptos (replicate strips-held 0)
-  empties-start c =
+  pub empties-start : Empties-are k 0 k top-froms top-uptos (replicate strips-held 0)
+  empties-start =
       record {
         size = refl;
         empty = λ j u h l. absurd (omega (arith, none j h));
         earlier = λ j h. omega (arith, none j (omega arith));
         here = λ j h. omega (arith, none j h);
-        later-cleared = λ j u h m l. still j u h l;
-        here-cleared = λ j h l. still j 0 h l;
       }
     where
       none : (j : ℕ) → j ≤ k → entry (replicate strips-held 0) j ≡ 0
       none j h = getD-replicate strips-held j 0 0 (omega (arith, a .stack .channels))
 
-      still : (j u : ℕ) → j < k → u < totals-held → span-in top-froms top-uptos j u ≡ none-in (window-of g j)
-      still j u h l =
-          ap₂ span (put-apart froms (a .sized-froms) k 0 _ (omega (arith, a .stack .channels)) j u (λ p q. omega arith)) (put-apart uptos (a .sized-uptos) k 0 _ (omega (arith, a .stack .channels)) j u (λ p q. omega arith))
-          ∙ c .cleared j u h l
+  pub cleared-start : (cap : ℕ) → Cleared (g .froms) (g .uptos) k 0 cap froms uptos → Cleared (g .froms) (g .uptos) k 0 cap top-froms top-uptos
+  cleared-start cap c =
+      record {
+        sized-froms = sized-put froms (a .sized-froms) k 0 _ (omega (arith, a .stack .channels));
+        sized-uptos = sized-put uptos (a .sized-uptos) k 0 _ (omega (arith, a .stack .channels));
+        cleared = λ j u h m l.
+            ap₂ span (put-apart froms (a .sized-froms) k 0 _ (omega (arith, a .stack .channels)) j u (λ p q. omega arith)) (put-apart uptos (a .sized-uptos) k 0 _ (omega (arith, a .stack .channels)) j u (λ p q. omega arith))
+            ∙ c .cleared j u h m l;
+      }
 
 positive : {j : ℕ} (n : ℕ) → (n ≡ 0 → ⊥) → 0 < j → 0 < min j n
 positive zero h l = absurd (h refl)
@@ -230,16 +237,15 @@ lt-or-le x y = go (le-or-lt y x)
 nothing-tried : (least last above empty u : ℕ) → u < least + empty → min (last + 1) (u + 1 - empty) ≤ start least last above u
 nothing-tried least last above empty u h = let k : u + 1 - empty ≤ least = omega arith in omega arith
 
-empties-below : (g : Given) (k v i j : ℕ) (froms uptos : List (List ℕ)) (es : List ℕ) → j ≤ i → Empties-are g k v i froms uptos es → Empties-are g k v j froms uptos es
-empties-below g k v i j froms uptos es h m =
-    record {
-      size = m .size;
-      empty = m .empty;
-      earlier = λ p l. m .earlier p (omega arith);
-      here = m .here;
-      later-cleared = m .later-cleared;
-      here-cleared = λ p l q. m .here-cleared p (omega arith) q;
-    }
+empties-below : (k v i j : ℕ) (froms uptos : List (List ℕ)) (es : List ℕ) → j ≤ i → Empties-are k v i froms uptos es → Empties-are k v j froms uptos es
+empties-below k v i j froms uptos es h m = record { size = m .size; empty = m .empty; earlier = λ p l. m .earlier p (omega arith); here = m .here }
+
+-- tables before a total, and as strips are written
+pub only-start : (v i : ℕ) (froms uptos : List (List ℕ)) → Only-at v i froms uptos froms uptos
+only-start v i froms uptos = record { kept = λ j u n. refl }
+
+pub only-below : (v i j : ℕ) (froms₀ uptos₀ froms uptos : List (List ℕ)) → j ≤ i → Only-at v i froms₀ uptos₀ froms uptos → Only-at v j froms₀ uptos₀ froms uptos
+only-below v i j froms₀ uptos₀ froms uptos h o = record { kept = λ p u n. o .kept p u (λ l e. n (omega arith) e) }
 
 -- one strip more, strip j under strip i
 module _ (g : Given) (k v i j : ℕ) (froms uptos : List (List ℕ)) (jump : ℕ) (a : Stack-asks g k) (s : Scanning g k v i froms uptos jump) (below : j + 1 ≡ i) (h : i ≤ k) where
@@ -344,7 +350,7 @@ module _ (g : Given) (k v i j : ℕ) (froms uptos : List (List ℕ)) (jump : ℕ
             go (inr o) = rw o clear
 
     module _ (used : v ≤ last + above) where
-      pub strip-asks : (es : List ℕ) → Empties-are g k v i froms uptos es → v < totals-held →
+      pub strip-asks : (es : List ℕ) → Empties-are k v i froms uptos es → v < totals-held →
           Strip-asks j last above (entry es (j + 1)) v (entry (g .froms) j) (entry (g .uptos) j) (row (g .lows) j) froms uptos
       strip-asks es m t = asks-at (entry es (j + 1)) (λ u l o. m .empty (j + 1) u (omega arith) l) t v (omega arith) used
 
@@ -399,22 +405,23 @@ module _ (g : Given) (k v i j : ℕ) (froms uptos : List (List ℕ)) (jump : ℕ
                 let y : 0 < short = omega (arith, short-is, rw (← l, z) at x) in
                 rw (← l, z) (omega (arith, short-is, jump-short (eqb short 0) refl y))
 
+        pub only-strip : (froms₀ uptos₀ : List (List ℕ)) → Only-at v i froms₀ uptos₀ froms uptos → Only-at v j froms₀ uptos₀ froms′ uptos′
+        only-strip froms₀ uptos₀ o = record { kept = λ p u m. kept p u (λ e q. m (omega arith) q) ∙ o .kept p u (λ l q. m (omega arith) q) }
+
         short-here : 0 < short → entry (row uptos′ j) v ≤ entry (row froms′ j) v
         short-here x =
             let e = short-empty (low-of g j) (high-of g j) least last above f (window-of g j) v (a .ends j (omega arith)) (rw (d .short-is) at x) in
             rw (d .from-put, d .upto-put)
             (omega (arith, put-same froms (s .sized-froms) j v (cell bias (low-of g j) (high-of g j) least last above f (window-of g j) v .from) (omega (arith, a .channels)) t, put-same uptos (s .sized-uptos) j v (cell bias (low-of g j) (high-of g j) least last above f (window-of g j) v .upto) (omega (arith, a .channels)) t))
 
-        pub empties-strip : (es : List ℕ) (x : ℕ) → Empties-are g k v i froms uptos es → least + entry es (j + 1) ≤ v → Empty-on (max (entry es j) (least + entry es (j + 1))) v short x →
-            Empties-are g k v j froms′ uptos′ (set es j x)
+        pub empties-strip : (es : List ℕ) (x : ℕ) → Empties-are k v i froms uptos es → least + entry es (j + 1) ≤ v → Empty-on (max (entry es j) (least + entry es (j + 1))) v short x →
+            Empties-are k v j froms′ uptos′ (set es j x)
         empties-strip es x m b o =
             record {
               size = length-set es j x ∙ m .size;
               empty = λ p u l q. go p u l q (eq-or-not p j);
               earlier = λ p l. rw (getD-set-other es j p x 0 (omega arith)) (m .earlier p (omega arith));
               here = λ p l. bound p l (eq-or-not p j);
-              later-cleared = λ p u l q w. kept p u (λ y z. omega arith) ∙ m .later-cleared p u l q w;
-              here-cleared = λ p l q. kept p v (λ y z. omega arith) ∙ m .here-cleared p (omega arith) q;
             }
           where
             written : entry (set es j x) j ≡ x
@@ -448,9 +455,6 @@ module _ (g : Given) (k v i j : ℕ) (froms uptos : List (List ℕ)) (jump : ℕ
             bound : (p : ℕ) → p ≤ k → (p ≡ j) ⊎ (p ≡ j → ⊥) → entry (set es j x) p ≤ suc v
             bound p l (inl e) = rw (e, written) (o .at-most (omega (arith, m .earlier j (omega arith))))
             bound p l (inr n) = rw (getD-set-other es j p x 0 n) (m .here p l)
-
-  pub empties-skip : (es : List ℕ) → Empties-are g k v i froms uptos es → Empties-are g k v j froms uptos es
-  empties-skip es m = empties-below g k v i j froms uptos es (omega arith) m
 
   -- a strip for which the total is beyond use
   pub scanning-skip : most (levels g j (suc n)) < v → Scanning g k v j froms uptos jump
@@ -499,16 +503,18 @@ scanning-bottom g k v (suc j) froms uptos jump a t h s c e =
         (λ u l m. rw (add-one j) (e u l m)) t (omega arith) (c j (omega arith))
 
 -- THE LOOP OVER TOTALS
-pub empties-next : (g : Given) (k v : ℕ) (froms uptos : List (List ℕ)) (es : List ℕ) → Empties-are g k v 0 froms uptos es → Empties-are g k (v + 1) k froms uptos es
-empties-next g k v froms uptos es m =
-    record {
-      size = m .size;
-      empty = m .empty;
-      earlier = λ j l. omega (arith, m .here j (omega arith));
-      here = λ j l. omega (arith, m .here j l);
-      later-cleared = λ j u l i o. m .later-cleared j u l (omega arith) o;
-      here-cleared = λ j l h. m .later-cleared j (v + 1) l (omega arith) h;
-    }
+pub empties-next : (k v : ℕ) (froms uptos : List (List ℕ)) (es : List ℕ) → Empties-are k v 0 froms uptos es → Empties-are k (v + 1) k froms uptos es
+empties-next k v froms uptos es m =
+    record { size = m .size; empty = m .empty; earlier = λ j l. omega (arith, m .here j (omega arith)); here = λ j l. omega (arith, m .here j l) }
+
+pub cleared-here : (starts ends : List ℕ) (k v cap : ℕ) (froms uptos : List (List ℕ)) → v ≤ cap → Cleared starts ends k v cap froms uptos → Cleared starts ends k v v froms uptos
+cleared-here starts ends k v cap froms uptos h c =
+    record { sized-froms = c .sized-froms; sized-uptos = c .sized-uptos; cleared = λ j u l m o. c .cleared j u l m (omega arith) }
+
+pub cleared-next : (starts ends : List ℕ) (k v cap : ℕ) (froms uptos froms′ uptos′ : List (List ℕ)) → Sized froms′ → Sized uptos′ → Only-at v 0 froms uptos froms′ uptos′ →
+    Cleared starts ends k v cap froms uptos → Cleared starts ends k (v + 1) cap froms′ uptos′
+cleared-next starts ends k v cap froms uptos froms′ uptos′ s t o c =
+    record { sized-froms = s; sized-uptos = t; cleared = λ j u l m n. o .kept j u (λ p q. omega arith) ∙ c .cleared j u l (omega arith) n }
 
 module _ (g : Given) (k cap : ℕ) where
   abbrev bottom-span : ℕ → Span
@@ -582,7 +588,7 @@ module _ (g : Given) (k cap : ℕ) where
 
 -- THE LOOP OVER STRIPS, as the code goes: from strip i to strip i - 1
 module _ (g : Given) (k v : ℕ) (ls ms es₀ : List ℕ) (froms₀ uptos₀ : List (List ℕ)) (before : ℕ) (t : Total-asks g k v ls ms es₀ froms₀ uptos₀ before)
-    (i : ℕ) (froms uptos : List (List ℕ)) (jump : ℕ) (es : List ℕ) (some : 0 < i) (inside : i ≤ k) (s : Scanning g k v i froms uptos jump) (m : Empties-are g k v i froms uptos es) where
+    (i : ℕ) (froms uptos : List (List ℕ)) (jump : ℕ) (es : List ℕ) (some : 0 < i) (inside : i ≤ k) (s : Scanning g k v i froms uptos jump) (m : Empties-are k v i froms uptos es) (o : Only-at v i froms₀ uptos₀ froms uptos) where
   abbrev j : ℕ
   j = i - 1
 
@@ -617,31 +623,37 @@ module _ (g : Given) (k v : ℕ) (ls ms es₀ : List ℕ) (froms₀ uptos₀ : L
   pub total-strip : v ≤ entry ms j → bound ≤ v → (froms′ uptos′ : List (List ℕ)) (short next empty : ℕ) →
       Strip-done (row (g .lows) j) (row (g .highs) j) j (entry ls j) (count-of g j) (entry ms (j + 1)) v (window-of g j) froms uptos froms′ uptos′ short →
       Empty-on (max (entry es j) bound) v short empty → next ≡ jump-if (eqb short 0) jump short →
-      Scanning g k v j froms′ uptos′ next × Empties-are g k v j froms′ uptos′ (set es j empty)
-  total-strip h b froms′ uptos′ short next empty d o e = (
+      Scanning g k v j froms′ uptos′ next × Empties-are k v j froms′ uptos′ (set es j empty) × Only-at v j froms₀ uptos₀ froms′ uptos′
+  total-strip h b froms′ uptos′ short next empty d x e = (
     rw e
         (scanning-strip g k v i j froms uptos jump (t .stack) s strip-below inside (entry ls j) (count-of g j) (entry ms (j + 1)) least-of refl above-of (used-of h) froms′ uptos′ short d (t .total)),
-    empties-strip g k v i j froms uptos jump (t .stack) s strip-below inside (entry ls j) (count-of g j) (entry ms (j + 1)) least-of refl above-of (used-of h) froms′ uptos′ short d (t .total) es empty m b o,
+    empties-strip g k v i j froms uptos jump (t .stack) s strip-below inside (entry ls j) (count-of g j) (entry ms (j + 1)) least-of refl above-of (used-of h) froms′ uptos′ short d (t .total) es empty m b x,
+    only-strip g k v i j froms uptos jump (t .stack) s strip-below inside (entry ls j) (count-of g j) (entry ms (j + 1)) least-of refl above-of (used-of h) froms′ uptos′ short d (t .total) froms₀ uptos₀ o,
   )
 
-  pub total-skip : entry ms j < v → Scanning g k v j froms uptos jump × Empties-are g k v j froms uptos es
+  pub total-skip : entry ms j < v → Scanning g k v j froms uptos jump × Empties-are k v j froms uptos es × Only-at v j froms₀ uptos₀ froms uptos
   total-skip h = (
     scanning-skip g k v i j froms uptos jump (t .stack) s strip-below inside (omega (arith, most-of)),
-    empties-skip g k v i j froms uptos jump (t .stack) s strip-below inside es m,
+    empties-below k v i j froms uptos es (omega arith) m,
+    only-below v i j froms₀ uptos₀ froms uptos (omega arith) o,
   )
 
   -- nothing is left for this strip, nor for those below
-  pub total-none : v < bound → Scanning g k v 0 froms uptos jump × Empties-are g k v 0 froms uptos es
+  pub total-none : v < bound → Scanning g k v 0 froms uptos jump × Empties-are k v 0 froms uptos es × Only-at v 0 froms₀ uptos₀ froms uptos
   total-none b =
       let z : suc (k - i) ≡ k - j = omega arith in (
         scanning-bottom g k v j froms uptos jump (t .stack) (t .total) (omega arith)
-            (scanning-none g k v i j froms uptos jump (t .stack) s strip-below inside (entry ls j) (count-of g j) (entry ms (j + 1)) least-of refl above-of (entry es (j + 1)) above-empty (t .total) b (m .here-cleared j (omega arith) (t .total)))
-            (λ p l. m .here-cleared p (omega arith) (t .total))
-            (λ u l o.
-            none-here g k v i j froms uptos jump (t .stack) s strip-below inside (entry ls j) (count-of g j) (entry ms (j + 1)) least-of refl above-of (entry es (j + 1)) above-empty (t .total) b (m .here-cleared j (omega arith) (t .total)) u l
-            (rw (← z) at o)),
-        empties-below g k v i 0 froms uptos es (omega arith) m,
+            (scanning-none g k v i j froms uptos jump (t .stack) s strip-below inside (entry ls j) (count-of g j) (entry ms (j + 1)) least-of refl above-of (entry es (j + 1)) above-empty (t .total) b (clear-of j (omega arith)))
+            (λ p l. clear-of p (omega arith))
+            (λ u l q.
+            none-here g k v i j froms uptos jump (t .stack) s strip-below inside (entry ls j) (count-of g j) (entry ms (j + 1)) least-of refl above-of (entry es (j + 1)) above-empty (t .total) b (clear-of j (omega arith)) u l
+            (rw (← z) at q)),
+        empties-below k v i 0 froms uptos es (omega arith) m,
+        only-below v i 0 froms₀ uptos₀ froms uptos (omega arith) o,
       )
     where
       above-empty : (u : ℕ) → u < entry es (j + 1) → u ≤ entry ms (j + 1) → entry (row uptos (j + 1)) u ≤ entry (row froms (j + 1)) u
-      above-empty u l o = m .empty (j + 1) u (omega arith) l
+      above-empty u l q = m .empty (j + 1) u (omega arith) l
+
+      clear-of : (p : ℕ) → p < i → span-in froms uptos p v ≡ none-in (window-of g p)
+      clear-of p l = o .kept p v (λ q e. omega arith) ∙ t .clear .cleared p v (omega arith) (omega arith) (omega arith)

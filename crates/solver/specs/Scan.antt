@@ -82,20 +82,27 @@ pub record Empty-on (n v short r : ℕ) : Type 0 where
 abbrev pub none-in : Span → Span
 none-in w = span (max (w .from) (w .upto)) 0
 
--- each strip below strip i has that span for every total
-pub record Cleared (starts ends : List ℕ) (i : ℕ) (froms uptos : List (List ℕ)) : Type 0 where
+-- a row with x for its first n totals
+pub record Row-is (x n : ℕ) (r : List ℕ) : Type 0 where
+  pub size : length r ≡ totals-held
+  pub written : (u : ℕ) → u < n → entry r u ≡ x
+
+-- each strip below strip i has that span for the totals from v to cap
+pub record Cleared (starts ends : List ℕ) (i v cap : ℕ) (froms uptos : List (List ℕ)) : Type 0 where
   pub sized-froms : Sized froms
   pub sized-uptos : Sized uptos
-  pub cleared : (j u : ℕ) → j < i → u < totals-held → span-in froms uptos j u ≡ none-in (spans-of starts ends j)
+  pub cleared : (j u : ℕ) → j < i → v ≤ u → u ≤ cap → span-in froms uptos j u ≡ none-in (spans-of starts ends j)
 
--- for each strip so many first totals with an empty span: of totals below v, and for strips from i on of total v; what is not scanned yet is cleared
-pub record Empties-are (g : Given) (k v i : ℕ) (froms uptos : List (List ℕ)) (r : List ℕ) : Type 0 where
+-- tables that differ only for strips from i on, at total v
+pub record Only-at (v i : ℕ) (froms₀ uptos₀ froms uptos : List (List ℕ)) : Type 0 where
+  pub kept : (j u : ℕ) → (i ≤ j → u ≡ v → ⊥) → span-in froms uptos j u ≡ span-in froms₀ uptos₀ j u
+
+-- for each strip so many first totals with an empty span: of totals below v, and for strips from i on of total v
+pub record Empties-are (k v i : ℕ) (froms uptos : List (List ℕ)) (r : List ℕ) : Type 0 where
   pub size : length r ≡ strips-held
   pub empty : (j u : ℕ) → j ≤ k → u < entry r j → entry (row uptos j) u ≤ entry (row froms j) u
   pub earlier : (j : ℕ) → j < i → entry r j ≤ v
   pub here : (j : ℕ) → j ≤ k → entry r j ≤ suc v
-  pub later-cleared : (j u : ℕ) → j < k → v < u → u < totals-held → span-in froms uptos j u ≡ none-in (window-of g j)
-  pub here-cleared : (j : ℕ) → j < i → v < totals-held → span-in froms uptos j v ≡ none-in (window-of g j)
 
 -- the shortfall of strip j's span at the total u, with n + 1 channels above it
 abbrev pub short-of : Given → (j n u : ℕ) → ℕ
@@ -143,7 +150,8 @@ pub record Total-asks (g : Given) (k v : ℕ) (ls ms es : List ℕ) (froms uptos
   pub mosts : Sums-are (g .counts) k 0 ms
   pub leasts : Leasts-are (g .lows) (g .highs) (g .counts) k ls
   pub tables : Scanning g k v k froms uptos jump
-  pub empties : Empties-are g k v k froms uptos es
+  pub empties : Empties-are k v k froms uptos es
+  pub clear : Cleared (g .froms) (g .uptos) k v v froms uptos
 
 -- k channels whose counts are within the arrays
 pub record Counts-ask (counts : List ℕ) (k : ℕ) : Type 0 where

@@ -7,11 +7,11 @@ use stack::Stack;
 use stack::Tracks;
 ghost use mathlib.Core.Path.{_≡_};
 ghost use Prim.Native.Nat.{_+_, _-_, _*_, _≤_, _<_, min, max};
-ghost use lib.ListN.{replicate};
+ghost use lib.ListN.{length, replicate};
 ghost use lib.Dec.{ltb, eqb};
 ghost use Rattle.spans.specs.Spans.{span, cut, shift-back, shift-on};
 ghost use Rattle.spans.specs.Jump.{min-if, max-if};
-ghost use Rattle.solver.specs.Scan.{Ends-ask, Ends-are, Ends-serve, Strip-asks, Strip-done, Counts-ask, sums, Sums-are, Leasts-are, jump-if, Empty-on, Empties-are, Cleared, Total-asks, Scanning, Scan-asks, Scan-is};
+ghost use Rattle.solver.specs.Scan.{Ends-ask, Ends-are, Ends-serve, Strip-asks, Strip-done, Counts-ask, sums, Sums-are, Leasts-are, jump-if, Empty-on, Empties-are, Row-is, Cleared, Only-at, Total-asks, Scanning, Scan-asks, Scan-is};
 ghost use Rattle.spans.specs.Solver.{first-open, start, stop, first-serving, separations, positions};
 ghost use Rattle.solver.specs.Arrays.{bias, channels-held, strips-held, separations-held, totals-held, entry, spans-of, Sized, given, Serve-asks, window-of, levels, tracks, store, Separate-asks, Stack-asks, Starts-are, Next-asks, Position-asks, columns, taken, Place-asks, Placement-is};
 
@@ -506,7 +506,7 @@ fn scan_total(
     uptos: &mut [[u64; TOTALS]; STRIPS],
 ) -> u64
     requires { ⌜ Total-asks (given (now low) (now high) (now counts) (now from) (now upto)) k v (now leasts) (now sums) (now empties) (now froms) (now uptos) before ⌝ }
-    ensures { λ r. ⌜ Scanning (given (now (low .entry)) (now (high .entry)) (now (counts .entry)) (now (from .entry)) (now (upto .entry))) k v 0 (now (froms .exit)) (now (uptos .exit)) r × Empties-are (given (now (low .entry)) (now (high .entry)) (now (counts .entry)) (now (from .entry)) (now (upto .entry))) k v 0 (now (froms .exit)) (now (uptos .exit)) (now (empties .exit)) ⌝ }
+    ensures { λ r. ⌜ Scanning (given (now (low .entry)) (now (high .entry)) (now (counts .entry)) (now (from .entry)) (now (upto .entry))) k v 0 (now (froms .exit)) (now (uptos .exit)) r × Empties-are k v 0 (now (froms .exit)) (now (uptos .exit)) (now (empties .exit)) × Only-at v 0 (now (froms .entry)) (now (uptos .entry)) (now (froms .exit)) (now (uptos .exit)) ⌝ }
 {
     let mut jump = before;
     let mut i = k;
@@ -538,20 +538,31 @@ fn scan_total(
     jump
 }
 
-// Gives each strip below strip k an empty span for every total.
+// Writes x for the totals up to cap.
+fn fill_row(row: &mut [u64; TOTALS], x: u64, cap: usize)
+    requires { ⌜ (cap < totals-held) × (length (now row) ≡ totals-held) ⌝ }
+    ensures { λ _. ⌜ Row-is x (cap + 1) (now (row .exit)) ⌝ }
+{
+    for u in 0..cap + 1 {
+        row[u] = x;
+    }
+}
+
+// Gives each strip below strip k an empty span for the totals up to cap.
 fn clear(
     from: &[u64; STRIPS],
     upto: &[u64; STRIPS],
     k: usize,
+    cap: usize,
     froms: &mut [[u64; TOTALS]; STRIPS],
     uptos: &mut [[u64; TOTALS]; STRIPS],
 )
-    requires { ⌜ (k ≤ channels-held) × Sized (now froms) × Sized (now uptos) ⌝ }
-    ensures { λ r. ⌜ Cleared (now (from .entry)) (now (upto .entry)) k (now (froms .exit)) (now (uptos .exit)) ⌝ }
+    requires { ⌜ (k ≤ channels-held) × (cap < totals-held) × Sized (now froms) × Sized (now uptos) ⌝ }
+    ensures { λ _. ⌜ Cleared (now (from .entry)) (now (upto .entry)) k 0 cap (now (froms .exit)) (now (uptos .exit)) ⌝ }
 {
     for i in 0..k {
-        froms[i] = [greater(from[i], upto[i]); TOTALS];
-        uptos[i] = [0u64; TOTALS];
+        fill_row(&mut froms[i], greater(from[i], upto[i]), cap);
+        fill_row(&mut uptos[i], 0, cap);
     }
 }
 
@@ -573,7 +584,7 @@ pub fn scan_totals(
     let sums = sums_above(counts, k);
     let leasts = least_opens(low, high, counts, k);
     let above = sums[1];
-    clear(from, upto, k, froms, uptos);
+    clear(from, upto, k, cap, froms, uptos);
     froms[k][0] = from[k];
     uptos[k][0] = upto[k];
     let mut empties = [0usize; STRIPS];

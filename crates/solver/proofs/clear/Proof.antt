@@ -9,13 +9,19 @@ use Rattle.solver.proofs.clear.Statement.{statement}
 use Rattle.solver.proofs.clear.Tie as tie
 
 abbrev Inv-loop : tie.InvT-loop
-Inv-loop from upto k froms₀ uptos₀ i₀ froms uptos i = (i ≤ k) × Cleared from upto i froms uptos
+Inv-loop from upto k cap froms₀ uptos₀ i₀ froms uptos i = (i ≤ k) × Cleared from upto i 0 cap froms uptos
 
 abbrev μ-loop : tie.MeasureT-loop
-μ-loop from upto k froms₀ uptos₀ i₀ froms uptos i = k - i
+μ-loop from upto k cap froms₀ uptos₀ i₀ froms uptos i = k - i
 
 loop-holds : tie.Need-loop-holds Inv-loop μ-loop
-loop-holds c = (omega arith, clear-start _ _ _ _ (c .pre .1) (c .pre .2))
+loop-holds c = (omega arith, clear-start _ _ _ _ _ (c .pre .2) (c .pre .3))
+
+mul-fill-row : tie.Need-mul-fill-row Inv-loop μ-loop
+mul-fill-row c = search needs
+
+index-1-fill-row : tie.Need-index-1-fill-row Inv-loop μ-loop
+index-1-fill-row c = search needs
 
 mul-greater : tie.Need-mul-greater Inv-loop μ-loop
 mul-greater c = search needs
@@ -32,17 +38,17 @@ element-copy-out-greater-2 c = search needs
 greater-requires : tie.Need-greater-requires Inv-loop μ-loop
 greater-requires c κs = search needs
 
-mul-uptos : tie.Need-mul-uptos Inv-loop μ-loop
-mul-uptos c = search needs
+fill-row-requires : tie.Need-fill-row-requires Inv-loop μ-loop
+fill-row-requires c κs = (c .before .before .before .before .before .before .pre .1, c .before .before .before .before .before .loop .inv .1 .sized-froms .cells (c .before .before .before .before .before .loop .i) (omega arith))
 
-element-set-from-uptos : tie.Need-element-set-from-uptos Inv-loop μ-loop
-element-set-from-uptos c = search needs
+mul-fill-row-2 : tie.Need-mul-fill-row-2 Inv-loop μ-loop
+mul-fill-row-2 c = search needs
 
-mul-t9 : tie.Need-mul-t9 Inv-loop μ-loop
-mul-t9 c = search needs
+index-1-fill-row-2 : tie.Need-index-1-fill-row-2 Inv-loop μ-loop
+index-1-fill-row-2 c = search needs
 
-element-set-from-uptos-2 : tie.Need-element-set-from-uptos-2 Inv-loop μ-loop
-element-set-from-uptos-2 c = search needs
+fill-row-requires-2 : tie.Need-fill-row-requires-2 Inv-loop μ-loop
+fill-row-requires-2 c κs = (c .before .before .before .before .before .before .before .before .pre .1, c .before .before .before .before .before .before .before .loop .inv .1 .sized-uptos .cells (c .before .before .before .before .before .before .before .loop .i) (omega arith))
 
 add-i : tie.Need-add-i Inv-loop μ-loop
 add-i c = search needs
@@ -51,7 +57,7 @@ loop-less : tie.Need-loop-less Inv-loop μ-loop
 loop-less c = search needs
 
 loop-again : tie.Need-loop-again Inv-loop μ-loop
-loop-again c = (omega arith, clear-step _ _ (c .before .before .before .before .loop .i) (c .greater .result) _ _ (omega arith) (c .before .before .before .before .loop .inv .1) (c .greater .ensures))
+loop-again c = (omega arith, clear-step _ _ (c .before .before .before .before .before .before .before .before .loop .i) (c .before .before .before .before .before .before .before .before .before .args .cap) (c .before .before .before .greater .result) _ _ _ _ (omega arith) (c .before .before .before .before .before .before .before .before .loop .inv .1) (c .before .before .before .greater .ensures) (c .before .before .fill-row .ensures) (c .fill-row2 .ensures))
 
 returns : tie.Need-returns Inv-loop μ-loop
 returns c = let z : c .before .loop .i ≡ c .before .before .args .k = omega arith in rw z at (c .before .loop .inv .1)
@@ -63,15 +69,17 @@ clear-spec =
     Inv-loop
     μ-loop
     loop-holds
+    mul-fill-row
+    index-1-fill-row
     mul-greater
     element-copy-out-greater
     mul-greater-2
     element-copy-out-greater-2
     greater-requires
-    mul-uptos
-    element-set-from-uptos
-    mul-t9
-    element-set-from-uptos-2
+    fill-row-requires
+    mul-fill-row-2
+    index-1-fill-row-2
+    fill-row-requires-2
     add-i
     loop-less
     loop-again
