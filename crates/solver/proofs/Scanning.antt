@@ -22,12 +22,17 @@ use Rattle.spans.proofs.Jump.{cell-ends}
 
 -- one span taken in, or left out
 module _ (b near reach from upto low high : ℕ) where
-  pub stretched : (x y : ℕ) → from < upto → x ≡ min near (from + b - high) → y ≡ max reach (upto + 2 * b - low) →
-      (x ≡ min-if (ltb from upto) (from + b - high) near) × (y ≡ max-if (ltb from upto) (upto + 2 * b - low) reach)
+  pub stretched : (x y : ℕ) → from < upto → x ≡ min near (from + 2 * b - high) → y ≡ max reach (upto + 2 * b - low) →
+      (x ≡ min-if (ltb from upto) (from + 2 * b - high) near) × (y ≡ max-if (ltb from upto) (upto + 2 * b - low) reach)
   stretched x y h p q = rw (lt-ltb from upto h) (p, q)
 
-  pub not-stretched : upto ≤ from → (near ≡ min-if (ltb from upto) (from + b - high) near) × (reach ≡ max-if (ltb from upto) (upto + 2 * b - low) reach)
+  pub not-stretched : upto ≤ from → (near ≡ min-if (ltb from upto) (from + 2 * b - high) near) × (reach ≡ max-if (ltb from upto) (upto + 2 * b - low) reach)
   not-stretched h = rw (le-ltb from upto h) (refl, refl)
+
+-- a start that is not raised
+lowered : (b : ℕ) (v : Bool) (from high near x : ℕ) → x ≡ min-if v (from + 2 * b - high) near → x - b ≡ min-if v (from + b - high) (near - b)
+lowered b true from high near x e = omega arith
+lowered b false from high near x e = omega arith
 
 -- the loop over separations
 module _ (b : ℕ) (low high : ℕ → ℕ) (f : ℕ → Span) (stop q : ℕ) where
@@ -49,6 +54,11 @@ module _ (b : ℕ) (low high : ℕ → ℕ) (f : ℕ → Span) (stop q : ℕ) wh
         small : (v : Bool) → min-if v (f q .from + b - high q) near ≤ b
         small true = omega (arith, s .near-small)
         small false = s .near-small
+
+    pub stretching-raised : (from x y : ℕ) → q < stop → near ≡ from - b → x ≡ min-if (nonempty (f q)) (f q .from + 2 * b - high q) from →
+        y ≡ max-if (nonempty (f q)) (f q .upto + 2 * b - low q) reach → Stretching b low high f stop (q + 1) (x - b) y n r
+    stretching-raised from x y h m p e =
+        stretching-steps (x - b) y h (rw m (lowered b (nonempty (f q)) (f q .from) (high q) from x p)) e
 
     pub stretching-ends : stop ≤ q → (near ≡ n) × (reach ≡ r)
     unfolding nearest furthest
@@ -132,29 +142,31 @@ covered b w near reach h k =
     let s : min (w .upto + b) reach ≡ w .upto + b = omega arith in
     (ap₂ span n r, ap₂ (λ (x y : ℕ). x + 1 + b - y) m s)
 
-pub ends-fewer : (v start stop q : ℕ) (lows froms uptos : List ℕ) → q + 1 ≡ stop → Ends-ask v start stop lows froms uptos → Ends-ask v start q lows froms uptos
-ends-fewer v start stop q lows froms uptos e a =
+pub ends-fewer : (v start stop q : ℕ) (lows highs froms uptos : List ℕ) → q + 1 ≡ stop → Ends-ask v start stop lows highs froms uptos → Ends-ask v start q lows highs froms uptos
+ends-fewer v start stop q lows highs froms uptos e a =
     record {
       total = a .total;
       listed = omega (arith, a .listed);
       within = omega (arith, a .within);
       lows-small = λ p h. a .lows-small p (omega arith);
+      highs-small = λ p h. a .highs-small p (omega arith);
       starts = a .starts;
       ends = a .ends;
     }
 
 -- ends from the last separation q on
 module _ (lows highs froms uptos : List ℕ) (v start stop q : ℕ) (w : Span) (e : Ends) (last : q + 1 ≡ stop) (inside : start ≤ q)
-    (n : e .near ≡ min-if (nonempty (spans-of froms uptos (v - q))) (entry froms (v - q) + bias - entry highs q) bias)
+    (n : e .near ≡ min-if (nonempty (spans-of froms uptos (v - q))) (entry froms (v - q) + 2 * bias - entry highs q) (2 * bias))
     (r : e .reach ≡ max-if (nonempty (spans-of froms uptos (v - q))) (entry uptos (v - q) + 2 * bias - entry lows q) 0) where
   abbrev f : ℕ → Span
   f j = spans-of froms uptos (v - j)
 
-  near-whole : nearest bias (entry highs) f start (q - start) (e .near) ≡ nearest bias (entry highs) f start (stop - start) bias
+  near-whole : nearest bias (entry highs) f start (q - start) (e .near - bias) ≡ nearest bias (entry highs) f start (stop - start) bias
   near-whole =
       let i : start + (q - start) ≡ q = omega arith in
       let j : suc (q - start) ≡ stop - start = omega arith in
-      rw n (rw (i, j) at (nearest-last bias (entry highs) f start (q - start) bias))
+      rw (lowered bias (nonempty (f q)) (entry froms (v - q)) (entry highs q) (2 * bias) (e .near) n)
+      (rw (i, j) at (nearest-last bias (entry highs) f start (q - start) bias))
 
   reach-whole : furthest bias (entry lows) f start (q - start) (e .reach) ≡ furthest bias (entry lows) f start (stop - start) 0
   reach-whole =
@@ -163,26 +175,26 @@ module _ (lows highs froms uptos : List ℕ) (v start stop q : ℕ) (w : Span) (
       rw r (rw (i, j) at (furthest-last bias (entry lows) f start (q - start) 0))
 
   -- the first ends are small
-  pub first-small : e .near ≤ bias
+  pub first-small : e .near ≤ 2 * bias
   first-small = rw n (go (nonempty (spans-of froms uptos (v - q))))
     where
-      go : (z : Bool) → min-if z (entry froms (v - q) + bias - entry highs q) bias ≤ bias
+      go : (z : Bool) → min-if z (entry froms (v - q) + 2 * bias - entry highs q) (2 * bias) ≤ 2 * bias
       go true = omega arith
       go false = omega arith
 
   -- they reach over the whole window
-  pub ends-cover : e .near ≤ w .from → w .upto + bias ≤ e .reach → Ends-serve lows highs froms uptos v start stop w e
+  pub ends-cover : e .near ≤ w .from + bias → w .upto + bias ≤ e .reach → Ends-serve lows highs froms uptos v start stop w e
   ends-cover h k =
-      let here = covered bias w (e .near) (e .reach) h k in
+      let here = covered bias w (e .near - bias) (e .reach) (omega arith) k in
       let whole = covered bias w (nearest bias (entry highs) f start (stop - start) bias) (furthest bias (entry lows) f start (stop - start) 0)
-      (omega (arith, near-whole, nearest-below bias (entry highs) f start (q - start) (e .near)))
+      (omega (arith, near-whole, nearest-below bias (entry highs) f start (q - start) (e .near - bias)))
       (omega (arith, reach-whole, furthest-beyond bias (entry lows) f start (q - start) (e .reach))) in
       record { small = first-small; span-is = here .0 ∙ sym (whole .0); short-is = here .1 ∙ sym (whole .1) }
 
   -- all separations taken
   pub ends-all : (x : Ends) → Ends-are lows highs froms uptos v start q e x → Ends-serve lows highs froms uptos v start stop w x
   ends-all x d =
-      let near : x .near ≡ nearest bias (entry highs) f start (stop - start) bias = d .near-is ∙ near-whole in
+      let near : x .near - bias ≡ nearest bias (entry highs) f start (stop - start) bias = d .near-is ∙ near-whole in
       let reach : x .reach ≡ furthest bias (entry lows) f start (stop - start) 0 = d .reach-is ∙ reach-whole in
       record { small = d .small; span-is = ap₂ (between bias w) near reach; short-is = ap₂ (shortfall bias w) near reach }
 
@@ -203,19 +215,23 @@ left-of : (first v q : ℕ) → first ≤ q → q ≤ v → v - q + first ≤ v
 left-of first v q h k = omega arith
 
 -- THE SEPARATIONS TRIED: those left out leave totals whose spans in the strip above are empty
-module _ (i least last above empty v from upto first end : ℕ) (lows : List ℕ) (froms uptos : List (List ℕ)) (a : Strip-asks i last above empty v from upto lows froms uptos)
-    (s : first ≡ start least last above v) (e : end ≡ min (last + 1) (v + 1 - empty)) where
+module _ (i least last above empty v from upto first end : ℕ) (lows highs : List ℕ) (froms uptos : List (List ℕ)) (a : Strip-asks i last above empty v from upto lows highs froms uptos)
+    (d : first ≡ max least (v - above)) (e : end ≡ min (last + 1) (v + 1 - empty)) where
+  s : first ≡ start least last above v
+  s = omega (arith, a .of-use)
+
   left-over : (u : ℕ) → u + first ≤ v → u ≤ above
   left-over u k = let h = a .of-use in omega arith
 
   -- what a cell asks of the loop over separations
-  pub strip-ends-ask : Ends-ask v first end lows (row froms (i + 1)) (row uptos (i + 1))
+  pub strip-ends-ask : Ends-ask v first end lows highs (row froms (i + 1)) (row uptos (i + 1))
   strip-ends-ask =
       record {
         total = a .total;
         listed = omega (arith, a .listed);
         within = omega arith;
         lows-small = λ q h. a .lows-small q (omega arith);
+        highs-small = λ q h. a .highs-small q (omega arith);
         starts = λ u h. a .starts u (omega arith) (left-over u h);
         ends = λ u h. a .ends u (omega arith) (left-over u h);
       }
@@ -226,19 +242,19 @@ module _ (i least last above empty v from upto first end : ℕ) (lows : List ℕ
   left-empty : (q : ℕ) → first + (end - first) ≤ q → q < first + (stop last v - first) → nonempty (above-spans (v - q)) ≡ false
   left-empty q h k = le-ltb (entry (row froms (i + 1)) (v - q)) (entry (row uptos (i + 1)) (v - q)) (a .empties (v - q) (untried last v empty first end q e h k) (left-over (v - q) (left-of first v q (omega arith) (within last v first q k (omega arith)))))
 
-  near-tried : (highs : List ℕ) → nearest bias (entry highs) (λ q. above-spans (v - q)) first (end - first) bias ≡ near-of bias bias (entry highs) least last above above-spans v
-  near-tried highs = rw (← s) (nearest-cut bias (entry highs) (λ q. above-spans (v - q)) first (end - first) (stop last v - first) bias (rw e (tried-less last v empty first)) left-empty)
+  near-tried : nearest bias (entry highs) (λ q. above-spans (v - q)) first (end - first) bias ≡ near-of bias bias (entry highs) least last above above-spans v
+  near-tried = rw (← s) (nearest-cut bias (entry highs) (λ q. above-spans (v - q)) first (end - first) (stop last v - first) bias (rw e (tried-less last v empty first)) left-empty)
 
   reach-tried : furthest bias (entry lows) (λ q. above-spans (v - q)) first (end - first) 0 ≡ reach-of bias (entry lows) least last above above-spans v
   reach-tried = rw (← s) (furthest-cut bias (entry lows) (λ q. above-spans (v - q)) first (end - first) (stop last v - first) 0 (rw e (tried-less last v empty first)) left-empty)
 
   -- one cell, from ends whose span and shortfall are those of the separations tried
-  module _ (highs : List ℕ) (near reach : ℕ)
-      (d : between bias (span from upto) near reach ≡ between bias (span from upto) (nearest bias (entry highs) (λ q. above-spans (v - q)) first (end - first) bias) (furthest bias (entry lows) (λ q. above-spans (v - q)) first (end - first) 0))
+  module _ (near reach : ℕ)
+      (w : between bias (span from upto) near reach ≡ between bias (span from upto) (nearest bias (entry highs) (λ q. above-spans (v - q)) first (end - first) bias) (furthest bias (entry lows) (λ q. above-spans (v - q)) first (end - first) 0))
       (c : shortfall bias (span from upto) near reach ≡ shortfall bias (span from upto) (nearest bias (entry highs) (λ q. above-spans (v - q)) first (end - first) bias) (furthest bias (entry lows) (λ q. above-spans (v - q)) first (end - first) 0)) where
     cell-tried : between bias (span from upto) near reach ≡ cell bias (entry lows) (entry highs) least last above above-spans (span from upto) v
     cell-tried =
-        d ∙ (ap₂ (between bias (span from upto)) (near-tried highs) reach-tried
+        w ∙ (ap₂ (between bias (span from upto)) near-tried reach-tried
         ∙ sym (cell-ends bias bias (entry lows) (entry highs) least last above above-spans (span from upto) v (a .end)))
 
     cell-put : (x y z : ℕ) → span x y ≡ between bias (span from upto) near reach → z ≡ shortfall bias (span from upto) near reach →
@@ -248,24 +264,24 @@ module _ (i least last above empty v from upto first end : ℕ) (lows : List ℕ
         record {
           from-put = ap (λ (k : Span). put froms i v (k .from)) (p ∙ cell-tried);
           upto-put = ap (λ (k : Span). put uptos i v (k .upto)) (p ∙ cell-tried);
-          short-is = t ∙ (c ∙ ap₂ (shortfall bias (span from upto)) (near-tried highs) reach-tried);
+          short-is = t ∙ (c ∙ ap₂ (shortfall bias (span from upto)) near-tried reach-tried);
         }
 
-  pub strip-done : (highs : List ℕ) (r : Ends) (x y z : ℕ) → Ends-serve lows highs (row froms (i + 1)) (row uptos (i + 1)) v first end (span from upto) r →
-      x ≡ max from (min upto (r .near)) → y ≡ min upto (r .reach - bias) → z ≡ max from (r .near) + 1 + bias - min (upto + bias) (r .reach) →
+  pub strip-done : (r : Ends) (x y z : ℕ) → Ends-serve lows highs (row froms (i + 1)) (row uptos (i + 1)) v first end (span from upto) r →
+      x ≡ max from (min upto (r .near - bias)) → y ≡ min upto (r .reach - bias) → z ≡ max from (r .near - bias) + 1 + bias - min (upto + bias) (r .reach) →
       Strip-done lows highs i least last above v (span from upto) froms uptos (put froms i v x) (put uptos i v y) z
-  strip-done highs r x y z d p q t = cell-put highs (r .near) (r .reach) (d .span-is) (d .short-is) x y z (ap₂ span p q) t
+  strip-done r x y z d p q t = cell-put (r .near - bias) (r .reach) (d .span-is) (d .short-is) x y z (ap₂ span p q) t
 
   -- no separation to try
-  pub cell-none : (highs : List ℕ) → end ≤ first →
+  pub cell-none : end ≤ first →
       (cell bias (entry lows) (entry highs) least last above above-spans (span from upto) v ≡ none-in (span from upto))
       × (cell-short bias bias (entry lows) (entry highs) least last above above-spans (span from upto) v ≡ 2 * bias + 1)
   unfolding nearest furthest cell-short
-  cell-none highs h =
+  cell-none h =
       let z : 0 ≡ end - first = none-left end first h in
       let d : _ = ap (λ (m : ℕ). nearest bias (entry highs) (λ q. above-spans (v - q)) first m bias) z in
       let g : _ = ap (λ (m : ℕ). furthest bias (entry lows) (λ q. above-spans (v - q)) first m 0) z in
-      let n : bias ≡ near-of bias bias (entry highs) least last above above-spans v = d ∙ near-tried highs in
+      let n : bias ≡ near-of bias bias (entry highs) least last above above-spans v = d ∙ near-tried in
       let r : 0 ≡ reach-of bias (entry lows) least last above above-spans v = g ∙ reach-tried in
       let s : 2 * bias + 1 ≡ shortfall bias (span from upto) bias 0 = omega (arith, a .start) in
       let c : none-in (span from upto) ≡ between bias (span from upto) bias 0 = ap₂ span (omega (arith, a .end)) (omega arith) in (
@@ -273,10 +289,10 @@ module _ (i least last above empty v from upto first end : ℕ) (lows : List ℕ
         sym (s ∙ ap₂ (shortfall bias (span from upto)) n r),
       )
 
-  pub strip-none : (highs : List ℕ) (x : ℕ) → end ≤ first → x ≡ max from upto →
+  pub strip-none : (x : ℕ) → end ≤ first → x ≡ max from upto →
       Strip-done lows highs i least last above v (span from upto) froms uptos (put froms i v x) (put uptos i v 0) (2 * bias + 1)
-  strip-none highs x h p =
-      let c = cell-none highs h in
+  strip-none x h p =
+      let c = cell-none h in
       record {
         from-put = ap (put froms i v) (p ∙ sym (ap (λ (k : Span). k .from) (c .0)));
         upto-put = ap (put uptos i v) (sym (ap (λ (k : Span). k .upto) (c .0)));

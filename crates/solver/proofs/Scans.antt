@@ -234,7 +234,7 @@ lt-or-le x y = go (le-or-lt y x)
     go (inl h) = inr h
     go (inr h) = inl h
 
-nothing-tried : (least last above empty u : ℕ) → u < least + empty → min (last + 1) (u + 1 - empty) ≤ start least last above u
+nothing-tried : (least last above empty u : ℕ) → u < least + empty → min (last + 1) (u + 1 - empty) ≤ max least (u - above)
 nothing-tried least last above empty u h = let k : u + 1 - empty ≤ least = omega arith in omega arith
 
 empties-below : (k v i j : ℕ) (froms uptos : List (List ℕ)) (es : List ℕ) → j ≤ i → Empties-are k v i froms uptos es → Empties-are k v j froms uptos es
@@ -285,7 +285,7 @@ module _ (g : Given) (k v i j : ℕ) (froms uptos : List (List ℕ)) (jump : ℕ
 
     -- the strip above has an empty span for totals below empty
     module _ (empty : ℕ) (none : (u : ℕ) → u < empty → u ≤ above → entry (row uptos (j + 1)) u ≤ entry (row froms (j + 1)) u) (t : v < totals-held) where
-      asks-at : (u : ℕ) → u ≤ v → u ≤ last + above → Strip-asks j last above empty u (entry (g .froms) j) (entry (g .uptos) j) (row (g .lows) j) froms uptos
+      asks-at : (u : ℕ) → u ≤ v → u ≤ last + above → Strip-asks j last above empty u (entry (g .froms) j) (entry (g .uptos) j) (row (g .lows) j) (row (g .highs) j) froms uptos
       asks-at u l o =
           record {
             channel = omega (arith, a .channels);
@@ -295,6 +295,7 @@ module _ (g : Given) (k v i j : ℕ) (froms uptos : List (List ℕ)) (jump : ℕ
             start = a .starts j (omega arith);
             end = a .ends j (omega arith);
             lows-small = λ q p. a .lows j q (omega arith) (omega arith);
+            highs-small = λ q p. a .highs j q (omega arith) (omega arith);
             starts = λ w p m. above-ends w (omega arith) (omega arith) .0;
             ends = λ w p m. above-ends w (omega arith) (omega arith) .1;
             empties = none;
@@ -304,7 +305,7 @@ module _ (g : Given) (k v i j : ℕ) (froms uptos : List (List ℕ)) (jump : ℕ
           (cell bias (low-of g j) (high-of g j) least last above f (window-of g j) u ≡ none-in (window-of g j))
           × (cell-short bias bias (low-of g j) (high-of g j) least last above f (window-of g j) u ≡ 2 * bias + 1)
       none-at u l o b =
-          cell-none j least last above empty u (entry (g .froms) j) (entry (g .uptos) j) (start least last above u) (min (last + 1) (u + 1 - empty)) (row (g .lows) j) froms uptos (asks-at u l o) refl refl (row (g .highs) j)
+          cell-none j least last above empty u (entry (g .froms) j) (entry (g .uptos) j) (max least (u - above)) (min (last + 1) (u + 1 - empty)) (row (g .lows) j) (row (g .highs) j) froms uptos (asks-at u l o) refl refl
           (nothing-tried least last above empty u b)
 
       -- a total below which the strip above leaves nothing
@@ -351,7 +352,7 @@ module _ (g : Given) (k v i j : ℕ) (froms uptos : List (List ℕ)) (jump : ℕ
 
     module _ (used : v ≤ last + above) where
       pub strip-asks : (es : List ℕ) → Empties-are k v i froms uptos es → v < totals-held →
-          Strip-asks j last above (entry es (j + 1)) v (entry (g .froms) j) (entry (g .uptos) j) (row (g .lows) j) froms uptos
+          Strip-asks j last above (entry es (j + 1)) v (entry (g .froms) j) (entry (g .uptos) j) (row (g .lows) j) (row (g .highs) j) froms uptos
       strip-asks es m t = asks-at (entry es (j + 1)) (λ u l o. m .empty (j + 1) u (omega arith) l) t v (omega arith) used
 
       module _ (froms′ uptos′ : List (List ℕ)) (short : ℕ) (d : Strip-done (row (g .lows) j) (row (g .highs) j) j least last above v (window-of g j) froms uptos froms′ uptos′ short) (t : v < totals-held) where
@@ -607,7 +608,7 @@ module _ (g : Given) (k v : ℕ) (ls ms es₀ : List ℕ) (froms₀ uptos₀ : L
   used-of : v ≤ entry ms j → v ≤ count-of g j + entry ms (j + 1)
   used-of h = omega (arith, most-of, above-of, most-here g k v i j froms uptos jump (t .stack) s strip-below inside)
 
-  pub total-strip-asks : v ≤ entry ms j → Strip-asks j (count-of g j) (entry ms (j + 1)) (entry es (j + 1)) v (entry (g .froms) j) (entry (g .uptos) j) (row (g .lows) j) froms uptos
+  pub total-strip-asks : v ≤ entry ms j → Strip-asks j (count-of g j) (entry ms (j + 1)) (entry es (j + 1)) v (entry (g .froms) j) (entry (g .uptos) j) (row (g .lows) j) (row (g .highs) j) froms uptos
   total-strip-asks h =
       strip-asks g k v i j froms uptos jump (t .stack) s strip-below inside (entry ls j) (count-of g j) (entry ms (j + 1)) least-of refl above-of (used-of h) es m (t .total)
 

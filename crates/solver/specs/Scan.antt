@@ -19,28 +19,29 @@ abbrev pub put : List (List ℕ) → (i v x : ℕ) → List (List ℕ)
 put t i v x = set t i (set (getD t i []) v x)
 
 -- what the loop over a channel's separations asks: indices within the arrays, ends and limits that leave room for the bias
-pub record Ends-ask (v start stop : ℕ) (lows froms uptos : List ℕ) : Type 0 where
+pub record Ends-ask (v start stop : ℕ) (lows highs froms uptos : List ℕ) : Type 0 where
   pub total : v < totals-held
   pub listed : stop ≤ separations-held
   pub within : stop ≤ suc v
   pub lows-small : (q : ℕ) → q < stop → entry lows q ≤ 2 * bias
+  pub highs-small : (q : ℕ) → q < stop → entry highs q ≤ 2 * bias
   pub starts : (u : ℕ) → u + start ≤ v → entry froms u ≤ bias
   pub ends : (u : ℕ) → u + start ≤ v → entry uptos u ≤ bias
 
 -- the ends s stretched by separations from start to below stop
 pub record Ends-are (lows highs froms uptos : List ℕ) (v start stop : ℕ) (s r : Ends) : Type 0 where
-  pub small : r .near ≤ bias
-  pub near-is : r .near ≡ nearest bias (entry highs) (λ q. spans-of froms uptos (v - q)) start (stop - start) (s .near)
+  pub small : r .near ≤ 2 * bias
+  pub near-is : r .near - bias ≡ nearest bias (entry highs) (λ q. spans-of froms uptos (v - q)) start (stop - start) (s .near - bias)
   pub reach-is : r .reach ≡ furthest bias (entry lows) (λ q. spans-of froms uptos (v - q)) start (stop - start) (s .reach)
 
 -- ends that give the same span in the window w, and the same shortfall, as those of separations from start to below stop
 pub record Ends-serve (lows highs froms uptos : List ℕ) (v start stop : ℕ) (w : Span) (r : Ends) : Type 0 where
-  pub small : r .near ≤ bias
+  pub small : r .near ≤ 2 * bias
   pub span-is :
-      between bias w (r .near) (r .reach)
+      between bias w (r .near - bias) (r .reach)
       ≡ between bias w (nearest bias (entry highs) (λ q. spans-of froms uptos (v - q)) start (stop - start) bias) (furthest bias (entry lows) (λ q. spans-of froms uptos (v - q)) start (stop - start) 0)
   pub short-is :
-      shortfall bias w (r .near) (r .reach)
+      shortfall bias w (r .near - bias) (r .reach)
       ≡ shortfall bias w (nearest bias (entry highs) (λ q. spans-of froms uptos (v - q)) start (stop - start) bias) (furthest bias (entry lows) (λ q. spans-of froms uptos (v - q)) start (stop - start) 0)
 
 -- ends found so far, at separation q
@@ -50,7 +51,7 @@ pub record Stretching (b : ℕ) (low high : ℕ → ℕ) (f : ℕ → Span) (sto
   pub near-small : near ≤ b
 
 -- what one cell asks; in the strip above the totals below empty have empty spans
-pub record Strip-asks (i last above empty v from upto : ℕ) (lows : List ℕ) (froms uptos : List (List ℕ)) : Type 0 where
+pub record Strip-asks (i last above empty v from upto : ℕ) (lows highs : List ℕ) (froms uptos : List (List ℕ)) : Type 0 where
   pub channel : i < channels-held
   pub total : v < totals-held
   pub listed : last < separations-held
@@ -58,6 +59,7 @@ pub record Strip-asks (i last above empty v from upto : ℕ) (lows : List ℕ) (
   pub start : from ≤ bias
   pub end : upto ≤ bias
   pub lows-small : (q : ℕ) → q ≤ last → entry lows q ≤ 2 * bias
+  pub highs-small : (q : ℕ) → q ≤ last → entry highs q ≤ 2 * bias
   pub starts : (u : ℕ) → u ≤ v → u ≤ above → entry (row froms (i + 1)) u ≤ bias
   pub ends : (u : ℕ) → u ≤ v → u ≤ above → entry (row uptos (i + 1)) u ≤ bias
   pub empties : (u : ℕ) → u < empty → u ≤ above → entry (row uptos (i + 1)) u ≤ entry (row froms (i + 1)) u

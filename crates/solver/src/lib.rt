@@ -12,7 +12,7 @@ ghost use lib.Dec.{ltb, eqb};
 ghost use Rattle.spans.specs.Spans.{span, cut, shift-back, shift-on};
 ghost use Rattle.spans.specs.Jump.{min-if, max-if};
 ghost use Rattle.solver.specs.Scan.{Ends-ask, Ends-are, Ends-serve, Strip-asks, Strip-done, Counts-ask, sums, Sums-are, Leasts-are, jump-if, Empty-on, Empties-are, Row-is, Cleared, Only-at, Total-asks, Scanning, Scan-asks, Scan-is};
-ghost use Rattle.spans.specs.Solver.{first-open, start, stop, first-serving, separations, positions};
+ghost use Rattle.spans.specs.Solver.{first-open, stop, first-serving, separations, positions};
 ghost use Rattle.solver.specs.Arrays.{bias, channels-held, strips-held, separations-held, totals-held, entry, spans-of, Sized, given, Serve-asks, window-of, levels, tracks, store, Separate-asks, Stack-asks, Starts-are, Next-asks, Position-asks, columns, taken, Place-asks, Placement-is};
 
 const SEPARATIONS: usize = Stack::MAX_SEPARATION + 1;
@@ -49,14 +49,6 @@ fn least_open(low: &[u64; SEPARATIONS], high: &[u64; SEPARATIONS], last: usize) 
         q += 1;
     }
     q
-}
-
-// The first separation of use in a channel at total v: an open one that leaves no more than the levels above can use.
-fn start(least: usize, last: usize, above: usize, v: usize) -> usize
-    ensures { λ r. ⌜ r ≡ start least last above v ⌝ }
-{
-    let needed = lesser(last as u64, difference(v as u64, above as u64));
-    greater(least as u64, needed) as usize
 }
 
 // One past the last separation of use.
@@ -288,7 +280,7 @@ pub fn place_in(
     }
 }
 
-// Of spans shifted back: the nearest start, and the furthest end raised by the bias once more.
+// Of spans shifted back: the nearest start and the furthest end, each raised by the bias once more.
 struct Ends {
     near: u64,
     reach: u64,
@@ -303,12 +295,12 @@ pub struct Scan {
 
 // The ends stretched by the span (from, upto) shifted back by the limit (low, high), if that span is not empty.
 fn stretch(e: Ends, from: u64, upto: u64, low: u64, high: u64) -> Ends
-    requires { ⌜ (from ≤ bias) × (upto ≤ bias) × (low ≤ 2 * bias) ⌝ }
-    ensures { λ r. ⌜ (r .near ≡ min-if (ltb from upto) (from + bias - high) (e .near)) × (r .reach ≡ max-if (ltb from upto) (upto + 2 * bias - low) (e .reach)) ⌝ }
+    requires { ⌜ (from ≤ bias) × (upto ≤ bias) × (low ≤ 2 * bias) × (high ≤ 2 * bias) ⌝ }
+    ensures { λ r. ⌜ (r .near ≡ min-if (ltb from upto) (from + 2 * bias - high) (e .near)) × (r .reach ≡ max-if (ltb from upto) (upto + 2 * bias - low) (e .reach)) ⌝ }
 {
     if from < upto {
         Ends {
-            near: lesser(e.near, difference(from + Stack::BIAS, high)),
+            near: lesser(e.near, from + 2 * Stack::BIAS - high),
             reach: greater(e.reach, upto + 2 * Stack::BIAS - low),
         }
     } else {
@@ -327,7 +319,7 @@ fn reach_back(
     stop: usize,
     before: Ends,
 ) -> Ends
-    requires { ⌜ Ends-ask v start stop (now low) (now froms) (now uptos) × (before .near ≤ bias) ⌝ }
+    requires { ⌜ Ends-ask v start stop (now low) (now high) (now froms) (now uptos) × (before .near ≤ 2 * bias) ⌝ }
     ensures { λ r. ⌜ Ends-are (now (low .entry)) (now (high .entry)) (now (froms .entry)) (now (uptos .entry)) v start stop before r ⌝ }
 {
     let mut e = before;
@@ -353,22 +345,29 @@ fn ends_in(
     from: u64,
     upto: u64,
 ) -> Ends
-    requires { ⌜ Ends-ask v start stop (now low) (now froms) (now uptos) × (start < stop) × (upto ≤ bias) ⌝ }
+    requires { ⌜ Ends-ask v start stop (now low) (now high) (now froms) (now uptos) × (start < stop) × (from ≤ bias) × (upto ≤ bias) ⌝ }
     ensures { λ r. ⌜ Ends-serve (now (low .entry)) (now (high .entry)) (now (froms .entry)) (now (uptos .entry)) v start stop (span from upto) r ⌝ }
 {
     let none = Ends {
-        near: Stack::BIAS,
+        near: 2 * Stack::BIAS,
         reach: 0,
     };
     let q = stop - 1;
     let u = v - q;
     let e = stretch(none, froms[u], uptos[u], low[q], high[q]);
-    if e.near <= from {
+    if e.near <= from + Stack::BIAS {
         if upto + Stack::BIAS <= e.reach {
             return e;
         }
     }
     reach_back(low, high, froms, uptos, v, start, q, e)
+}
+
+// The first separation of use in a channel at a total of use: an open one that leaves no more than the levels above can use.
+fn start_above(least: usize, above: usize, v: usize) -> usize
+    ensures { λ r. ⌜ r ≡ max least (v - above) ⌝ }
+{
+    greater(least as u64, difference(v as u64, above as u64)) as usize
 }
 
 // One past the last separation of use that leaves no less than the first `empty` totals.
@@ -394,10 +393,10 @@ fn scan_strip(
     froms: &mut [[u64; TOTALS]; STRIPS],
     uptos: &mut [[u64; TOTALS]; STRIPS],
 ) -> u64
-    requires { ⌜ Strip-asks i last above empty v from upto (now low) (now froms) (now uptos) ⌝ }
+    requires { ⌜ Strip-asks i last above empty v from upto (now low) (now high) (now froms) (now uptos) ⌝ }
     ensures { λ r. ⌜ Strip-done (now (low .entry)) (now (high .entry)) i least last above v (span from upto) (now (froms .entry)) (now (uptos .entry)) (now (froms .exit)) (now (uptos .exit)) r ⌝ }
 {
-    let first = start(least, last, above, v);
+    let first = start_above(least, above, v);
     let end = stop_above(last, v, empty);
     if end <= first {
         froms[i][v] = greater(from, upto);
@@ -415,10 +414,11 @@ fn scan_strip(
         from,
         upto,
     );
-    froms[i][v] = greater(from, lesser(upto, e.near));
+    let near = difference(e.near, Stack::BIAS);
+    froms[i][v] = greater(from, lesser(upto, near));
     uptos[i][v] = lesser(upto, difference(e.reach, Stack::BIAS));
     difference(
-        greater(from, e.near) + 1 + Stack::BIAS,
+        greater(from, near) + 1 + Stack::BIAS,
         lesser(upto + Stack::BIAS, e.reach),
     )
 }
@@ -538,13 +538,14 @@ fn scan_total(
     jump
 }
 
-// Writes x for the totals up to cap.
-fn fill_row(row: &mut [u64; TOTALS], x: u64, cap: usize)
-    requires { ⌜ (cap < totals-held) × (length (now row) ≡ totals-held) ⌝ }
-    ensures { λ _. ⌜ Row-is x (cap + 1) (now (row .exit)) ⌝ }
+// Writes the span (from, 0) for the totals up to cap.
+fn clear_row(froms: &mut [u64; TOTALS], uptos: &mut [u64; TOTALS], from: u64, cap: usize)
+    requires { ⌜ (cap < totals-held) × (length (now froms) ≡ totals-held) × (length (now uptos) ≡ totals-held) ⌝ }
+    ensures { λ _. ⌜ Row-is from (cap + 1) (now (froms .exit)) × Row-is 0 (cap + 1) (now (uptos .exit)) ⌝ }
 {
     for u in 0..cap + 1 {
-        row[u] = x;
+        froms[u] = from;
+        uptos[u] = 0;
     }
 }
 
@@ -561,8 +562,7 @@ fn clear(
     ensures { λ _. ⌜ Cleared (now (from .entry)) (now (upto .entry)) k 0 cap (now (froms .exit)) (now (uptos .exit)) ⌝ }
 {
     for i in 0..k {
-        fill_row(&mut froms[i], greater(from[i], upto[i]), cap);
-        fill_row(&mut uptos[i], 0, cap);
+        clear_row(&mut froms[i], &mut uptos[i], greater(from[i], upto[i]), cap);
     }
 }
 

@@ -17,11 +17,17 @@ abbrev μ-loop : tie.MeasureT-loop
 loop-holds : tie.Need-loop-holds Inv-loop μ-loop
 loop-holds c = (omega arith, clear-start _ _ _ _ _ (c .pre .2) (c .pre .3))
 
-mul-fill-row : tie.Need-mul-fill-row Inv-loop μ-loop
-mul-fill-row c = search needs
+mul-clear-row : tie.Need-mul-clear-row Inv-loop μ-loop
+mul-clear-row c = search needs
 
-index-1-fill-row : tie.Need-index-1-fill-row Inv-loop μ-loop
-index-1-fill-row c = search needs
+index-1-clear-row : tie.Need-index-1-clear-row Inv-loop μ-loop
+index-1-clear-row c = search needs
+
+mul-clear-row-2 : tie.Need-mul-clear-row-2 Inv-loop μ-loop
+mul-clear-row-2 c = search needs
+
+index-1-clear-row-2 : tie.Need-index-1-clear-row-2 Inv-loop μ-loop
+index-1-clear-row-2 c = search needs
 
 mul-greater : tie.Need-mul-greater Inv-loop μ-loop
 mul-greater c = search needs
@@ -38,17 +44,8 @@ element-copy-out-greater-2 c = search needs
 greater-requires : tie.Need-greater-requires Inv-loop μ-loop
 greater-requires c κs = search needs
 
-fill-row-requires : tie.Need-fill-row-requires Inv-loop μ-loop
-fill-row-requires c κs = (c .before .before .before .before .before .before .pre .1, c .before .before .before .before .before .loop .inv .1 .sized-froms .cells (c .before .before .before .before .before .loop .i) (omega arith))
-
-mul-fill-row-2 : tie.Need-mul-fill-row-2 Inv-loop μ-loop
-mul-fill-row-2 c = search needs
-
-index-1-fill-row-2 : tie.Need-index-1-fill-row-2 Inv-loop μ-loop
-index-1-fill-row-2 c = search needs
-
-fill-row-requires-2 : tie.Need-fill-row-requires-2 Inv-loop μ-loop
-fill-row-requires-2 c κs = (c .before .before .before .before .before .before .before .before .pre .1, c .before .before .before .before .before .before .before .loop .inv .1 .sized-uptos .cells (c .before .before .before .before .before .before .before .loop .i) (omega arith))
+clear-row-requires : tie.Need-clear-row-requires Inv-loop μ-loop
+clear-row-requires c κs = (c .before .before .before .before .before .before .before .pre .1, c .before .before .before .before .before .before .loop .inv .1 .sized-froms .cells (c .before .before .before .before .before .before .loop .i) (omega arith), c .before .before .before .before .before .before .loop .inv .1 .sized-uptos .cells (c .before .before .before .before .before .before .loop .i) (omega arith))
 
 add-i : tie.Need-add-i Inv-loop μ-loop
 add-i c = search needs
@@ -57,7 +54,7 @@ loop-less : tie.Need-loop-less Inv-loop μ-loop
 loop-less c = search needs
 
 loop-again : tie.Need-loop-again Inv-loop μ-loop
-loop-again c = (omega arith, clear-step _ _ (c .before .before .before .before .before .before .before .before .loop .i) (c .before .before .before .before .before .before .before .before .before .args .cap) (c .before .before .before .greater .result) _ _ _ _ (omega arith) (c .before .before .before .before .before .before .before .before .loop .inv .1) (c .before .before .before .greater .ensures) (c .before .before .fill-row .ensures) (c .fill-row2 .ensures))
+loop-again c = (omega arith, clear-step _ _ (c .before .before .before .before .before .before .before .loop .i) (c .before .before .before .before .before .before .before .before .args .cap) (c .before .greater .result) _ _ _ _ (omega arith) (c .before .before .before .before .before .before .before .loop .inv .1) (c .before .greater .ensures) (c .clear-row .ensures .0) (c .clear-row .ensures .1))
 
 returns : tie.Need-returns Inv-loop μ-loop
 returns c = let z : c .before .loop .i ≡ c .before .before .args .k = omega arith in rw z at (c .before .loop .inv .1)
@@ -69,17 +66,16 @@ clear-spec =
     Inv-loop
     μ-loop
     loop-holds
-    mul-fill-row
-    index-1-fill-row
+    mul-clear-row
+    index-1-clear-row
+    mul-clear-row-2
+    index-1-clear-row-2
     mul-greater
     element-copy-out-greater
     mul-greater-2
     element-copy-out-greater-2
     greater-requires
-    fill-row-requires
-    mul-fill-row-2
-    index-1-fill-row-2
-    fill-row-requires-2
+    clear-row-requires
     add-i
     loop-less
     loop-again
