@@ -75,12 +75,12 @@ abbrev pub jump-if : (none : Bool) → (jump short : ℕ) → ℕ
 jump-if true j s = j
 jump-if false j s = min j s
 
--- totals below n had empty spans; totals below r have, if that of v is short by so much
+-- totals below r are known to have empty spans, if those below n are, and v is if its span is short
 pub record Empty-on (n v short r : ℕ) : Type 0 where
   pub known : (u : ℕ) → u < r → (u < n) ⊎ ((u ≡ v) × (0 < short))
   pub at-most : n ≤ v → r ≤ suc v
 
--- what stands for the span in the window w of a strip that nothing serves
+-- the span in the window w of a strip for which nothing is left above
 abbrev pub none-in : Span → Span
 none-in w = span (max (w .from) (w .upto)) 0
 

@@ -333,7 +333,7 @@ fn reach_back(
     e
 }
 
-// Ends for the window (from, upto) from separations start to below stop. If the last one's alone reach over the whole window, the others change nothing in it.
+// Ends for the window (from, upto), from separations start to below stop. If those of the last one reach over the whole window, the others change nothing in it.
 fn ends_in(
     low: &[u64; SEPARATIONS],
     high: &[u64; SEPARATIONS],
@@ -370,7 +370,7 @@ fn start_above(least: usize, above: usize, v: usize) -> usize
     greater(least as u64, difference(v as u64, above as u64)) as usize
 }
 
-// One past the last separation of use that leaves no less than the first `empty` totals.
+// One past the last separation of use that leaves a total of empty or more.
 fn stop_above(last: usize, v: usize, empty: usize) -> usize
     requires { ⌜ (last < separations-held) × (v < totals-held) ⌝ }
     ensures { λ r. ⌜ r ≡ min (last + 1) (v + 1 - empty) ⌝ }
@@ -378,7 +378,7 @@ fn stop_above(last: usize, v: usize, empty: usize) -> usize
     lesser(last as u64 + 1, difference(v as u64 + 1, empty as u64)) as usize
 }
 
-// Writes the span of strip i for total v, from the spans of the strip above, of which the first `empty` are empty, and answers by how much it is short.
+// Writes the span of strip i for total v, from the spans of the strip above, which are empty for totals below empty, and answers by how much it is short.
 fn scan_strip(
     low: &[u64; SEPARATIONS],
     high: &[u64; SEPARATIONS],
@@ -473,7 +473,7 @@ fn shorter(jump: u64, short: u64) -> u64
     lesser(jump, short)
 }
 
-// How many first totals have an empty span: count or bound of them are known, and the span for v is short by so much.
+// How many first totals are known to have an empty span: those below count and below bound are, and v is if its span is short.
 fn count_empty(count: usize, bound: usize, v: usize, short: u64) -> usize
     requires { ⌜ v < totals-held ⌝ }
     ensures { λ r. ⌜ Empty-on (max count bound) v short r ⌝ }
@@ -488,8 +488,8 @@ fn count_empty(count: usize, bound: usize, v: usize, short: u64) -> usize
     v + 1
 }
 
-// Writes the spans of strips k - 1 to 0 for total v, and answers the jump cut down to their shortfalls. Where no separation leaves a span of the strip
-// above, the spans of this strip and of those below it are empty, as they stand.
+// Writes the spans of strips k - 1 to 0 for total v, and answers the jump cut down to their shortfalls. Below its bound a strip has no span, for every
+// separation leaves the strip above an empty one; then the strips below have none either, and all of them are cleared already.
 fn scan_total(
     low: &[[u64; SEPARATIONS]; CHANNELS],
     high: &[[u64; SEPARATIONS]; CHANNELS],
