@@ -1,15 +1,15 @@
 -- The loop that works out the spans for given separations, from the top strip down. Assumes nothing.
-use mathlib.Core.Path.{_≡_, refl, sym, ap, _∙_}
+use mathlib.Core.Path.{_≡_, sym, ap, _∙_}
 use mathlib.Core.Logic.{_⊎_, inl, inr}
-use mathlib.Core.List.{List, [], _∷_}
-use Prim.Native.Nat.{ℕ, zero, suc, _+_, _-_, _*_, _≤_, _<_, min, max}
+use mathlib.Core.List.{List}
+use Prim.Native.Nat.{ℕ, zero, suc, _+_, _*_, _≤_, _<_, min, max}
 use native.Mathlib.Omega.{arith}
 use lib.ListN.{length, getD, set, length-set, List·getD-map}
 use lib.Seq.{getD-set-same, getD-set-other}
 use Rattle.stack.specs.Value.{tracks-of}
 use Rattle.stack.specs.declared.Tracks.{Tracks}
 use Rattle.numbers.proofs.Orders.{lt-or-eq}
-use Rattle.spans.specs.Spans.{Span, span, cut, shift-back}
+use Rattle.spans.specs.Spans.{Span, cut, shift-back}
 use Rattle.spans.specs.Solver.{fixed}
 use Rattle.solver.specs.Arrays.{bias, strips-held, separations-held, entry, spans-of, Given, low-of, high-of, count-of, window-of, levels, Stack-asks, taken, fixed-from, Starts-are}
 use Rattle.solver.specs.Loops.{Fixing}

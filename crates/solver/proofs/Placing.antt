@@ -1,22 +1,20 @@
 -- The tables, the least total and the placement put together. Assumes nothing.
-use mathlib.Core.Path.{_≡_, refl, sym, ap, _∙_}
+use mathlib.Core.Path.{_≡_, refl, ap, _∙_}
 use mathlib.Core.List.{List, [], _∷_}
-use Prim.Native.Nat.{ℕ, zero, suc, _+_, _-_, _*_, _≤_, _<_, min, max}
+use Prim.Native.Nat.{ℕ, zero, suc, _≤_, _<_, min}
 use native.Mathlib.Omega.{arith}
 use lib.ListN.{length, replicate, getD-replicate, length-replicate}
 use Rattle.numbers.specs.Lists.{padded}
 use Rattle.stack.specs.Value.{tracks-of, columns-of}
-use Rattle.spans.specs.Spans.{Span, span, nonempty}
-use Rattle.spans.specs.Solver.{Level, first, first-open, most, cell, back, first-total, least-total, forward, separations, lowest, positions-on, positions}
-use Rattle.spans.specs.Placed.{Placed, Exactly, Widening, Chosen}
-use Rattle.solver.specs.Arrays.{bias, channels-held, strips-held, totals-held, entry, spans-of, row, Sized, span-in, Given, low-of, high-of, count-of, window-of, level-of, levels, Stack-asks, Filled, Separate-asks, store, taken, Position-asks, least-total-of, separations-of, Place-asks, Placement-is}
+use Rattle.spans.specs.Spans.{Span}
+use Rattle.spans.specs.Solver.{Level, most, separations, positions-on, positions}
+use Rattle.spans.specs.Placed.{Chosen}
+use Rattle.solver.specs.Arrays.{bias, channels-held, strips-held, totals-held, row, Sized, Given, window-of, levels, Stack-asks, Separate-asks, store, taken, Position-asks, separations-of, Place-asks, Placement-is}
 use Rattle.solver.specs.Scan.{Scan-asks, Scan-is}
 use Rattle.solver.specs.declared.Scan.{Scan}
 use Rattle.solver.specs.declared.Placement.{Placement}
-use Rattle.solver.proofs.Levels.{last-of, first-same, cell-back, back-ends}
-use Rattle.solver.proofs.Separating.{most-small}
 use Rattle.solver.proofs.Stored.{store-padded, taken-padded}
-use Rattle.spans.proofs.Best.{chosen, placed-lengths}
+use Rattle.spans.proofs.Best.{chosen}
 
 -- tables of zeros
 abbrev zeros : ℕ → List ℕ

@@ -1,14 +1,14 @@
 -- The loop that places the strips from the bottom up. Assumes nothing.
-use mathlib.Core.Path.{_≡_, refl, sym, ap, ap₂, _∙_}
-use mathlib.Core.List.{List, [], _∷_}
-use Prim.Native.Nat.{ℕ, zero, suc, _+_, _-_, _*_, _≤_, _<_, min, max}
+use mathlib.Core.Path.{_≡_}
+use mathlib.Core.List.{List, _∷_}
+use Prim.Native.Nat.{ℕ, suc, _+_, _-_, _≤_, _<_, min, max}
 use native.Mathlib.Numerals.{add-one}
 use native.Mathlib.Omega.{arith}
 use lib.ListN.{set, replicate}
 use Rattle.spans.specs.Spans.{Span, low-at}
-use Rattle.spans.specs.Solver.{Level, fixed, lowest, positions-on, positions}
+use Rattle.spans.specs.Solver.{Level, lowest, positions-on, positions}
 use Rattle.spans.specs.Placed.{Placed, under}
-use Rattle.solver.specs.Arrays.{bias, strips-held, entry, row, Given, low-of, high-of, count-of, window-of, level-of, levels, Stack-asks, taken, fixed-from, Starts-are, store, Next-asks, Position-asks}
+use Rattle.solver.specs.Arrays.{bias, strips-held, entry, row, Given, low-of, high-of, count-of, window-of, level-of, levels, taken, fixed-from, Starts-are, store, Next-asks, Position-asks}
 use Rattle.solver.specs.Loops.{Positioning}
 use Rattle.spans.proofs.Separations.{bottom-in}
 use Rattle.spans.proofs.Positions.{lowest-placed}

@@ -4,22 +4,23 @@ use mathlib.Core.Bool.{Bool, true, false}
 use mathlib.Core.Logic.{_⊎_, inl, inr}
 use mathlib.Core.List.{List, []}
 use Prim.Native.Nat.{ℕ, zero, suc, _+_, _-_, _*_, _≤_, _<_, min, max}
-use native.Mathlib.Nat.{add-zero}
 use native.Mathlib.Numerals.{add-one}
 use native.Mathlib.Omega.{arith}
 use lib.Dec.{eqb}
-use lib.ListN.{length, set, replicate, length-set, length-replicate, getD-replicate}
+use lib.ListN.{length, set, replicate, length-set, getD-replicate}
 use lib.Seq.{getD-set-same, getD-set-other}
 use borrow.Author.Tests.{eqb-true, eqb-false}
 use Rattle.numbers.proofs.Orders.{lt-or-eq, eq-or-not, le-or-lt}
 use Rattle.spans.specs.Spans.{Span, span, nonempty}
-use Rattle.spans.specs.Solver.{first, first-open, most, start, stop, cell, back, first-total}
-use Rattle.spans.specs.Jump.{nearest, furthest, near-of, reach-of, shortfall, cell-short, short-at, None-within}
-use Rattle.solver.specs.Arrays.{bias, channels-held, strips-held, separations-held, totals-held, entry, spans-of, row, Sized, span-in, Given, low-of, high-of, count-of, window-of, level-of, levels, Stack-asks, Filled}
-use Rattle.solver.specs.Scan.{put, Strip-asks, Strip-done, jump-if, short-of, sums, Sums-are, Leasts-are, Counts-ask, Scanning, Total-asks, Scan-asks, Scan-is}
+use Rattle.spans.specs.Solver.{opens, first-open, most, start, stop, cell, back, first-total}
+use Rattle.spans.specs.Jump.{nearest, furthest, shortfall, cell-short}
+use Rattle.solver.specs.Arrays.{bias, channels-held, strips-held, totals-held, entry, spans-of, row, Sized, span-in, Given, low-of, high-of, count-of, window-of, levels, Stack-asks, Filled}
+use Rattle.solver.specs.Scan.{put, Strip-asks, Strip-done, jump-if, short-of, Empty-on, none-in, Row-is, Cleared, Only-at, Empties-are, sums, Sums-are, Leasts-are, Counts-ask, Scanning, Total-asks, Scan-asks, Scan-is}
 use Rattle.solver.specs.Loops.{Searching}
-use Rattle.solver.proofs.Loops.{searching-hit, searching-miss, searching-end, totalling-start, ends-full, ends-empty}
+use Rattle.solver.proofs.Loops.{searching-hit, searching-miss, searching-end, ends-full, ends-empty}
 use Rattle.solver.proofs.Tables.{put-same, put-apart, sized-put}
+use Rattle.spans.proofs.First.{first-upto}
+use Rattle.solver.proofs.Scanning.{cell-none, short-empty}
 use Rattle.solver.proofs.Levels.{last-of, cell-back, back-ends, open-of, low-at-of, high-at-of, in-use as use-within}
 
 -- THE SUMS above each strip
@@ -126,9 +127,51 @@ module _ (g : Given) (i n v : ℕ) (f : ℕ → Span) where
 pub above-sum : (g : Given) (k : ℕ) (r : List ℕ) → Stack-asks g k → Sums-are (g .counts) k 0 r → entry r 1 ≡ most (levels g 1 (k - 1))
 above-sum g k r a s = s .sums-are 1 (k - 1) (omega arith) (omega (arith, a .some)) ∙ sym (most-sums g 1 (k - 1))
 
-pub none-yet : (g : Given) (k cap : ℕ) (froms uptos : List (List ℕ)) → Scan-asks g k cap froms uptos → Scan-asks g k 0 froms uptos
-none-yet g k cap froms uptos a =
-    record { stack = a .stack; total = omega arith; of-use = omega arith; sized-froms = a .sized-froms; sized-uptos = a .sized-uptos }
+-- THE TABLES CLEARED, row by row
+pub row-start : (x : ℕ) (r : List ℕ) → length r ≡ totals-held → Row-is x 0 r
+row-start x r h = record { size = h; written = λ u l. absurd (omega arith) }
+
+pub row-step : (x n : ℕ) (r : List ℕ) → n < totals-held → Row-is x n r → Row-is x (n + 1) (set r n x)
+row-step x n r h s = record { size = length-set r n x ∙ s .size; written = λ u l. go u (lt-or-eq u n (omega arith)) }
+  where
+    go : (u : ℕ) → (u < n) ⊎ (u ≡ n) → entry (set r n x) u ≡ x
+    go u (inl l) = getD-set-other r n u x 0 (omega arith) ∙ s .written u l
+    go u (inr e) = rw e (getD-set-same r n x 0 (omega (arith, s .size)))
+
+pub clear-start : (starts ends : List ℕ) (cap : ℕ) (froms uptos : List (List ℕ)) → Sized froms → Sized uptos → Cleared starts ends 0 0 cap froms uptos
+clear-start starts ends cap froms uptos s t = record { sized-froms = s; sized-uptos = t; cleared = λ j u h l m. absurd (omega arith) }
+
+module _ (t : List (List ℕ)) (s : Sized t) (i x n : ℕ) (r : List ℕ) (h : i < strips-held) (f : Row-is x n r) where
+  fill-same : (u : ℕ) → u < n → entry (row (set t i r) i) u ≡ x
+  fill-same u l = rw (getD-set-same t i r [] (omega (arith, s .rows))) (f .written u l)
+
+  fill-other : (j : ℕ) → (j ≡ i → ⊥) → row (set t i r) j ≡ row t j
+  fill-other j n = getD-set-other t i j r [] n
+
+  sized-fill : Sized (set t i r)
+  sized-fill = record { rows = length-set t i r ∙ s .rows; cells = λ j k. go j k (eq-or-not j i) }
+    where
+      go : (j : ℕ) → j < strips-held → (j ≡ i) ⊎ (j ≡ i → ⊥) → length (row (set t i r) j) ≡ totals-held
+      go j k (inl e) = rw (e, getD-set-same t i r [] (omega (arith, s .rows))) (f .size)
+      go j k (inr n) = rw (fill-other j n) (s .cells j k)
+
+pub clear-step : (starts ends : List ℕ) (i cap x : ℕ) (froms uptos : List (List ℕ)) (r e : List ℕ) → i < strips-held → Cleared starts ends i 0 cap froms uptos →
+    x ≡ max (entry starts i) (entry ends i) → Row-is x (cap + 1) r → Row-is 0 (cap + 1) e → Cleared starts ends (i + 1) 0 cap (set froms i r) (set uptos i e)
+clear-step starts ends i cap x froms uptos r e h c p f g =
+    record {
+      sized-froms = sized-fill froms (c .sized-froms) i x (cap + 1) r h f;
+      sized-uptos = sized-fill uptos (c .sized-uptos) i 0 (cap + 1) e h g;
+      cleared = λ j u l m o. go j u m o (lt-or-eq j i (omega arith));
+    }
+  where
+    go : (j u : ℕ) → 0 ≤ u → u ≤ cap → (j < i) ⊎ (j ≡ i) → span-in (set froms i r) (set uptos i e) j u ≡ none-in (spans-of starts ends j)
+    go j u m o (inl l) =
+        rw (fill-other froms (c .sized-froms) i x (cap + 1) r h f j (omega arith), fill-other uptos (c .sized-uptos) i 0 (cap + 1) e h g j (omega arith)) (c .cleared j u l m o)
+    go j u m o (inr l) = rw l (ap₂ span (fill-same froms (c .sized-froms) i x (cap + 1) r h f u (omega arith) ∙ p) (fill-same uptos (c .sized-uptos) i 0 (cap + 1) e h g u (omega arith)))
+
+pub none-yet : (g : Given) (k cap : ℕ) (froms₀ uptos₀ froms uptos : List (List ℕ)) → Scan-asks g k cap froms₀ uptos₀ → Cleared (g .froms) (g .uptos) k 0 cap froms uptos → Scan-asks g k 0 froms uptos
+none-yet g k cap froms₀ uptos₀ froms uptos a c =
+    record { stack = a .stack; total = omega arith; of-use = omega arith; sized-froms = c .sized-froms; sized-uptos = c .sized-uptos }
 
 -- THE TABLES before the first total: the top strip's window
 module _ (g : Given) (k : ℕ) (froms uptos : List (List ℕ)) (a : Scan-asks g k 0 froms uptos) where
@@ -152,13 +195,56 @@ module _ (g : Given) (k : ℕ) (froms uptos : List (List ℕ)) (a : Scan-asks g 
         earlier = λ j n u e h m. absurd (omega arith);
         here = λ j n h e m. let z : n ≡ 0 = omega arith in let p : j ≡ k = omega arith in rw (z, p) top;
         jump-some = omega arith;
+        jump-small = omega arith;
         earlier-jump = λ j n u e h m t. absurd (omega arith);
         here-jump = λ j n h e m t. absurd (omega arith);
+      }
+
+  pub empties-start : Empties-are k 0 k top-froms top-uptos (replicate strips-held 0)
+  empties-start =
+      record {
+        size = refl;
+        empty = λ j u h l. absurd (omega (arith, none j h));
+        earlier = λ j h. omega (arith, none j (omega arith));
+        here = λ j h. omega (arith, none j h);
+      }
+    where
+      none : (j : ℕ) → j ≤ k → entry (replicate strips-held 0) j ≡ 0
+      none j h = getD-replicate strips-held j 0 0 (omega (arith, a .stack .channels))
+
+  pub cleared-start : (cap : ℕ) → Cleared (g .froms) (g .uptos) k 0 cap froms uptos → Cleared (g .froms) (g .uptos) k 0 cap top-froms top-uptos
+  cleared-start cap c =
+      record {
+        sized-froms = sized-put froms (a .sized-froms) k 0 _ (omega (arith, a .stack .channels));
+        sized-uptos = sized-put uptos (a .sized-uptos) k 0 _ (omega (arith, a .stack .channels));
+        cleared = λ j u h m l.
+            ap₂ span (put-apart froms (a .sized-froms) k 0 _ (omega (arith, a .stack .channels)) j u (λ p q. omega arith)) (put-apart uptos (a .sized-uptos) k 0 _ (omega (arith, a .stack .channels)) j u (λ p q. omega arith))
+            ∙ c .cleared j u h m l;
       }
 
 positive : {j : ℕ} (n : ℕ) → (n ≡ 0 → ⊥) → 0 < j → 0 < min j n
 positive zero h l = absurd (h refl)
 positive (suc n) h l = omega arith
+
+lt-or-le : (x y : ℕ) → (x < y) ⊎ (y ≤ x)
+lt-or-le x y = go (le-or-lt y x)
+  where
+    go : (y ≤ x) ⊎ (x < y) → (x < y) ⊎ (y ≤ x)
+    go (inl h) = inr h
+    go (inr h) = inl h
+
+nothing-tried : (least last above empty u : ℕ) → u < least + empty → min (last + 1) (u + 1 - empty) ≤ max least (u - above)
+nothing-tried least last above empty u h = let k : u + 1 - empty ≤ least = omega arith in omega arith
+
+empties-below : (k v i j : ℕ) (froms uptos : List (List ℕ)) (es : List ℕ) → j ≤ i → Empties-are k v i froms uptos es → Empties-are k v j froms uptos es
+empties-below k v i j froms uptos es h m = record { size = m .size; empty = m .empty; earlier = λ p l. m .earlier p (omega arith); here = m .here }
+
+-- tables before a total, and as strips are written
+pub only-start : (v i : ℕ) (froms uptos : List (List ℕ)) → Only-at v i froms uptos froms uptos
+only-start v i froms uptos = record { kept = λ j u n. refl }
+
+pub only-below : (v i j : ℕ) (froms₀ uptos₀ froms uptos : List (List ℕ)) → j ≤ i → Only-at v i froms₀ uptos₀ froms uptos → Only-at v j froms₀ uptos₀ froms uptos
+only-below v i j froms₀ uptos₀ froms uptos h o = record { kept = λ p u n. o .kept p u (λ l e. n (omega arith) e) }
 
 -- one strip more, strip j under strip i
 module _ (g : Given) (k v i j : ℕ) (froms uptos : List (List ℕ)) (jump : ℕ) (a : Stack-asks g k) (s : Scanning g k v i froms uptos jump) (below : j + 1 ≡ i) (h : i ≤ k) where
@@ -186,76 +272,189 @@ module _ (g : Given) (k v i j : ℕ) (froms uptos : List (List ℕ)) (jump : ℕ
       let r = above-is u l m in
       omega (arith, ap (λ (t : Span). t .from) r, ap (λ (t : Span). t .upto) r, back-ends bias (window-of g (suc j)) (levels g (suc j) n) u, a .starts (suc j) (omega arith), a .ends (suc j) (omega arith))
 
-  module _ (least last above : ℕ) (le : least ≡ first-open (low-of g j) (high-of g j) (count-of g j)) (la : last ≡ count-of g j) (ab : above ≡ most (levels g (suc j) n)) (used : v ≤ last + above) where
-    pub strip-asks : v < totals-held → Strip-asks j last above v (entry (g .froms) j) (entry (g .uptos) j) (row (g .lows) j) froms uptos
-    strip-asks t =
-        record {
-          channel = omega (arith, a .channels);
-          total = t;
-          listed = omega (arith, a .listed j (omega arith));
-          of-use = used;
-          start = a .starts j (omega arith);
-          end = a .ends j (omega arith);
-          lows-small = λ q l. a .lows j q (omega arith) (omega arith);
-          starts = λ u l m. above-ends u l (omega arith) .0;
-          ends = λ u l m. above-ends u l (omega arith) .1;
-        }
+  module _ (least last above : ℕ) (le : least ≡ first-open (low-of g j) (high-of g j) (count-of g j)) (la : last ≡ count-of g j) (ab : above ≡ most (levels g (suc j) n)) where
+    abbrev f : ℕ → Span
+    f = spans-of (row froms (j + 1)) (row uptos (j + 1))
 
-    module _ (froms′ uptos′ : List (List ℕ)) (short : ℕ) (d : Strip-done (row (g .lows) j) (row (g .highs) j) j least last above v (window-of g j) froms uptos froms′ uptos′ short) (t : v < totals-held) where
-      abbrev f : ℕ → Span
-      f = spans-of (row froms (j + 1)) (row uptos (j + 1))
+    cell-at : (u : ℕ) → u ≤ v → u ≤ last + above → cell bias (low-of g j) (high-of g j) least last above f (window-of g j) u ≡ back bias (window-of g j) (levels g j (suc n)) u
+    cell-at u l m = rw (le, la, ab) (cell-back g j n u f (omega arith) (λ t o p. above-is t (omega arith) p))
 
-      cell-is : cell bias (low-of g j) (high-of g j) least last above f (window-of g j) v ≡ back bias (window-of g j) (levels g j (suc n)) v
-      cell-is = rw (le, la, ab) (cell-back g j n v f (omega arith) (λ u l m. above-is u l m))
+    short-at-total : v ≤ last + above → cell-short bias bias (low-of g j) (high-of g j) least last above f (window-of g j) v ≡ short-of g j n v
+    short-at-total m = rw (le, la, ab) (short-back g j n v f (omega arith) (λ t o p. above-is t o p))
 
-      short-is : short ≡ short-of g j n v
-      short-is = d .short-is ∙ rw (le, la, ab) (short-back g j n v f (omega arith) (λ u l m. above-is u l m))
-
-      -- the other cells are as they were
-      kept : (p u : ℕ) → (p ≡ j → u ≡ v → ⊥) → span-in froms′ uptos′ p u ≡ span-in froms uptos p u
-      kept p u m =
-          rw (d .from-put, d .upto-put)
-          (ap₂ span (put-apart froms (s .sized-froms) j v _ (omega (arith, a .channels)) p u m) (put-apart uptos (s .sized-uptos) j v _ (omega (arith, a .channels)) p u m))
-
-      here-written : span-in froms′ uptos′ j v ≡ back bias (window-of g j) (levels g j (suc n)) v
-      here-written =
-          rw (d .from-put, d .upto-put)
-          (ap₂ span (put-same froms (s .sized-froms) j v _ (omega (arith, a .channels)) t) (put-same uptos (s .sized-uptos) j v _ (omega (arith, a .channels)) t)) ∙ cell-is
-
-      jump-less : (z : Bool) → jump-if z jump short ≤ jump
-      jump-less true = omega arith
-      jump-less false = omega arith
-
-      jump-short : (z : Bool) → eqb short 0 ≡ z → 0 < short → jump-if z jump short ≤ short
-      jump-short true e l = absurd (omega (arith, eqb-true short 0 e))
-      jump-short false e l = omega arith
-
-      pub scanning-strip : Scanning g k v j froms′ uptos′ (jump-if (eqb short 0) jump short)
-      scanning-strip =
+    -- the strip above has an empty span for totals below empty
+    module _ (empty : ℕ) (none : (u : ℕ) → u < empty → u ≤ above → entry (row uptos (j + 1)) u ≤ entry (row froms (j + 1)) u) (t : v < totals-held) where
+      asks-at : (u : ℕ) → u ≤ v → u ≤ last + above → Strip-asks j last above empty u (entry (g .froms) j) (entry (g .uptos) j) (row (g .lows) j) (row (g .highs) j) froms uptos
+      asks-at u l o =
           record {
-            sized-froms = rw (d .from-put) (sized-put froms (s .sized-froms) j v _ (omega (arith, a .channels)));
-            sized-uptos = rw (d .upto-put) (sized-put uptos (s .sized-uptos) j v _ (omega (arith, a .channels)));
-            earlier = λ p m u e l o. kept p u (λ q r. omega arith) ∙ s .earlier p m u e l o;
-            here = λ p m l e o. go p m e o (lt-or-eq j p l);
-            jump-some = some (eqb short 0) refl;
-            earlier-jump = λ p m u e l o x. omega (arith, jump-less (eqb short 0), s .earlier-jump p m u e l o x);
-            here-jump = λ p m l e o x. jumps p m e o x (lt-or-eq j p l);
+            channel = omega (arith, a .channels);
+            total = omega arith;
+            listed = omega (arith, a .listed j (omega arith));
+            of-use = o;
+            start = a .starts j (omega arith);
+            end = a .ends j (omega arith);
+            lows-small = λ q p. a .lows j q (omega arith) (omega arith);
+            highs-small = λ q p. a .highs j q (omega arith) (omega arith);
+            starts = λ w p m. above-ends w (omega arith) (omega arith) .0;
+            ends = λ w p m. above-ends w (omega arith) (omega arith) .1;
+            empties = none;
           }
-        where
-          go : (p m : ℕ) → p + m ≡ k → v ≤ most (levels g p m) → (j < p) ⊎ (j ≡ p) → span-in froms′ uptos′ p v ≡ back bias (window-of g p) (levels g p m) v
-          go p m e o (inl l) = kept p v (λ q r. omega arith) ∙ s .here p m (omega arith) e o
-          go p m e o (inr l) = let z : m ≡ suc n = omega arith in rw (← l, z) here-written
 
-          some : (z : Bool) → eqb short 0 ≡ z → 0 < jump-if z jump short
-          some true e = s .jump-some
-          some false e = positive short (eqb-false short 0 e) (s .jump-some)
+      none-at : (u : ℕ) → u ≤ v → u ≤ last + above → u < least + empty →
+          (cell bias (low-of g j) (high-of g j) least last above f (window-of g j) u ≡ none-in (window-of g j))
+          × (cell-short bias bias (low-of g j) (high-of g j) least last above f (window-of g j) u ≡ 2 * bias + 1)
+      none-at u l o b =
+          cell-none j least last above empty u (entry (g .froms) j) (entry (g .uptos) j) (max least (u - above)) (min (last + 1) (u + 1 - empty)) (row (g .lows) j) (row (g .highs) j) froms uptos (asks-at u l o) refl refl
+          (nothing-tried least last above empty u b)
 
-          jumps : (p m : ℕ) → p + suc m ≡ k → v ≤ most (levels g p (suc m)) → 0 < short-of g p m v → (j < p) ⊎ (j ≡ p) → jump-if (eqb short 0) jump short ≤ short-of g p m v
-          jumps p m e o x (inl l) = omega (arith, jump-less (eqb short 0), s .here-jump p m (omega arith) e o x)
-          jumps p m e o x (inr l) =
-              let z : m ≡ n = omega arith in
-              let y : 0 < short = omega (arith, short-is, rw (← l, z) at x) in
-              rw (← l, z) (omega (arith, short-is, jump-short (eqb short 0) refl y))
+      -- a total below which the strip above leaves nothing
+      pub back-none : (u : ℕ) → u ≤ v → u ≤ last + above → u < least + empty → back bias (window-of g j) (levels g j (suc n)) u ≡ none-in (window-of g j)
+      back-none u l o b = sym (cell-at u l o) ∙ none-at u l o b .0
+
+      -- the strip is passed over
+      module _ (beyond : v < least + empty) (clear : span-in froms uptos j v ≡ none-in (window-of g j)) where
+        pub scanning-none : Scanning g k v j froms uptos jump
+        scanning-none =
+            record {
+              sized-froms = s .sized-froms;
+              sized-uptos = s .sized-uptos;
+              earlier = s .earlier;
+              here = λ p m l e u. go p m e u (lt-or-eq j p l);
+              jump-some = s .jump-some;
+              jump-small = s .jump-small;
+              earlier-jump = s .earlier-jump;
+              here-jump = λ p m l e u x. jumps p m e u x (lt-or-eq j p l);
+            }
+          where
+            go : (p m : ℕ) → p + m ≡ k → v ≤ most (levels g p m) → (j < p) ⊎ (j ≡ p) → span-in froms uptos p v ≡ back bias (window-of g p) (levels g p m) v
+            go p m e u (inl l) = s .here p m (omega arith) e u
+            go p m e u (inr l) =
+                let z : m ≡ suc n = omega arith in
+                rw (← l, z) (clear ∙ sym (back-none v (omega arith) (omega (arith, most-here, rw (← l, z) at u)) beyond))
+
+            jumps : (p m : ℕ) → p + suc m ≡ k → v ≤ most (levels g p (suc m)) → 0 < short-of g p m v → (j < p) ⊎ (j ≡ p) → jump ≤ short-of g p m v
+            jumps p m e u x (inl l) = s .here-jump p m (omega arith) e u x
+            jumps p m e u x (inr l) =
+                let z : m ≡ n = omega arith in
+                let o : v ≤ last + above = omega (arith, most-here, rw (← l, z) at u) in
+                rw (← l, z) (omega (arith, short-at-total o, none-at v (omega arith) o beyond .1, s .jump-small))
+
+        -- it has an empty span for every total so far
+        pub none-here : (u : ℕ) → u < suc v → u ≤ most (levels g j (suc n)) → entry (row uptos j) u ≤ entry (row froms j) u
+        none-here u l m =
+            let e = go (lt-or-eq u v (omega arith)) in
+            omega (arith, ap (λ (t : Span). t .upto) e)
+          where
+            go : (u < v) ⊎ (u ≡ v) → span-in froms uptos j u ≡ none-in (window-of g j)
+            go (inl o) = s .earlier j (suc n) u counted o m ∙ back-none u (omega arith) (omega (arith, most-here)) (omega arith)
+            go (inr o) = rw o clear
+
+    module _ (used : v ≤ last + above) where
+      pub strip-asks : (es : List ℕ) → Empties-are k v i froms uptos es → v < totals-held →
+          Strip-asks j last above (entry es (j + 1)) v (entry (g .froms) j) (entry (g .uptos) j) (row (g .lows) j) (row (g .highs) j) froms uptos
+      strip-asks es m t = asks-at (entry es (j + 1)) (λ u l o. m .empty (j + 1) u (omega arith) l) t v (omega arith) used
+
+      module _ (froms′ uptos′ : List (List ℕ)) (short : ℕ) (d : Strip-done (row (g .lows) j) (row (g .highs) j) j least last above v (window-of g j) froms uptos froms′ uptos′ short) (t : v < totals-held) where
+        short-is : short ≡ short-of g j n v
+        short-is = d .short-is ∙ short-at-total used
+
+        -- the other cells are as they were
+        kept : (p u : ℕ) → (p ≡ j → u ≡ v → ⊥) → span-in froms′ uptos′ p u ≡ span-in froms uptos p u
+        kept p u m =
+            rw (d .from-put, d .upto-put)
+            (ap₂ span (put-apart froms (s .sized-froms) j v _ (omega (arith, a .channels)) p u m) (put-apart uptos (s .sized-uptos) j v _ (omega (arith, a .channels)) p u m))
+
+        here-written : span-in froms′ uptos′ j v ≡ back bias (window-of g j) (levels g j (suc n)) v
+        here-written =
+            rw (d .from-put, d .upto-put)
+            (ap₂ span (put-same froms (s .sized-froms) j v _ (omega (arith, a .channels)) t) (put-same uptos (s .sized-uptos) j v _ (omega (arith, a .channels)) t)) ∙ cell-at v (omega arith) used
+
+        jump-less : (z : Bool) → jump-if z jump short ≤ jump
+        jump-less true = omega arith
+        jump-less false = omega arith
+
+        jump-short : (z : Bool) → eqb short 0 ≡ z → 0 < short → jump-if z jump short ≤ short
+        jump-short true e l = absurd (omega (arith, eqb-true short 0 e))
+        jump-short false e l = omega arith
+
+        pub scanning-strip : Scanning g k v j froms′ uptos′ (jump-if (eqb short 0) jump short)
+        scanning-strip =
+            record {
+              sized-froms = rw (d .from-put) (sized-put froms (s .sized-froms) j v _ (omega (arith, a .channels)));
+              sized-uptos = rw (d .upto-put) (sized-put uptos (s .sized-uptos) j v _ (omega (arith, a .channels)));
+              earlier = λ p m u e l o. kept p u (λ q r. omega arith) ∙ s .earlier p m u e l o;
+              here = λ p m l e o. go p m e o (lt-or-eq j p l);
+              jump-some = some (eqb short 0) refl;
+              jump-small = omega (arith, jump-less (eqb short 0), s .jump-small);
+              earlier-jump = λ p m u e l o x. omega (arith, jump-less (eqb short 0), s .earlier-jump p m u e l o x);
+              here-jump = λ p m l e o x. jumps p m e o x (lt-or-eq j p l);
+            }
+          where
+            go : (p m : ℕ) → p + m ≡ k → v ≤ most (levels g p m) → (j < p) ⊎ (j ≡ p) → span-in froms′ uptos′ p v ≡ back bias (window-of g p) (levels g p m) v
+            go p m e o (inl l) = kept p v (λ q r. omega arith) ∙ s .here p m (omega arith) e o
+            go p m e o (inr l) = let z : m ≡ suc n = omega arith in rw (← l, z) here-written
+
+            some : (z : Bool) → eqb short 0 ≡ z → 0 < jump-if z jump short
+            some true e = s .jump-some
+            some false e = positive short (eqb-false short 0 e) (s .jump-some)
+
+            jumps : (p m : ℕ) → p + suc m ≡ k → v ≤ most (levels g p (suc m)) → 0 < short-of g p m v → (j < p) ⊎ (j ≡ p) → jump-if (eqb short 0) jump short ≤ short-of g p m v
+            jumps p m e o x (inl l) = omega (arith, jump-less (eqb short 0), s .here-jump p m (omega arith) e o x)
+            jumps p m e o x (inr l) =
+                let z : m ≡ n = omega arith in
+                let y : 0 < short = omega (arith, short-is, rw (← l, z) at x) in
+                rw (← l, z) (omega (arith, short-is, jump-short (eqb short 0) refl y))
+
+        pub only-strip : (froms₀ uptos₀ : List (List ℕ)) → Only-at v i froms₀ uptos₀ froms uptos → Only-at v j froms₀ uptos₀ froms′ uptos′
+        only-strip froms₀ uptos₀ o = record { kept = λ p u m. kept p u (λ e q. m (omega arith) q) ∙ o .kept p u (λ l q. m (omega arith) q) }
+
+        short-here : 0 < short → entry (row uptos′ j) v ≤ entry (row froms′ j) v
+        short-here x =
+            let e = short-empty (low-of g j) (high-of g j) least last above f (window-of g j) v (a .ends j (omega arith)) (rw (d .short-is) at x) in
+            rw (d .from-put, d .upto-put)
+            (omega (arith, put-same froms (s .sized-froms) j v (cell bias (low-of g j) (high-of g j) least last above f (window-of g j) v .from) (omega (arith, a .channels)) t, put-same uptos (s .sized-uptos) j v (cell bias (low-of g j) (high-of g j) least last above f (window-of g j) v .upto) (omega (arith, a .channels)) t))
+
+        pub empties-strip : (es : List ℕ) (x : ℕ) → Empties-are k v i froms uptos es → least + entry es (j + 1) ≤ v → Empty-on (max (entry es j) (least + entry es (j + 1))) v short x →
+            Empties-are k v j froms′ uptos′ (set es j x)
+        empties-strip es x m b o =
+            record {
+              size = length-set es j x ∙ m .size;
+              empty = λ p u l q. go p u l q (eq-or-not p j);
+              earlier = λ p l. rw (getD-set-other es j p x 0 (omega arith)) (m .earlier p (omega arith));
+              here = λ p l. bound p l (eq-or-not p j);
+            }
+          where
+            written : entry (set es j x) j ≡ x
+            written = getD-set-same es j x 0 (omega (arith, m .size, a .channels))
+
+            -- a cell that was empty and is not the one written
+            still : (p u : ℕ) → p ≤ k → u < entry es p → (p ≡ j → u ≡ v → ⊥) → entry (row uptos′ p) u ≤ entry (row froms′ p) u
+            still p u l q n =
+                let e = kept p u n in
+                omega (arith, ap (λ (t : Span). t .from) e, ap (λ (t : Span). t .upto) e, m .empty p u l q)
+
+            -- a total that the strip above leaves nothing for
+            beyond : (u : ℕ) → u < least + entry es (j + 1) → entry (row uptos′ j) u ≤ entry (row froms′ j) u
+            beyond u q =
+                let e = kept j u (λ y z. omega arith) ∙ (s .earlier j (suc n) u counted (omega arith) (omega (arith, most-here))
+                ∙ back-none (entry es (j + 1)) (λ w l o. m .empty (j + 1) w (omega arith) l) t u (omega arith) (omega arith) q) in
+                omega (arith, ap (λ (t : Span). t .upto) e)
+
+            known : (u : ℕ) → (u < entry es j) ⊎ (entry es j ≤ u) → u < max (entry es j) (least + entry es (j + 1)) → entry (row uptos′ j) u ≤ entry (row froms′ j) u
+            known u (inl q) w = still j u (omega arith) q (λ y z. omega (arith, m .earlier j (omega arith)))
+            known u (inr q) w = beyond u (omega arith)
+
+            own : (u : ℕ) → (u < max (entry es j) (least + entry es (j + 1))) ⊎ ((u ≡ v) × (0 < short)) → entry (row uptos′ j) u ≤ entry (row froms′ j) u
+            own u (inl q) = known u (lt-or-le u (entry es j)) q
+            own u (inr q) = rw (q .0) (short-here (q .1))
+
+            go : (p u : ℕ) → p ≤ k → u < entry (set es j x) p → (p ≡ j) ⊎ (p ≡ j → ⊥) → entry (row uptos′ p) u ≤ entry (row froms′ p) u
+            go p u l q (inl e) = rw e (own u (o .known u (rw (e, written) at q)))
+            go p u l q (inr n) = still p u l (rw (getD-set-other es j p x 0 n) at q) (λ y z. n y)
+
+            bound : (p : ℕ) → p ≤ k → (p ≡ j) ⊎ (p ≡ j → ⊥) → entry (set es j x) p ≤ suc v
+            bound p l (inl e) = rw (e, written) (o .at-most (omega (arith, m .earlier j (omega arith))))
+            bound p l (inr n) = rw (getD-set-other es j p x 0 n) (m .here p l)
 
   -- a strip for which the total is beyond use
   pub scanning-skip : most (levels g j (suc n)) < v → Scanning g k v j froms uptos jump
@@ -266,6 +465,7 @@ module _ (g : Given) (k v i j : ℕ) (froms uptos : List (List ℕ)) (jump : ℕ
         earlier = s .earlier;
         here = λ p m l e u. go p m e u (lt-or-eq j p l);
         jump-some = s .jump-some;
+        jump-small = s .jump-small;
         earlier-jump = s .earlier-jump;
         here-jump = λ p m l e u x. jumps p m e u x (lt-or-eq j p l);
       }
@@ -278,7 +478,44 @@ module _ (g : Given) (k v i j : ℕ) (froms uptos : List (List ℕ)) (jump : ℕ
       jumps p m e u x (inl l) = s .here-jump p m (omega arith) e u x
       jumps p m e u x (inr l) = let z : m ≡ n = omega arith in absurd (omega (arith, rw (← l, z) at u))
 
+-- the strips below strip i, if that has an empty span for every total so far
+pub scanning-bottom : (g : Given) (k v i : ℕ) (froms uptos : List (List ℕ)) (jump : ℕ) → Stack-asks g k → v < totals-held → i ≤ k → Scanning g k v i froms uptos jump →
+    ((j : ℕ) → j < i → span-in froms uptos j v ≡ none-in (window-of g j)) →
+    ((u : ℕ) → u < suc v → u ≤ most (levels g i (k - i)) → entry (row uptos i) u ≤ entry (row froms i) u) → Scanning g k v 0 froms uptos jump
+scanning-bottom g k v zero froms uptos jump a t h s c e = s
+scanning-bottom g k v (suc j) froms uptos jump a t h s c e =
+    scanning-bottom g k v j froms uptos jump a t (omega arith) scanned (λ p l. c p (omega arith)) (λ u l m. empties u l (rw (← counted) at m))
+  where
+    counted : suc (k - suc j) ≡ k - j
+    counted = omega arith
+
+    least : ℕ
+    least = first-open (low-of g j) (high-of g j) (count-of g j)
+
+    scanned : Scanning g k v j froms uptos jump
+    scanned =
+        scanning-none g k v (suc j) j froms uptos jump a s (omega arith) h least (count-of g j) (most (levels g (suc j) (k - suc j))) refl refl refl (suc v)
+        (λ u l m. rw (add-one j) (e u l m)) t (omega arith) (c j (omega arith))
+
+    empties : (u : ℕ) → u < suc v → u ≤ most (levels g j (suc (k - suc j))) → entry (row uptos j) u ≤ entry (row froms j) u
+    empties =
+        none-here g k v (suc j) j froms uptos jump a s (omega arith) h least (count-of g j) (most (levels g (suc j) (k - suc j))) refl refl refl (suc v)
+        (λ u l m. rw (add-one j) (e u l m)) t (omega arith) (c j (omega arith))
+
 -- THE LOOP OVER TOTALS
+pub empties-next : (k v : ℕ) (froms uptos : List (List ℕ)) (es : List ℕ) → Empties-are k v 0 froms uptos es → Empties-are k (v + 1) k froms uptos es
+empties-next k v froms uptos es m =
+    record { size = m .size; empty = m .empty; earlier = λ j l. omega (arith, m .here j (omega arith)); here = λ j l. omega (arith, m .here j l) }
+
+pub cleared-here : (starts ends : List ℕ) (k v cap : ℕ) (froms uptos : List (List ℕ)) → v ≤ cap → Cleared starts ends k v cap froms uptos → Cleared starts ends k v v froms uptos
+cleared-here starts ends k v cap froms uptos h c =
+    record { sized-froms = c .sized-froms; sized-uptos = c .sized-uptos; cleared = λ j u l m o. c .cleared j u l m (omega arith) }
+
+pub cleared-next : (starts ends : List ℕ) (k v cap : ℕ) (froms uptos froms′ uptos′ : List (List ℕ)) → Sized froms′ → Sized uptos′ → Only-at v 0 froms uptos froms′ uptos′ →
+    Cleared starts ends k v cap froms uptos → Cleared starts ends k (v + 1) cap froms′ uptos′
+cleared-next starts ends k v cap froms uptos froms′ uptos′ s t o c =
+    record { sized-froms = s; sized-uptos = t; cleared = λ j u l m n. o .kept j u (λ p q. omega arith) ∙ c .cleared j u l (omega arith) n }
+
 module _ (g : Given) (k cap : ℕ) where
   abbrev bottom-span : ℕ → Span
   bottom-span v = back bias (window-of g 0) (levels g 0 k) v
@@ -293,6 +530,7 @@ module _ (g : Given) (k cap : ℕ) where
           earlier = λ j n u e h m. before j n u e m (lt-or-eq u v (omega arith));
           here = λ j n h e m. let z : n ≡ 0 = omega arith in absurd (omega (arith, rw z at m));
           jump-some = s .jump-some;
+          jump-small = s .jump-small;
           earlier-jump = λ j n u e h m x. jumps j n u e m x (lt-or-eq u v (omega arith));
           here-jump = λ j n h e m x. absurd (omega arith);
         }
@@ -349,8 +587,8 @@ module _ (g : Given) (k cap : ℕ) where
       }
 
 -- THE LOOP OVER STRIPS, as the code goes: from strip i to strip i - 1
-module _ (g : Given) (k v : ℕ) (ls ms : List ℕ) (froms₀ uptos₀ : List (List ℕ)) (before : ℕ) (t : Total-asks g k v ls ms froms₀ uptos₀ before)
-    (i : ℕ) (froms uptos : List (List ℕ)) (jump : ℕ) (some : 0 < i) (inside : i ≤ k) (s : Scanning g k v i froms uptos jump) where
+module _ (g : Given) (k v : ℕ) (ls ms es₀ : List ℕ) (froms₀ uptos₀ : List (List ℕ)) (before : ℕ) (t : Total-asks g k v ls ms es₀ froms₀ uptos₀ before)
+    (i : ℕ) (froms uptos : List (List ℕ)) (jump : ℕ) (es : List ℕ) (some : 0 < i) (inside : i ≤ k) (s : Scanning g k v i froms uptos jump) (m : Empties-are k v i froms uptos es) (o : Only-at v i froms₀ uptos₀ froms uptos) where
   abbrev j : ℕ
   j = i - 1
 
@@ -369,16 +607,53 @@ module _ (g : Given) (k v : ℕ) (ls ms : List ℕ) (froms₀ uptos₀ : List (L
   used-of : v ≤ entry ms j → v ≤ count-of g j + entry ms (j + 1)
   used-of h = omega (arith, most-of, above-of, most-here g k v i j froms uptos jump (t .stack) s strip-below inside)
 
-  pub total-strip-asks : v ≤ entry ms j → Strip-asks j (count-of g j) (entry ms (j + 1)) v (entry (g .froms) j) (entry (g .uptos) j) (row (g .lows) j) froms uptos
+  pub total-strip-asks : v ≤ entry ms j → Strip-asks j (count-of g j) (entry ms (j + 1)) (entry es (j + 1)) v (entry (g .froms) j) (entry (g .uptos) j) (row (g .lows) j) (row (g .highs) j) froms uptos
   total-strip-asks h =
-      strip-asks g k v i j froms uptos jump (t .stack) s strip-below inside (entry ls j) (count-of g j) (entry ms (j + 1)) least-of refl above-of (used-of h) (t .total)
+      strip-asks g k v i j froms uptos jump (t .stack) s strip-below inside (entry ls j) (count-of g j) (entry ms (j + 1)) least-of refl above-of (used-of h) es m (t .total)
 
-  pub total-strip : v ≤ entry ms j → (froms′ uptos′ : List (List ℕ)) (short next : ℕ) →
+  -- the first total that the strip above leaves something for
+  abbrev bound : ℕ
+  bound = entry ls j + entry es (j + 1)
+
+  pub bound-room : bound < 4096
+  unfolding first-open
+  bound-room =
+      omega (arith, t .total, least-of, first-upto (opens (low-of g j) (high-of g j)) 0 (suc (count-of g j)), t .stack .listed j (omega arith), m .here (j + 1) (omega arith))
+
+  pub total-strip : v ≤ entry ms j → bound ≤ v → (froms′ uptos′ : List (List ℕ)) (short next empty : ℕ) →
       Strip-done (row (g .lows) j) (row (g .highs) j) j (entry ls j) (count-of g j) (entry ms (j + 1)) v (window-of g j) froms uptos froms′ uptos′ short →
-      next ≡ jump-if (eqb short 0) jump short → Scanning g k v j froms′ uptos′ next
-  total-strip h froms′ uptos′ short next d e =
-      rw e
-      (scanning-strip g k v i j froms uptos jump (t .stack) s strip-below inside (entry ls j) (count-of g j) (entry ms (j + 1)) least-of refl above-of (used-of h) froms′ uptos′ short d (t .total))
+      Empty-on (max (entry es j) bound) v short empty → next ≡ jump-if (eqb short 0) jump short →
+      Scanning g k v j froms′ uptos′ next × Empties-are k v j froms′ uptos′ (set es j empty) × Only-at v j froms₀ uptos₀ froms′ uptos′
+  total-strip h b froms′ uptos′ short next empty d x e = (
+    rw e
+        (scanning-strip g k v i j froms uptos jump (t .stack) s strip-below inside (entry ls j) (count-of g j) (entry ms (j + 1)) least-of refl above-of (used-of h) froms′ uptos′ short d (t .total)),
+    empties-strip g k v i j froms uptos jump (t .stack) s strip-below inside (entry ls j) (count-of g j) (entry ms (j + 1)) least-of refl above-of (used-of h) froms′ uptos′ short d (t .total) es empty m b x,
+    only-strip g k v i j froms uptos jump (t .stack) s strip-below inside (entry ls j) (count-of g j) (entry ms (j + 1)) least-of refl above-of (used-of h) froms′ uptos′ short d (t .total) froms₀ uptos₀ o,
+  )
 
-  pub total-skip : entry ms j < v → Scanning g k v j froms uptos jump
-  total-skip h = scanning-skip g k v i j froms uptos jump (t .stack) s strip-below inside (omega (arith, most-of))
+  pub total-skip : entry ms j < v → Scanning g k v j froms uptos jump × Empties-are k v j froms uptos es × Only-at v j froms₀ uptos₀ froms uptos
+  total-skip h = (
+    scanning-skip g k v i j froms uptos jump (t .stack) s strip-below inside (omega (arith, most-of)),
+    empties-below k v i j froms uptos es (omega arith) m,
+    only-below v i j froms₀ uptos₀ froms uptos (omega arith) o,
+  )
+
+  -- nothing is left for this strip, nor for those below
+  pub total-none : v < bound → Scanning g k v 0 froms uptos jump × Empties-are k v 0 froms uptos es × Only-at v 0 froms₀ uptos₀ froms uptos
+  total-none b =
+      let z : suc (k - i) ≡ k - j = omega arith in (
+        scanning-bottom g k v j froms uptos jump (t .stack) (t .total) (omega arith)
+            (scanning-none g k v i j froms uptos jump (t .stack) s strip-below inside (entry ls j) (count-of g j) (entry ms (j + 1)) least-of refl above-of (entry es (j + 1)) above-empty (t .total) b (clear-of j (omega arith)))
+            (λ p l. clear-of p (omega arith))
+            (λ u l q.
+            none-here g k v i j froms uptos jump (t .stack) s strip-below inside (entry ls j) (count-of g j) (entry ms (j + 1)) least-of refl above-of (entry es (j + 1)) above-empty (t .total) b (clear-of j (omega arith)) u l
+            (rw (← z) at q)),
+        empties-below k v i 0 froms uptos es (omega arith) m,
+        only-below v i 0 froms₀ uptos₀ froms uptos (omega arith) o,
+      )
+    where
+      above-empty : (u : ℕ) → u < entry es (j + 1) → u ≤ entry ms (j + 1) → entry (row uptos (j + 1)) u ≤ entry (row froms (j + 1)) u
+      above-empty u l q = m .empty (j + 1) u (omega arith) l
+
+      clear-of : (p : ℕ) → p < i → span-in froms uptos p v ≡ none-in (window-of g p)
+      clear-of p l = o .kept p v (λ q e. omega arith) ∙ t .clear .cleared p v (omega arith) (omega arith) (omega arith)

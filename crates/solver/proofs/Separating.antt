@@ -1,13 +1,13 @@
 -- The loop that finds the separations, from the bottom channel up. Assumes nothing.
-use mathlib.Core.Path.{_≡_, refl, sym, ap, _∙_}
-use mathlib.Core.List.{List, [], _∷_}
+use mathlib.Core.Path.{_≡_, _∙_}
+use mathlib.Core.List.{List}
 use Prim.Native.Nat.{ℕ, zero, suc, _+_, _-_, _*_, _≤_, _<_, min, max}
 use native.Mathlib.Numerals.{add-one}
 use native.Mathlib.Omega.{arith}
 use lib.ListN.{set, replicate}
-use Rattle.spans.specs.Spans.{Span, span, cut, shift-on}
+use Rattle.spans.specs.Spans.{Span, cut, shift-on}
 use Rattle.spans.specs.Solver.{first, opens, first-open, most, stop, back, serves, first-serving, least-serving, forward, separations}
-use Rattle.solver.specs.Arrays.{bias, channels-held, strips-held, separations-held, totals-held, entry, spans-of, row, span-in, Given, low-of, high-of, count-of, window-of, level-of, levels, Stack-asks, Filled, Serve-asks, Separate-asks, store}
+use Rattle.solver.specs.Arrays.{bias, channels-held, separations-held, entry, spans-of, row, Given, low-of, high-of, count-of, window-of, level-of, levels, Stack-asks, Serve-asks, Separate-asks, store}
 use Rattle.solver.specs.Loops.{Separating}
 use Rattle.spans.proofs.First.{first-upto}
 use Rattle.solver.proofs.Levels.{last-of, serving-back, forward-back}

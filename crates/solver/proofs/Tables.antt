@@ -1,12 +1,12 @@
 -- A cell written into a table of rows. Assumes nothing.
-use mathlib.Core.Path.{_≡_, refl, sym, ap, ap₂, _∙_}
+use mathlib.Core.Path.{_≡_, ap, _∙_}
 use mathlib.Core.Logic.{_⊎_, inl, inr}
 use mathlib.Core.List.{List, []}
-use Prim.Native.Nat.{ℕ, suc, _+_, _≤_, _<_}
+use Prim.Native.Nat.{ℕ, _<_}
 use native.Mathlib.Omega.{arith}
-use lib.ListN.{length, getD, set, length-set}
+use lib.ListN.{length, set, length-set}
 use lib.Seq.{getD-set-same, getD-set-other}
-use Rattle.numbers.proofs.Orders.{lt-or-eq, eq-or-not}
+use Rattle.numbers.proofs.Orders.{eq-or-not}
 use Rattle.solver.specs.Arrays.{strips-held, totals-held, entry, row, Sized}
 use Rattle.solver.specs.Scan.{put}
 

@@ -1,12 +1,10 @@
 -- What the solver's arrays stand for. Assumes nothing: these are definitions.
 use mathlib.Core.Path.{_≡_}
-use mathlib.Core.List.{List, [], _∷_, _++_, map}
+use mathlib.Core.List.{List, [], _∷_}
 use Prim.Native.Nat.{ℕ, zero, suc, _+_, _-_, _*_, _≤_, _<_, min}
-use lib.ListN.{length, getD, set, replicate}
+use lib.ListN.{length, getD, set}
 use Rattle.numbers.specs.Lists.{padded}
 use Rattle.stack.specs.Value.{tracks-of, columns-of}
-use Rattle.stack.specs.declared.Tracks.{Tracks}
-use Rattle.stack.specs.declared.Columns.{Columns}
 use Rattle.solver.specs.declared.Placement.{Placement}
 use Rattle.spans.specs.Spans.{Span, span, Limit, limit}
 use Rattle.spans.specs.Solver.{Level, level, most, back, least-total, separations, fixed, positions}
