@@ -23,12 +23,12 @@ use Rattle.channel.proofs.Between.{high-bounded}
 use Rattle.channel.specs.declared.Limits.{Limits}
 use Rattle.spans.specs.Spans.{span}
 use Rattle.spans.specs.Solver.{level, most, least-total}
-use Rattle.solver.specs.Scan.{sums, Counts-ask, Scan-asks, Scan-is}
-use Rattle.solver.specs.declared.Scan.{Scan}
+use Rattle.scan.specs.Scan.{sums, Counts-ask, Scan-asks, Scan-is}
+use Rattle.scan.specs.declared.Scan.{Scan}
 use Rattle.solver.specs.declared.Placement.{Placement}
 use Rattle.solver.proofs.Separating.{most-small}
-use Rattle.solver.proofs.Scans.{most-sums}
-use Rattle.solver.proofs.Placing.{sized-zeros, scan-separate-asks}
+use Rattle.scan.proofs.Sums.{most-sums}
+use Rattle.scan.proofs.Serving.{sized-zeros, scan-separate-asks}
 use Rattle.solver.specs.Arrays.{bias, channels-held, strips-held, separations-held, totals-held, entry, Given, given, low-of, high-of, count-of, window-of, limits-from, level-of, levels, Sized, Stack-asks, Place-asks, Separate-asks, separations-of, Placement-is}
 use Rattle.answer.specs.Solve.{window, channel-limits, stack-levels, bottom, levels-of, total-with, separations-with, positions-with, answer-separations}
 use Rattle.answer.specs.Arrays.{channel-in, strip-in, Limits-in, Windows-in, Answer-is}

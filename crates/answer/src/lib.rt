@@ -9,10 +9,10 @@ ghost use Rattle.answer.specs.Arrays.{Limits-in, Windows-in, Answer-is};
 use channel::SEPARATIONS;
 use channel::channel_limits;
 use numbers::difference;
+use scan::most_total;
+use scan::scan_totals;
 use solver::Placement;
-use solver::most_total;
 use solver::place_in;
-use solver::scan_totals;
 use stack::Columns;
 use stack::Stack;
 

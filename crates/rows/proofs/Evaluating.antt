@@ -9,12 +9,12 @@ use Rattle.stack.specs.declared.Stack.{Stack as Stack-struct}
 use Rattle.stack.proofs.Within.{stack-channels}
 use Rattle.spans.specs.Solver.{most}
 use Rattle.solver.specs.Arrays.{bias, totals-held, levels, Stack-asks, Place-asks, Separate-asks, Placement-is}
-use Rattle.solver.specs.Scan.{sums, Scan-asks, Scan-is}
-use Rattle.solver.specs.declared.Scan.{Scan}
+use Rattle.scan.specs.Scan.{sums, Scan-asks, Scan-is}
+use Rattle.scan.specs.declared.Scan.{Scan}
 use Rattle.solver.specs.declared.Placement.{Placement}
 use Rattle.solver.proofs.Separating.{most-small}
-use Rattle.solver.proofs.Scans.{most-sums}
-use Rattle.solver.proofs.Placing.{scan-separate-asks}
+use Rattle.scan.proofs.Sums.{most-sums}
+use Rattle.scan.proofs.Serving.{scan-separate-asks}
 use Rattle.answer.specs.Solve.{total-with, answer-total}
 use Rattle.answer.specs.Arrays.{Windows-in, Answer-is}
 use Rattle.answer.proofs.Answers.{total-any-bias}

@@ -12,8 +12,8 @@ use Rattle.spans.specs.Spans.{nonempty}
 use Rattle.spans.specs.Solver.{most, back, first, first-total, least-total}
 use Rattle.spans.specs.Jump.{None-within}
 use Rattle.solver.specs.Arrays.{bias, Given, window-of, levels}
-use Rattle.solver.specs.Scan.{short-of, Scan-is}
-use Rattle.solver.specs.declared.Scan.{Scan}
+use Rattle.scan.specs.Scan.{short-of, Scan-is}
+use Rattle.scan.specs.declared.Scan.{Scan}
 use Rattle.spans.proofs.First.{first-upto, first-holds, first-least}
 use Rattle.answer.specs.Solve.{bottom, levels-of, total-with, answer-total}
 use Rattle.answer.proofs.Answers.{total-most, total-any-bias}

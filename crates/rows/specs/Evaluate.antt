@@ -9,8 +9,8 @@ use Rattle.stack.specs.Limits.{within-limits}
 use Rattle.stack.specs.Value.{stack-of}
 use Rattle.stack.specs.declared.Stack.{Stack as Stack-struct}
 use Rattle.solver.specs.Arrays.{strips-held, Given, given, Sized}
-use Rattle.solver.specs.Scan.{sums, Scan-is}
-use Rattle.solver.specs.declared.Scan.{Scan}
+use Rattle.scan.specs.Scan.{sums, Scan-is}
+use Rattle.scan.specs.declared.Scan.{Scan}
 use Rattle.answer.specs.Arrays.{Limits-in, Windows-in}
 
 -- the solver's arrays for a stack and the ends of its windows

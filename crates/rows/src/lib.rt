@@ -3,10 +3,10 @@ ghost use Rattle.stack.specs.Value.{stack-of};
 ghost use Rattle.answer.specs.Arrays.{Answer-is};
 ghost use Rattle.rows.specs.Evaluate.{Evaluate-asks, Evaluated, Place-row-asks};
 use answer::fill_windows;
+use scan::Scan;
+use scan::scan_totals;
 use solver::Placement;
-use solver::Scan;
 use solver::place_in;
-use solver::scan_totals;
 use stack::Stack;
 
 const SEPARATIONS: usize = Stack::MAX_SEPARATION + 1;

@@ -1,11 +1,8 @@
 -- The theorems of the solver.
 pub mod Loops
-pub mod Tables
 pub mod Levels
 pub mod Separating
 pub mod Fixing
 pub mod Positioning
 pub mod Stored
 pub mod Placing
-pub mod Scanning
-pub mod Scans

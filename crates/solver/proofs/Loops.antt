@@ -18,9 +18,6 @@ pub none-left : (stop q : ℕ) → stop ≤ q → 0 ≡ stop - q
 none-left stop q h = omega arith
 
 module _ (f : ℕ → Bool) (stop q : ℕ) where
-  pub searching-start : Searching f stop q (first f q (stop - q))
-  searching-start = record { left = refl }
-
   module _ (found : ℕ) (s : Searching f stop q found) where
     pub searching-hit : q < stop → f q ≡ true → q ≡ found
     searching-hit h e = sym (first-hit f q (stop - suc q) e) ∙ (ap (first f q) (one-left stop q h) ∙ s .left)

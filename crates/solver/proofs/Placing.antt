@@ -1,48 +1,18 @@
 -- The tables, the least total and the placement put together. Assumes nothing.
 use mathlib.Core.Path.{_≡_, refl, ap, _∙_}
 use mathlib.Core.List.{List, [], _∷_}
-use Prim.Native.Nat.{ℕ, zero, suc, _≤_, _<_, min}
+use Prim.Native.Nat.{ℕ, zero, suc}
 use native.Mathlib.Omega.{arith}
-use lib.ListN.{length, replicate, getD-replicate, length-replicate}
+use lib.ListN.{length, replicate}
 use Rattle.numbers.specs.Lists.{padded}
 use Rattle.stack.specs.Value.{tracks-of, columns-of}
 use Rattle.spans.specs.Spans.{Span}
-use Rattle.spans.specs.Solver.{Level, most, separations, positions-on, positions}
+use Rattle.spans.specs.Solver.{Level, separations, positions-on, positions}
 use Rattle.spans.specs.Placed.{Chosen}
-use Rattle.solver.specs.Arrays.{bias, channels-held, strips-held, totals-held, row, Sized, Given, window-of, levels, Stack-asks, Separate-asks, store, taken, Position-asks, separations-of, Place-asks, Placement-is}
-use Rattle.solver.specs.Scan.{Scan-asks, Scan-is}
-use Rattle.solver.specs.declared.Scan.{Scan}
+use Rattle.solver.specs.Arrays.{bias, channels-held, strips-held, Given, window-of, levels, store, taken, Position-asks, separations-of, Place-asks, Placement-is}
 use Rattle.solver.specs.declared.Placement.{Placement}
 use Rattle.solver.proofs.Stored.{store-padded, taken-padded}
 use Rattle.spans.proofs.Best.{chosen}
-
--- tables of zeros
-abbrev zeros : ℕ → List ℕ
-zeros n = replicate n 0
-
-zeros-rows : (m n : ℕ) → length (replicate m (zeros n)) ≡ m
-zeros-rows m n = length-replicate m (zeros n)
-
-zeros-cells : (m n i : ℕ) → i < m → length (row (replicate m (zeros n)) i) ≡ n
-zeros-cells m n i h = rw (getD-replicate m i (zeros n) [] h) (length-replicate {A = ℕ} n 0)
-
-pub sized-zeros : Sized (replicate strips-held (replicate totals-held 0))
-sized-zeros = record { rows = zeros-rows strips-held totals-held; cells = zeros-cells strips-held totals-held }
-
-pub zeros-ask : (g : Given) (k cap : ℕ) → Stack-asks g k → cap < totals-held → cap ≤ most (levels g 0 k) → Scan-asks g k cap (replicate strips-held (replicate totals-held 0)) (replicate strips-held (replicate totals-held 0))
-zeros-ask g k cap a h m = record { stack = a; total = h; of-use = m; sized-froms = sized-zeros; sized-uptos = sized-zeros }
-
--- the tables that a scan leaves serve for the total that it found
-pub scan-separate-asks : (g : Given) (k cap : ℕ) (froms uptos : List (List ℕ)) (r : Scan) → Stack-asks g k → Scan-is g k cap froms uptos r → r .total ≤ cap → cap < totals-held → Separate-asks g k (r .total) (r .above) froms uptos
-scan-separate-asks g k cap froms uptos r a s h t =
-    record {
-      stack = a;
-      cap = min (r .total) cap;
-      table = record { sized-froms = s .table .sized-froms; sized-uptos = s .table .sized-uptos; filled = λ j n v i e c m. s .table .filled j n v (omega arith) e c m };
-      enough = omega arith;
-      above-first = s .above-is;
-      fits = omega arith;
-    }
 
 -- a separation for each channel, a position for each strip
 levels-length : (g : Given) (i n : ℕ) → length (levels g i n) ≡ n

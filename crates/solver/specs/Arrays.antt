@@ -7,7 +7,7 @@ use Rattle.numbers.specs.Lists.{padded}
 use Rattle.stack.specs.Value.{tracks-of, columns-of}
 use Rattle.solver.specs.declared.Placement.{Placement}
 use Rattle.spans.specs.Spans.{Span, span, Limit, limit}
-use Rattle.spans.specs.Solver.{Level, level, most, back, least-total, separations, fixed, positions}
+use Rattle.spans.specs.Solver.{Level, level, most, back, separations, fixed, positions}
 use Rattle.spans.specs.Placed.{Placed, Exactly, Widening}
 
 -- the code's bias, Stack::BIAS
@@ -149,9 +149,6 @@ pub record Position-asks (g : Given) (k : ℕ) (ts : List ℕ) : Type 0 where
   pub x : ℕ
   pub ys : List ℕ
   pub placed : Placed bias (window-of g 0) (levels g 0 k) (taken ts 0 k) x ys
-
-abbrev pub least-total-of : Given → (k : ℕ) → ℕ
-least-total-of g k = least-total bias (window-of g 0) (levels g 0 k)
 
 abbrev pub separations-of : Given → (k total : ℕ) → List ℕ
 separations-of g k v = separations bias (window-of g 0) (levels g 0 k) v

@@ -1,4 +1,3 @@
 -- The solver: windows and limit lists in, least total and placement out.
 pub mod Arrays
 pub mod Loops
-pub mod Scan

@@ -11,9 +11,9 @@ use Rattle.stack.specs.Value.{no-terminals, stack-of}
 use Rattle.stack.specs.declared.Stack.{Stack as Stack-struct}
 use Rattle.stack.proofs.Values.{channel-length}
 use Rattle.stack.proofs.Within.{stack-channels, stack-channel, few-channels, few-pairs}
-use Rattle.solver.specs.Scan.{sums, Scan-is, Counts-ask}
-use Rattle.solver.specs.declared.Scan.{Scan}
-use Rattle.solver.proofs.Scans.{most-sums}
+use Rattle.scan.specs.Scan.{sums, Scan-is, Counts-ask}
+use Rattle.scan.specs.declared.Scan.{Scan}
+use Rattle.scan.proofs.Sums.{most-sums}
 use Rattle.answer.specs.Solve.{answer-total}
 use Rattle.rows.specs.Walk.{widest}
 use Rattle.rows.specs.Evaluate.{arrays, Held, Evaluated, Place-row-asks}

@@ -7,7 +7,7 @@ use Rattle.stack.specs.Stack.{Stack, longest}
 use Rattle.stack.specs.Value.{stack-of}
 use Rattle.stack.specs.declared.Stack.{Stack as Stack-struct}
 use Rattle.solver.specs.Arrays.{strips-held, Sized}
-use Rattle.solver.specs.Scan.{sums}
+use Rattle.scan.specs.Scan.{sums}
 use Rattle.answer.specs.Solve.{answer-total}
 use Rattle.rows.specs.Walk.{rows-walk, widest, rows-of}
 use Rattle.rows.specs.Evaluate.{Held}

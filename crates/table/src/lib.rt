@@ -12,8 +12,8 @@ ghost use Rattle.table.specs.Walking.{Step-asks, Holding, Stepping, Tabl
 use answer::fill_limits;
 use rows::evaluate;
 use rows::place_row;
-use solver::Scan;
-use solver::most_total;
+use scan::Scan;
+use scan::most_total;
 use stack::Stack;
 use writing::put_head;
 use writing::put_row_at;

@@ -1,0 +1,7 @@
+-- The laws of the scan: cells, strips, totals, and what its tables serve for.
+pub mod Tables
+pub mod Scanning
+pub mod Sums
+pub mod Clearing
+pub mod Scans
+pub mod Serving

@@ -1,0 +1,556 @@
+-- The laws of the scan over strips and totals. Assumes nothing.
+use mathlib.Core.Path.{_≡_, refl, sym, ap, ap₂, _∙_}
+use mathlib.Core.Bool.{Bool, true, false}
+use mathlib.Core.Logic.{_⊎_, inl, inr}
+use mathlib.Core.List.{List}
+use Prim.Native.Nat.{ℕ, zero, suc, _+_, _-_, _*_, _≤_, _<_, min, max}
+use native.Mathlib.Numerals.{add-one}
+use native.Mathlib.Omega.{arith}
+use lib.Dec.{eqb}
+use lib.ListN.{set, replicate, length-set, getD-replicate}
+use lib.Seq.{getD-set-same, getD-set-other}
+use borrow.Author.Tests.{eqb-true, eqb-false}
+use Rattle.numbers.proofs.Orders.{lt-or-eq, eq-or-not, le-or-lt}
+use Rattle.spans.specs.Spans.{Span, span, nonempty}
+use Rattle.spans.specs.Solver.{opens, first-open, most, start, stop, cell, back, first-total}
+use Rattle.spans.specs.Jump.{nearest, furthest, shortfall, cell-short}
+use Rattle.solver.specs.Arrays.{bias, strips-held, totals-held, entry, spans-of, row, Sized, span-in, Given, low-of, high-of, count-of, window-of, levels, Stack-asks, Filled}
+use Rattle.scan.specs.Scan.{put, Strip-asks, Strip-done, jump-if, short-of, Empty-on, none-in, Cleared, Only-at, Empties-are, Sums-are, Scanning, Total-asks, Scan-asks, Scan-is}
+use Rattle.solver.specs.Loops.{Searching}
+use Rattle.solver.proofs.Loops.{searching-hit, searching-miss, searching-end, ends-full, ends-empty}
+use Rattle.scan.proofs.Tables.{put-same, put-apart, sized-put}
+use Rattle.spans.proofs.First.{first-upto}
+use Rattle.scan.proofs.Scanning.{cell-none, short-empty}
+use Rattle.solver.proofs.Levels.{last-of, cell-back, back-ends, open-of, low-at-of, high-at-of, in-use as use-within}
+use Rattle.scan.proofs.Sums.{most-sums}
+
+-- A SHORTFALL from the arrays is that of the levels
+nearest-same : (b : ℕ) (high₁ high₂ : ℕ → ℕ) (f₁ f₂ : ℕ → Span) (q n t : ℕ) → ((j : ℕ) → q ≤ j → j < q + n → (high₁ j ≡ high₂ j) × (f₁ j ≡ f₂ j)) →
+    nearest b high₁ f₁ q n t ≡ nearest b high₂ f₂ q n t
+unfolding nearest
+nearest-same b high₁ high₂ f₁ f₂ q zero t h = refl
+nearest-same b high₁ high₂ f₁ f₂ q (suc n) t h =
+    let e = h q (omega arith) (omega arith) in
+    rw (e .0, e .1) (nearest-same b high₁ high₂ f₁ f₂ (suc q) n _ (λ j k m. h j (omega arith) (omega arith)))
+
+furthest-same : (b : ℕ) (low₁ low₂ : ℕ → ℕ) (f₁ f₂ : ℕ → Span) (q n t : ℕ) → ((j : ℕ) → q ≤ j → j < q + n → (low₁ j ≡ low₂ j) × (f₁ j ≡ f₂ j)) →
+    furthest b low₁ f₁ q n t ≡ furthest b low₂ f₂ q n t
+unfolding furthest
+furthest-same b low₁ low₂ f₁ f₂ q zero t h = refl
+furthest-same b low₁ low₂ f₁ f₂ q (suc n) t h =
+    let e = h q (omega arith) (omega arith) in
+    rw (e .0, e .1) (furthest-same b low₁ low₂ f₁ f₂ (suc q) n _ (λ j k m. h j (omega arith) (omega arith)))
+
+module _ (g : Given) (i n v : ℕ) (f : ℕ → Span) where
+  abbrev last : ℕ
+  last = count-of g i
+
+  abbrev above : ℕ
+  above = most (levels g (suc i) n)
+
+  pub short-back : v ≤ last + above → ((u : ℕ) → u ≤ v → u ≤ above → f u ≡ back bias (window-of g (suc i)) (levels g (suc i) n) u) →
+      cell-short bias bias (low-of g i) (high-of g i) (first-open (low-of g i) (high-of g i) last) last above f (window-of g i) v ≡ short-of g i n v
+  unfolding cell-short
+  short-back h s =
+      rw (last-of (low-of g i) (high-of g i) last, open-of (low-of g i) (high-of g i) last)
+      (ap₂ (shortfall bias (window-of g i))
+      (nearest-same bias _ _ _ _ _ _ bias (λ j k m. let r = in-use j k m in (sym (high-at-of (low-of g i) (high-of g i) last j (r .0)), s (v - j) (r .1) (r .2))))
+      (furthest-same bias _ _ _ _ _ _ 0 (λ j k m. let r = in-use j k m in (sym (low-at-of (low-of g i) (high-of g i) last j (r .0)), s (v - j) (r .1) (r .2)))))
+    where
+      o : ℕ
+      o = first-open (low-of g i) (high-of g i) last
+
+      in-use : (j : ℕ) → start o last above v ≤ j → j < start o last above v + (stop last v - start o last above v) → (j ≤ last) × (v - j ≤ v) × (v - j ≤ above)
+      in-use j k m = use-within o last above v j h k m
+
+pub above-sum : (g : Given) (k : ℕ) (r : List ℕ) → Stack-asks g k → Sums-are (g .counts) k 0 r → entry r 1 ≡ most (levels g 1 (k - 1))
+above-sum g k r a s = s .sums-are 1 (k - 1) (omega arith) (omega (arith, a .some)) ∙ sym (most-sums g 1 (k - 1))
+
+pub none-yet : (g : Given) (k cap : ℕ) (froms₀ uptos₀ froms uptos : List (List ℕ)) → Scan-asks g k cap froms₀ uptos₀ → Cleared (g .froms) (g .uptos) k 0 cap froms uptos → Scan-asks g k 0 froms uptos
+none-yet g k cap froms₀ uptos₀ froms uptos a c =
+    record { stack = a .stack; total = omega arith; of-use = omega arith; sized-froms = c .sized-froms; sized-uptos = c .sized-uptos }
+
+-- THE TABLES before the first total: the top strip's window
+module _ (g : Given) (k : ℕ) (froms uptos : List (List ℕ)) (a : Scan-asks g k 0 froms uptos) where
+  abbrev top-froms : List (List ℕ)
+  top-froms = put froms k 0 (entry (g .froms) k)
+
+  abbrev top-uptos : List (List ℕ)
+  top-uptos = put uptos k 0 (entry (g .uptos) k)
+
+  top : span-in top-froms top-uptos k 0 ≡ window-of g k
+  top =
+      ap₂ span (put-same froms (a .sized-froms) k 0 _ (omega (arith, a .stack .channels)) (omega arith))
+      (put-same uptos (a .sized-uptos) k 0 _ (omega (arith, a .stack .channels)) (omega arith))
+
+  pub scanning-start : Scanning g k 0 k top-froms top-uptos bias
+  unfolding most levels back
+  scanning-start =
+      record {
+        sized-froms = sized-put froms (a .sized-froms) k 0 _ (omega (arith, a .stack .channels));
+        sized-uptos = sized-put uptos (a .sized-uptos) k 0 _ (omega (arith, a .stack .channels));
+        earlier = λ j n u e h m. absurd (omega arith);
+        here = λ j n h e m. let z : n ≡ 0 = omega arith in let p : j ≡ k = omega arith in rw (z, p) top;
+        jump-some = omega arith;
+        jump-small = omega arith;
+        earlier-jump = λ j n u e h m t. absurd (omega arith);
+        here-jump = λ j n h e m t. absurd (omega arith);
+      }
+
+  pub empties-start : Empties-are k 0 k top-froms top-uptos (replicate strips-held 0)
+  empties-start =
+      record {
+        size = refl;
+        empty = λ j u h l. absurd (omega (arith, none j h));
+        earlier = λ j h. omega (arith, none j (omega arith));
+        here = λ j h. omega (arith, none j h);
+      }
+    where
+      none : (j : ℕ) → j ≤ k → entry (replicate strips-held 0) j ≡ 0
+      none j h = getD-replicate strips-held j 0 0 (omega (arith, a .stack .channels))
+
+  pub cleared-start : (cap : ℕ) → Cleared (g .froms) (g .uptos) k 0 cap froms uptos → Cleared (g .froms) (g .uptos) k 0 cap top-froms top-uptos
+  cleared-start cap c =
+      record {
+        sized-froms = sized-put froms (a .sized-froms) k 0 _ (omega (arith, a .stack .channels));
+        sized-uptos = sized-put uptos (a .sized-uptos) k 0 _ (omega (arith, a .stack .channels));
+        cleared = λ j u h m l.
+            ap₂ span (put-apart froms (a .sized-froms) k 0 _ (omega (arith, a .stack .channels)) j u (λ p q. omega arith)) (put-apart uptos (a .sized-uptos) k 0 _ (omega (arith, a .stack .channels)) j u (λ p q. omega arith))
+            ∙ c .cleared j u h m l;
+      }
+
+positive : {j : ℕ} (n : ℕ) → (n ≡ 0 → ⊥) → 0 < j → 0 < min j n
+positive zero h l = absurd (h refl)
+positive (suc n) h l = omega arith
+
+lt-or-le : (x y : ℕ) → (x < y) ⊎ (y ≤ x)
+lt-or-le x y = go (le-or-lt y x)
+  where
+    go : (y ≤ x) ⊎ (x < y) → (x < y) ⊎ (y ≤ x)
+    go (inl h) = inr h
+    go (inr h) = inl h
+
+nothing-tried : (least last above empty u : ℕ) → u < least + empty → min (last + 1) (u + 1 - empty) ≤ max least (u - above)
+nothing-tried least last above empty u h = let k : u + 1 - empty ≤ least = omega arith in omega arith
+
+empties-below : (k v i j : ℕ) (froms uptos : List (List ℕ)) (es : List ℕ) → j ≤ i → Empties-are k v i froms uptos es → Empties-are k v j froms uptos es
+empties-below k v i j froms uptos es h m = record { size = m .size; empty = m .empty; earlier = λ p l. m .earlier p (omega arith); here = m .here }
+
+-- tables before a total, and as strips are written
+pub only-start : (v i : ℕ) (froms uptos : List (List ℕ)) → Only-at v i froms uptos froms uptos
+only-start v i froms uptos = record { kept = λ j u n. refl }
+
+pub only-below : (v i j : ℕ) (froms₀ uptos₀ froms uptos : List (List ℕ)) → j ≤ i → Only-at v i froms₀ uptos₀ froms uptos → Only-at v j froms₀ uptos₀ froms uptos
+only-below v i j froms₀ uptos₀ froms uptos h o = record { kept = λ p u n. o .kept p u (λ l e. n (omega arith) e) }
+
+-- one strip more, strip j under strip i
+module _ (g : Given) (k v i j : ℕ) (froms uptos : List (List ℕ)) (jump : ℕ) (a : Stack-asks g k) (s : Scanning g k v i froms uptos jump) (below : j + 1 ≡ i) (h : i ≤ k) where
+  -- how many channels lie above strip i
+  abbrev n : ℕ
+  n = k - i
+
+  counted : j + suc n ≡ k
+  counted = omega arith
+
+  most-here : most (levels g j (suc n)) ≡ count-of g j + most (levels g (suc j) n)
+  unfolding most levels
+  most-here = ap (λ (m : ℕ). m + most (levels g (suc j) n)) (last-of (low-of g j) (high-of g j) (count-of g j))
+
+  -- the strip above, by its totals
+  above-is : (u : ℕ) → u ≤ v → u ≤ most (levels g (suc j) n) → span-in froms uptos (j + 1) u ≡ back bias (window-of g (suc j)) (levels g (suc j) n) u
+  above-is u l m = rw (add-one j) (go (lt-or-eq u v l))
+    where
+      go : (u < v) ⊎ (u ≡ v) → span-in froms uptos (suc j) u ≡ back bias (window-of g (suc j)) (levels g (suc j) n) u
+      go (inl p) = s .earlier (suc j) n u (omega arith) p m
+      go (inr p) = rw p (s .here (suc j) n (omega arith) (omega arith) (rw p at m))
+
+  above-ends : (u : ℕ) → u ≤ v → u ≤ most (levels g (suc j) n) → (entry (row froms (j + 1)) u ≤ bias) × (entry (row uptos (j + 1)) u ≤ bias)
+  above-ends u l m =
+      let r = above-is u l m in
+      omega (arith, ap (λ (t : Span). t .from) r, ap (λ (t : Span). t .upto) r, back-ends bias (window-of g (suc j)) (levels g (suc j) n) u, a .starts (suc j) (omega arith), a .ends (suc j) (omega arith))
+
+  module _ (least last above : ℕ) (le : least ≡ first-open (low-of g j) (high-of g j) (count-of g j)) (la : last ≡ count-of g j) (ab : above ≡ most (levels g (suc j) n)) where
+    abbrev f : ℕ → Span
+    f = spans-of (row froms (j + 1)) (row uptos (j + 1))
+
+    cell-at : (u : ℕ) → u ≤ v → u ≤ last + above → cell bias (low-of g j) (high-of g j) least last above f (window-of g j) u ≡ back bias (window-of g j) (levels g j (suc n)) u
+    cell-at u l m = rw (le, la, ab) (cell-back g j n u f (omega arith) (λ t o p. above-is t (omega arith) p))
+
+    short-at-total : v ≤ last + above → cell-short bias bias (low-of g j) (high-of g j) least last above f (window-of g j) v ≡ short-of g j n v
+    short-at-total m = rw (le, la, ab) (short-back g j n v f (omega arith) (λ t o p. above-is t o p))
+
+    -- the strip above has an empty span for totals below empty
+    module _ (empty : ℕ) (none : (u : ℕ) → u < empty → u ≤ above → entry (row uptos (j + 1)) u ≤ entry (row froms (j + 1)) u) (t : v < totals-held) where
+      asks-at : (u : ℕ) → u ≤ v → u ≤ last + above → Strip-asks j last above empty u (entry (g .froms) j) (entry (g .uptos) j) (row (g .lows) j) (row (g .highs) j) froms uptos
+      asks-at u l o =
+          record {
+            channel = omega (arith, a .channels);
+            total = omega arith;
+            listed = omega (arith, a .listed j (omega arith));
+            of-use = o;
+            start = a .starts j (omega arith);
+            end = a .ends j (omega arith);
+            lows-small = λ q p. a .lows j q (omega arith) (omega arith);
+            highs-small = λ q p. a .highs j q (omega arith) (omega arith);
+            starts = λ w p m. above-ends w (omega arith) (omega arith) .0;
+            ends = λ w p m. above-ends w (omega arith) (omega arith) .1;
+            empties = none;
+          }
+
+      none-at : (u : ℕ) → u ≤ v → u ≤ last + above → u < least + empty →
+          (cell bias (low-of g j) (high-of g j) least last above f (window-of g j) u ≡ none-in (window-of g j))
+          × (cell-short bias bias (low-of g j) (high-of g j) least last above f (window-of g j) u ≡ 2 * bias + 1)
+      none-at u l o b =
+          cell-none j least last above empty u (entry (g .froms) j) (entry (g .uptos) j) (max least (u - above)) (min (last + 1) (u + 1 - empty)) (row (g .lows) j) (row (g .highs) j) froms uptos (asks-at u l o) refl refl
+          (nothing-tried least last above empty u b)
+
+      -- a total below which the strip above leaves nothing
+      pub back-none : (u : ℕ) → u ≤ v → u ≤ last + above → u < least + empty → back bias (window-of g j) (levels g j (suc n)) u ≡ none-in (window-of g j)
+      back-none u l o b = sym (cell-at u l o) ∙ none-at u l o b .0
+
+      -- the strip is passed over
+      module _ (beyond : v < least + empty) (clear : span-in froms uptos j v ≡ none-in (window-of g j)) where
+        pub scanning-none : Scanning g k v j froms uptos jump
+        scanning-none =
+            record {
+              sized-froms = s .sized-froms;
+              sized-uptos = s .sized-uptos;
+              earlier = s .earlier;
+              here = λ p m l e u. go p m e u (lt-or-eq j p l);
+              jump-some = s .jump-some;
+              jump-small = s .jump-small;
+              earlier-jump = s .earlier-jump;
+              here-jump = λ p m l e u x. jumps p m e u x (lt-or-eq j p l);
+            }
+          where
+            go : (p m : ℕ) → p + m ≡ k → v ≤ most (levels g p m) → (j < p) ⊎ (j ≡ p) → span-in froms uptos p v ≡ back bias (window-of g p) (levels g p m) v
+            go p m e u (inl l) = s .here p m (omega arith) e u
+            go p m e u (inr l) =
+                let z : m ≡ suc n = omega arith in
+                rw (← l, z) (clear ∙ sym (back-none v (omega arith) (omega (arith, most-here, rw (← l, z) at u)) beyond))
+
+            jumps : (p m : ℕ) → p + suc m ≡ k → v ≤ most (levels g p (suc m)) → 0 < short-of g p m v → (j < p) ⊎ (j ≡ p) → jump ≤ short-of g p m v
+            jumps p m e u x (inl l) = s .here-jump p m (omega arith) e u x
+            jumps p m e u x (inr l) =
+                let z : m ≡ n = omega arith in
+                let o : v ≤ last + above = omega (arith, most-here, rw (← l, z) at u) in
+                rw (← l, z) (omega (arith, short-at-total o, none-at v (omega arith) o beyond .1, s .jump-small))
+
+        -- it has an empty span for every total so far
+        pub none-here : (u : ℕ) → u < suc v → u ≤ most (levels g j (suc n)) → entry (row uptos j) u ≤ entry (row froms j) u
+        none-here u l m =
+            let e = go (lt-or-eq u v (omega arith)) in
+            omega (arith, ap (λ (t : Span). t .upto) e)
+          where
+            go : (u < v) ⊎ (u ≡ v) → span-in froms uptos j u ≡ none-in (window-of g j)
+            go (inl o) = s .earlier j (suc n) u counted o m ∙ back-none u (omega arith) (omega (arith, most-here)) (omega arith)
+            go (inr o) = rw o clear
+
+    module _ (used : v ≤ last + above) where
+      pub strip-asks : (es : List ℕ) → Empties-are k v i froms uptos es → v < totals-held →
+          Strip-asks j last above (entry es (j + 1)) v (entry (g .froms) j) (entry (g .uptos) j) (row (g .lows) j) (row (g .highs) j) froms uptos
+      strip-asks es m t = asks-at (entry es (j + 1)) (λ u l o. m .empty (j + 1) u (omega arith) l) t v (omega arith) used
+
+      module _ (froms′ uptos′ : List (List ℕ)) (short : ℕ) (d : Strip-done (row (g .lows) j) (row (g .highs) j) j least last above v (window-of g j) froms uptos froms′ uptos′ short) (t : v < totals-held) where
+        short-is : short ≡ short-of g j n v
+        short-is = d .short-is ∙ short-at-total used
+
+        -- the other cells are as they were
+        kept : (p u : ℕ) → (p ≡ j → u ≡ v → ⊥) → span-in froms′ uptos′ p u ≡ span-in froms uptos p u
+        kept p u m =
+            rw (d .from-put, d .upto-put)
+            (ap₂ span (put-apart froms (s .sized-froms) j v _ (omega (arith, a .channels)) p u m) (put-apart uptos (s .sized-uptos) j v _ (omega (arith, a .channels)) p u m))
+
+        here-written : span-in froms′ uptos′ j v ≡ back bias (window-of g j) (levels g j (suc n)) v
+        here-written =
+            rw (d .from-put, d .upto-put)
+            (ap₂ span (put-same froms (s .sized-froms) j v _ (omega (arith, a .channels)) t) (put-same uptos (s .sized-uptos) j v _ (omega (arith, a .channels)) t)) ∙ cell-at v (omega arith) used
+
+        jump-less : (z : Bool) → jump-if z jump short ≤ jump
+        jump-less true = omega arith
+        jump-less false = omega arith
+
+        jump-short : (z : Bool) → eqb short 0 ≡ z → 0 < short → jump-if z jump short ≤ short
+        jump-short true e l = absurd (omega (arith, eqb-true short 0 e))
+        jump-short false e l = omega arith
+
+        pub scanning-strip : Scanning g k v j froms′ uptos′ (jump-if (eqb short 0) jump short)
+        scanning-strip =
+            record {
+              sized-froms = rw (d .from-put) (sized-put froms (s .sized-froms) j v _ (omega (arith, a .channels)));
+              sized-uptos = rw (d .upto-put) (sized-put uptos (s .sized-uptos) j v _ (omega (arith, a .channels)));
+              earlier = λ p m u e l o. kept p u (λ q r. omega arith) ∙ s .earlier p m u e l o;
+              here = λ p m l e o. go p m e o (lt-or-eq j p l);
+              jump-some = some (eqb short 0) refl;
+              jump-small = omega (arith, jump-less (eqb short 0), s .jump-small);
+              earlier-jump = λ p m u e l o x. omega (arith, jump-less (eqb short 0), s .earlier-jump p m u e l o x);
+              here-jump = λ p m l e o x. jumps p m e o x (lt-or-eq j p l);
+            }
+          where
+            go : (p m : ℕ) → p + m ≡ k → v ≤ most (levels g p m) → (j < p) ⊎ (j ≡ p) → span-in froms′ uptos′ p v ≡ back bias (window-of g p) (levels g p m) v
+            go p m e o (inl l) = kept p v (λ q r. omega arith) ∙ s .here p m (omega arith) e o
+            go p m e o (inr l) = let z : m ≡ suc n = omega arith in rw (← l, z) here-written
+
+            some : (z : Bool) → eqb short 0 ≡ z → 0 < jump-if z jump short
+            some true e = s .jump-some
+            some false e = positive short (eqb-false short 0 e) (s .jump-some)
+
+            jumps : (p m : ℕ) → p + suc m ≡ k → v ≤ most (levels g p (suc m)) → 0 < short-of g p m v → (j < p) ⊎ (j ≡ p) → jump-if (eqb short 0) jump short ≤ short-of g p m v
+            jumps p m e o x (inl l) = omega (arith, jump-less (eqb short 0), s .here-jump p m (omega arith) e o x)
+            jumps p m e o x (inr l) =
+                let z : m ≡ n = omega arith in
+                let y : 0 < short = omega (arith, short-is, rw (← l, z) at x) in
+                rw (← l, z) (omega (arith, short-is, jump-short (eqb short 0) refl y))
+
+        pub only-strip : (froms₀ uptos₀ : List (List ℕ)) → Only-at v i froms₀ uptos₀ froms uptos → Only-at v j froms₀ uptos₀ froms′ uptos′
+        only-strip froms₀ uptos₀ o = record { kept = λ p u m. kept p u (λ e q. m (omega arith) q) ∙ o .kept p u (λ l q. m (omega arith) q) }
+
+        short-here : 0 < short → entry (row uptos′ j) v ≤ entry (row froms′ j) v
+        short-here x =
+            let e = short-empty (low-of g j) (high-of g j) least last above f (window-of g j) v (a .ends j (omega arith)) (rw (d .short-is) at x) in
+            rw (d .from-put, d .upto-put)
+            (omega (arith, put-same froms (s .sized-froms) j v (cell bias (low-of g j) (high-of g j) least last above f (window-of g j) v .from) (omega (arith, a .channels)) t, put-same uptos (s .sized-uptos) j v (cell bias (low-of g j) (high-of g j) least last above f (window-of g j) v .upto) (omega (arith, a .channels)) t))
+
+        pub empties-strip : (es : List ℕ) (x : ℕ) → Empties-are k v i froms uptos es → least + entry es (j + 1) ≤ v → Empty-on (max (entry es j) (least + entry es (j + 1))) v short x →
+            Empties-are k v j froms′ uptos′ (set es j x)
+        empties-strip es x m b o =
+            record {
+              size = length-set es j x ∙ m .size;
+              empty = λ p u l q. go p u l q (eq-or-not p j);
+              earlier = λ p l. rw (getD-set-other es j p x 0 (omega arith)) (m .earlier p (omega arith));
+              here = λ p l. bound p l (eq-or-not p j);
+            }
+          where
+            written : entry (set es j x) j ≡ x
+            written = getD-set-same es j x 0 (omega (arith, m .size, a .channels))
+
+            -- a cell that was empty and is not the one written
+            still : (p u : ℕ) → p ≤ k → u < entry es p → (p ≡ j → u ≡ v → ⊥) → entry (row uptos′ p) u ≤ entry (row froms′ p) u
+            still p u l q n =
+                let e = kept p u n in
+                omega (arith, ap (λ (t : Span). t .from) e, ap (λ (t : Span). t .upto) e, m .empty p u l q)
+
+            -- a total that the strip above leaves nothing for
+            beyond : (u : ℕ) → u < least + entry es (j + 1) → entry (row uptos′ j) u ≤ entry (row froms′ j) u
+            beyond u q =
+                let e = kept j u (λ y z. omega arith) ∙ (s .earlier j (suc n) u counted (omega arith) (omega (arith, most-here))
+                ∙ back-none (entry es (j + 1)) (λ w l o. m .empty (j + 1) w (omega arith) l) t u (omega arith) (omega arith) q) in
+                omega (arith, ap (λ (t : Span). t .upto) e)
+
+            known : (u : ℕ) → (u < entry es j) ⊎ (entry es j ≤ u) → u < max (entry es j) (least + entry es (j + 1)) → entry (row uptos′ j) u ≤ entry (row froms′ j) u
+            known u (inl q) w = still j u (omega arith) q (λ y z. omega (arith, m .earlier j (omega arith)))
+            known u (inr q) w = beyond u (omega arith)
+
+            own : (u : ℕ) → (u < max (entry es j) (least + entry es (j + 1))) ⊎ ((u ≡ v) × (0 < short)) → entry (row uptos′ j) u ≤ entry (row froms′ j) u
+            own u (inl q) = known u (lt-or-le u (entry es j)) q
+            own u (inr q) = rw (q .0) (short-here (q .1))
+
+            go : (p u : ℕ) → p ≤ k → u < entry (set es j x) p → (p ≡ j) ⊎ (p ≡ j → ⊥) → entry (row uptos′ p) u ≤ entry (row froms′ p) u
+            go p u l q (inl e) = rw e (own u (o .known u (rw (e, written) at q)))
+            go p u l q (inr n) = still p u l (rw (getD-set-other es j p x 0 n) at q) (λ y z. n y)
+
+            bound : (p : ℕ) → p ≤ k → (p ≡ j) ⊎ (p ≡ j → ⊥) → entry (set es j x) p ≤ suc v
+            bound p l (inl e) = rw (e, written) (o .at-most (omega (arith, m .earlier j (omega arith))))
+            bound p l (inr n) = rw (getD-set-other es j p x 0 n) (m .here p l)
+
+  -- a strip for which the total is beyond use
+  pub scanning-skip : most (levels g j (suc n)) < v → Scanning g k v j froms uptos jump
+  scanning-skip o =
+      record {
+        sized-froms = s .sized-froms;
+        sized-uptos = s .sized-uptos;
+        earlier = s .earlier;
+        here = λ p m l e u. go p m e u (lt-or-eq j p l);
+        jump-some = s .jump-some;
+        jump-small = s .jump-small;
+        earlier-jump = s .earlier-jump;
+        here-jump = λ p m l e u x. jumps p m e u x (lt-or-eq j p l);
+      }
+    where
+      go : (p m : ℕ) → p + m ≡ k → v ≤ most (levels g p m) → (j < p) ⊎ (j ≡ p) → span-in froms uptos p v ≡ back bias (window-of g p) (levels g p m) v
+      go p m e u (inl l) = s .here p m (omega arith) e u
+      go p m e u (inr l) = let z : m ≡ suc n = omega arith in absurd (omega (arith, rw (← l, z) at u))
+
+      jumps : (p m : ℕ) → p + suc m ≡ k → v ≤ most (levels g p (suc m)) → 0 < short-of g p m v → (j < p) ⊎ (j ≡ p) → jump ≤ short-of g p m v
+      jumps p m e u x (inl l) = s .here-jump p m (omega arith) e u x
+      jumps p m e u x (inr l) = let z : m ≡ n = omega arith in absurd (omega (arith, rw (← l, z) at u))
+
+-- the strips below strip i, if that has an empty span for every total so far
+pub scanning-bottom : (g : Given) (k v i : ℕ) (froms uptos : List (List ℕ)) (jump : ℕ) → Stack-asks g k → v < totals-held → i ≤ k → Scanning g k v i froms uptos jump →
+    ((j : ℕ) → j < i → span-in froms uptos j v ≡ none-in (window-of g j)) →
+    ((u : ℕ) → u < suc v → u ≤ most (levels g i (k - i)) → entry (row uptos i) u ≤ entry (row froms i) u) → Scanning g k v 0 froms uptos jump
+scanning-bottom g k v zero froms uptos jump a t h s c e = s
+scanning-bottom g k v (suc j) froms uptos jump a t h s c e =
+    scanning-bottom g k v j froms uptos jump a t (omega arith) scanned (λ p l. c p (omega arith)) (λ u l m. empties u l (rw (← counted) at m))
+  where
+    counted : suc (k - suc j) ≡ k - j
+    counted = omega arith
+
+    least : ℕ
+    least = first-open (low-of g j) (high-of g j) (count-of g j)
+
+    scanned : Scanning g k v j froms uptos jump
+    scanned =
+        scanning-none g k v (suc j) j froms uptos jump a s (omega arith) h least (count-of g j) (most (levels g (suc j) (k - suc j))) refl refl refl (suc v)
+        (λ u l m. rw (add-one j) (e u l m)) t (omega arith) (c j (omega arith))
+
+    empties : (u : ℕ) → u < suc v → u ≤ most (levels g j (suc (k - suc j))) → entry (row uptos j) u ≤ entry (row froms j) u
+    empties =
+        none-here g k v (suc j) j froms uptos jump a s (omega arith) h least (count-of g j) (most (levels g (suc j) (k - suc j))) refl refl refl (suc v)
+        (λ u l m. rw (add-one j) (e u l m)) t (omega arith) (c j (omega arith))
+
+-- THE LOOP OVER TOTALS
+pub empties-next : (k v : ℕ) (froms uptos : List (List ℕ)) (es : List ℕ) → Empties-are k v 0 froms uptos es → Empties-are k (v + 1) k froms uptos es
+empties-next k v froms uptos es m =
+    record { size = m .size; empty = m .empty; earlier = λ j l. omega (arith, m .here j (omega arith)); here = λ j l. omega (arith, m .here j l) }
+
+pub cleared-here : (starts ends : List ℕ) (k v cap : ℕ) (froms uptos : List (List ℕ)) → v ≤ cap → Cleared starts ends k v cap froms uptos → Cleared starts ends k v v froms uptos
+cleared-here starts ends k v cap froms uptos h c =
+    record { sized-froms = c .sized-froms; sized-uptos = c .sized-uptos; cleared = λ j u l m o. c .cleared j u l m (omega arith) }
+
+pub cleared-next : (starts ends : List ℕ) (k v cap : ℕ) (froms uptos froms′ uptos′ : List (List ℕ)) → Sized froms′ → Sized uptos′ → Only-at v 0 froms uptos froms′ uptos′ →
+    Cleared starts ends k v cap froms uptos → Cleared starts ends k (v + 1) cap froms′ uptos′
+cleared-next starts ends k v cap froms uptos froms′ uptos′ s t o c =
+    record { sized-froms = s; sized-uptos = t; cleared = λ j u l m n. o .kept j u (λ p q. omega arith) ∙ c .cleared j u l (omega arith) n }
+
+module _ (g : Given) (k cap : ℕ) where
+  abbrev bottom-span : ℕ → Span
+  bottom-span v = back bias (window-of g 0) (levels g 0 k) v
+
+  module _ (v jump : ℕ) (froms uptos : List (List ℕ)) (s : Scanning g k v 0 froms uptos jump) where
+    pub scanning-next : Scanning g k (v + 1) k froms uptos jump
+    unfolding most levels
+    scanning-next =
+        record {
+          sized-froms = s .sized-froms;
+          sized-uptos = s .sized-uptos;
+          earlier = λ j n u e h m. before j n u e m (lt-or-eq u v (omega arith));
+          here = λ j n h e m. let z : n ≡ 0 = omega arith in absurd (omega (arith, rw z at m));
+          jump-some = s .jump-some;
+          jump-small = s .jump-small;
+          earlier-jump = λ j n u e h m x. jumps j n u e m x (lt-or-eq u v (omega arith));
+          here-jump = λ j n h e m x. absurd (omega arith);
+        }
+      where
+        before : (j n u : ℕ) → j + n ≡ k → u ≤ most (levels g j n) → (u < v) ⊎ (u ≡ v) → span-in froms uptos j u ≡ back bias (window-of g j) (levels g j n) u
+        before j n u e m (inl l) = s .earlier j n u e l m
+        before j n u e m (inr l) = rw l (s .here j n (omega arith) e (rw l at m))
+
+        jumps : (j n u : ℕ) → j + suc n ≡ k → u ≤ most (levels g j (suc n)) → 0 < short-of g j n u → (u < v) ⊎ (u ≡ v) → jump ≤ short-of g j n u
+        jumps j n u e m x (inl l) = s .earlier-jump j n u e l m x
+        jumps j n u e m x (inr l) = rw l (s .here-jump j n (omega arith) e (rw l at m) (rw l at x))
+
+    -- the bottom strip's span, from the tables
+    bottom-is : v ≤ most (levels g 0 k) → span-in froms uptos 0 v ≡ bottom-span v
+    bottom-is m = s .here 0 k (omega arith) (omega arith) m
+
+    table-to : Filled g k v 0 froms uptos
+    table-to =
+        record {
+          sized-froms = s .sized-froms;
+          sized-uptos = s .sized-uptos;
+          filled = λ j n u h e c m. go j n u e m (lt-or-eq u v c);
+        }
+      where
+        go : (j n u : ℕ) → j + n ≡ k → u ≤ most (levels g j n) → (u < v) ⊎ (u ≡ v) → span-in froms uptos j u ≡ back bias (window-of g j) (levels g j n) u
+        go j n u e m (inl l) = s .earlier j n u e l m
+        go j n u e m (inr l) = rw l (s .here j n (omega arith) e (rw l at m))
+
+    module _ (of-use : cap ≤ most (levels g 0 k)) (h : v ≤ cap) (found : ℕ) (q : Searching (λ u. nonempty (bottom-span u)) (suc cap) v found) where
+      pub totals-miss : entry (row uptos 0) v ≤ entry (row froms 0) v → Searching (λ u. nonempty (bottom-span u)) (suc cap) (v + 1) found
+      totals-miss e =
+          searching-miss (λ u. nonempty (bottom-span u)) (suc cap) v found q (omega arith) (ends-empty (entry (row froms 0) v) (entry (row uptos 0) v) (bottom-span v) (bottom-is (omega arith)) e)
+
+      pub totals-hit : entry (row froms 0) v < entry (row uptos 0) v → v ≡ found
+      totals-hit e =
+          searching-hit (λ u. nonempty (bottom-span u)) (suc cap) v found q (omega arith) (ends-full (entry (row froms 0) v) (entry (row uptos 0) v) (bottom-span v) (bottom-is (omega arith)) e)
+
+      pub scan-found : (before above : ℕ) (froms₀ uptos₀ : List (List ℕ)) → Scanning g k v k froms₀ uptos₀ before → found ≡ first-total bottom-span cap → above ≡ most (levels g 1 (k - 1)) →
+          entry (row froms 0) v < entry (row uptos 0) v → Scan-is g k cap froms uptos (record { total = v; above = above; jump = before })
+      scan-found before above froms₀ uptos₀ p t o e =
+          let m : min v cap ≡ v = omega arith in
+          record { table = rw m table-to; above-is = o; total-is = totals-hit e ∙ t; jump-some = p .jump-some; jump-is = λ j n u i l o x. p .earlier-jump j n u i l o x }
+
+  pub scan-none : (v above jump : ℕ) (froms uptos : List (List ℕ)) → above ≡ most (levels g 1 (k - 1)) → cap < v → v ≤ cap + 1 → Scanning g k v k froms uptos jump →
+      Searching (λ u. nonempty (bottom-span u)) (suc cap) v (first-total bottom-span cap) → Scan-is g k cap froms uptos (record { total = v; above = above; jump = jump })
+  scan-none v above jump froms uptos o h i s q =
+      let m : min v cap ≡ cap = omega arith in
+      record {
+        table = rw m (record { sized-froms = s .sized-froms; sized-uptos = s .sized-uptos; filled = λ j n u l e c o. s .earlier j n u e (omega arith) o });
+        above-is = o;
+        total-is = searching-end (λ u. nonempty (bottom-span u)) (suc cap) v (first-total bottom-span cap) q (omega arith);
+        jump-some = s .jump-some;
+        jump-is = λ j n u e l o x. s .earlier-jump j n u e l o x;
+      }
+
+-- THE LOOP OVER STRIPS, as the code goes: from strip i to strip i - 1
+module _ (g : Given) (k v : ℕ) (ls ms es₀ : List ℕ) (froms₀ uptos₀ : List (List ℕ)) (before : ℕ) (t : Total-asks g k v ls ms es₀ froms₀ uptos₀ before)
+    (i : ℕ) (froms uptos : List (List ℕ)) (jump : ℕ) (es : List ℕ) (some : 0 < i) (inside : i ≤ k) (s : Scanning g k v i froms uptos jump) (m : Empties-are k v i froms uptos es) (o : Only-at v i froms₀ uptos₀ froms uptos) where
+  abbrev j : ℕ
+  j = i - 1
+
+  strip-below : j + 1 ≡ i
+  strip-below = omega arith
+
+  most-of : entry ms j ≡ most (levels g j (suc (k - i)))
+  most-of = t .mosts .sums-are j (suc (k - i)) (omega arith) (omega arith) ∙ sym (most-sums g j (suc (k - i)))
+
+  above-of : entry ms (j + 1) ≡ most (levels g (suc j) (k - i))
+  above-of = rw (add-one j) (t .mosts .sums-are (suc j) (k - i) (omega arith) (omega arith) ∙ sym (most-sums g (suc j) (k - i)))
+
+  least-of : entry ls j ≡ first-open (low-of g j) (high-of g j) (count-of g j)
+  least-of = t .leasts .leasts-are j (omega arith)
+
+  used-of : v ≤ entry ms j → v ≤ count-of g j + entry ms (j + 1)
+  used-of h = omega (arith, most-of, above-of, most-here g k v i j froms uptos jump (t .stack) s strip-below inside)
+
+  pub total-strip-asks : v ≤ entry ms j → Strip-asks j (count-of g j) (entry ms (j + 1)) (entry es (j + 1)) v (entry (g .froms) j) (entry (g .uptos) j) (row (g .lows) j) (row (g .highs) j) froms uptos
+  total-strip-asks h =
+      strip-asks g k v i j froms uptos jump (t .stack) s strip-below inside (entry ls j) (count-of g j) (entry ms (j + 1)) least-of refl above-of (used-of h) es m (t .total)
+
+  -- the first total that the strip above leaves something for
+  abbrev bound : ℕ
+  bound = entry ls j + entry es (j + 1)
+
+  pub bound-room : bound < 4096
+  unfolding first-open
+  bound-room =
+      omega (arith, t .total, least-of, first-upto (opens (low-of g j) (high-of g j)) 0 (suc (count-of g j)), t .stack .listed j (omega arith), m .here (j + 1) (omega arith))
+
+  pub total-strip : v ≤ entry ms j → bound ≤ v → (froms′ uptos′ : List (List ℕ)) (short next empty : ℕ) →
+      Strip-done (row (g .lows) j) (row (g .highs) j) j (entry ls j) (count-of g j) (entry ms (j + 1)) v (window-of g j) froms uptos froms′ uptos′ short →
+      Empty-on (max (entry es j) bound) v short empty → next ≡ jump-if (eqb short 0) jump short →
+      Scanning g k v j froms′ uptos′ next × Empties-are k v j froms′ uptos′ (set es j empty) × Only-at v j froms₀ uptos₀ froms′ uptos′
+  total-strip h b froms′ uptos′ short next empty d x e = (
+    rw e
+        (scanning-strip g k v i j froms uptos jump (t .stack) s strip-below inside (entry ls j) (count-of g j) (entry ms (j + 1)) least-of refl above-of (used-of h) froms′ uptos′ short d (t .total)),
+    empties-strip g k v i j froms uptos jump (t .stack) s strip-below inside (entry ls j) (count-of g j) (entry ms (j + 1)) least-of refl above-of (used-of h) froms′ uptos′ short d (t .total) es empty m b x,
+    only-strip g k v i j froms uptos jump (t .stack) s strip-below inside (entry ls j) (count-of g j) (entry ms (j + 1)) least-of refl above-of (used-of h) froms′ uptos′ short d (t .total) froms₀ uptos₀ o,
+  )
+
+  pub total-skip : entry ms j < v → Scanning g k v j froms uptos jump × Empties-are k v j froms uptos es × Only-at v j froms₀ uptos₀ froms uptos
+  total-skip h = (
+    scanning-skip g k v i j froms uptos jump (t .stack) s strip-below inside (omega (arith, most-of)),
+    empties-below k v i j froms uptos es (omega arith) m,
+    only-below v i j froms₀ uptos₀ froms uptos (omega arith) o,
+  )
+
+  -- nothing is left for this strip, nor for those below
+  pub total-none : v < bound → Scanning g k v 0 froms uptos jump × Empties-are k v 0 froms uptos es × Only-at v 0 froms₀ uptos₀ froms uptos
+  total-none b =
+      let z : suc (k - i) ≡ k - j = omega arith in (
+        scanning-bottom g k v j froms uptos jump (t .stack) (t .total) (omega arith)
+            (scanning-none g k v i j froms uptos jump (t .stack) s strip-below inside (entry ls j) (count-of g j) (entry ms (j + 1)) least-of refl above-of (entry es (j + 1)) above-empty (t .total) b (clear-of j (omega arith)))
+            (λ p l. clear-of p (omega arith))
+            (λ u l q.
+            none-here g k v i j froms uptos jump (t .stack) s strip-below inside (entry ls j) (count-of g j) (entry ms (j + 1)) least-of refl above-of (entry es (j + 1)) above-empty (t .total) b (clear-of j (omega arith)) u l
+            (rw (← z) at q)),
+        empties-below k v i 0 froms uptos es (omega arith) m,
+        only-below v i 0 froms₀ uptos₀ froms uptos (omega arith) o,
+      )
+    where
+      above-empty : (u : ℕ) → u < entry es (j + 1) → u ≤ entry ms (j + 1) → entry (row uptos (j + 1)) u ≤ entry (row froms (j + 1)) u
+      above-empty u l q = m .empty (j + 1) u (omega arith) l
+
+      clear-of : (p : ℕ) → p < i → span-in froms uptos p v ≡ none-in (window-of g p)
+      clear-of p l = o .kept p v (λ q e. omega arith) ∙ t .clear .cleared p v (omega arith) (omega arith) (omega arith)

@@ -1,0 +1,2 @@
+-- What a scan of the totals asks for and leaves.
+pub mod Scan
