@@ -123,13 +123,6 @@ positive : {j : ℕ} (n : ℕ) → (n ≡ 0 → ⊥) → 0 < j → 0 < min j n
 positive zero h l = absurd (h refl)
 positive (suc n) h l = omega arith
 
-lt-or-le : (x y : ℕ) → (x < y) ⊎ (y ≤ x)
-lt-or-le x y = go (le-or-lt y x)
-  where
-    go : (y ≤ x) ⊎ (x < y) → (x < y) ⊎ (y ≤ x)
-    go (inl h) = inr h
-    go (inr h) = inl h
-
 nothing-tried : (least last above empty u : ℕ) → u < least + empty → min (last + 1) (u + 1 - empty) ≤ max least (u - above)
 nothing-tried least last above empty u h = let k : u + 1 - empty ≤ least = omega arith in omega arith
 
@@ -337,12 +330,12 @@ module _ (g : Given) (k v i j : ℕ) (froms uptos : List (List ℕ)) (jump : ℕ
                 ∙ back-none (entry es (j + 1)) (λ w l o. m .empty (j + 1) w (omega arith) l) t u (omega arith) (omega arith) q) in
                 omega (arith, ap (λ (t : Span). t .upto) e)
 
-            known : (u : ℕ) → (u < entry es j) ⊎ (entry es j ≤ u) → u < max (entry es j) (least + entry es (j + 1)) → entry (row uptos′ j) u ≤ entry (row froms′ j) u
-            known u (inl q) w = still j u (omega arith) q (λ y z. omega (arith, m .earlier j (omega arith)))
-            known u (inr q) w = beyond u (omega arith)
+            known : (u : ℕ) → (entry es j ≤ u) ⊎ (u < entry es j) → u < max (entry es j) (least + entry es (j + 1)) → entry (row uptos′ j) u ≤ entry (row froms′ j) u
+            known u (inl q) w = beyond u (omega arith)
+            known u (inr q) w = still j u (omega arith) q (λ y z. omega (arith, m .earlier j (omega arith)))
 
             own : (u : ℕ) → (u < max (entry es j) (least + entry es (j + 1))) ⊎ ((u ≡ v) × (0 < short)) → entry (row uptos′ j) u ≤ entry (row froms′ j) u
-            own u (inl q) = known u (lt-or-le u (entry es j)) q
+            own u (inl q) = known u (le-or-lt (entry es j) u) q
             own u (inr q) = rw (q .0) (short-here (q .1))
 
             go : (p u : ℕ) → p ≤ k → u < entry (set es j x) p → (p ≡ j) ⊎ (p ≡ j → ⊥) → entry (row uptos′ p) u ≤ entry (row froms′ p) u
