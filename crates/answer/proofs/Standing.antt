@@ -10,7 +10,7 @@ use lib.Seq.{getD-set-same, getD-set-other, drop-cons}
 use borrow.Author.Tests.{leb-true}
 use Rattle.numbers.specs.Lists.{padded}
 use Rattle.numbers.proofs.Bools.{ands}
-use Rattle.numbers.proofs.Lists.{getD-tabulate}
+use Rattle.numbers.proofs.Lists.{getD-tabulate, zeros-at}
 use Rattle.numbers.proofs.Orders.{lt-or-eq}
 use Rattle.stack.specs.Stack.{Stack, longest}
 use Rattle.stack.specs.Limits.{channel-within, channels-within, within-limits}
@@ -211,11 +211,6 @@ module _ (k : Stack) (s : ℕ) (g : Given) (st : Stands k s g) (fits : s < 42949
         separations-are = p .separations-are ∙ ap (padded channels-held) ts;
         positions-are = p .positions-are ∙ ap (padded strips-held) (rw (e, bottom-is k s g st, levels-are k s g st) (one .1));
       }
-
-zeros-at : (n i : ℕ) → entry (replicate n 0) i ≡ 0
-zeros-at zero i = refl
-zeros-at (suc n) zero = refl
-zeros-at (suc n) (suc i) = zeros-at n i
 
 -- the arrays that are filled for a struct stand for its stack
 pub stands-made : (k : Stack-struct) (s : ℕ) (lows highs : List (List ℕ)) (counts uptos : List ℕ) → within-limits (stack-of k) ≡ true →

@@ -10,8 +10,6 @@ use stack::Stack;
 use stack::Strip;
 use stack::StripMade;
 use stack::Terminals;
-use stack::TerminalsFound;
-use stack::TerminalsMade;
 use stack::Tracks;
 use test_io::next_number;
 use test_io::print_number;

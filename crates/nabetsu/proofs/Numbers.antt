@@ -5,12 +5,12 @@ use mathlib.Core.List.{List, [], _∷_, _++_}
 use Prim.Native.Nat.{ℕ, zero, suc, _+_, _*_, _-_, _≤_, _<_}
 use native.Mathlib.Omega.{arith}
 use lib.Dec.{eqb}
-use lib.ListN.{length, getD, set, take, drop, replicate, length-append}
+use lib.ListN.{length, getD, set, take, drop, replicate, length-append, List·getD-eq-default}
 use lib.Seq.{getD-append-add}
 use borrow.Author.Tests.{eqb-true, le-leb, lt-leb, ne-eqb, eq-eqb}
 use Rattle.stack.specs.Value.{tracks-of, columns-of}
 use Rattle.numbers.specs.Lists.{tabulate}
-use Rattle.numbers.proofs.Lists.{length-tabulate, getD-tabulate, tabulate-same, tabulate-constant}
+use Rattle.numbers.proofs.Lists.{length-tabulate, getD-tabulate, tabulate-same, tabulate-constant, zeros-at}
 use Rattle.stack.specs.declared.Tracks.{Tracks}
 use Rattle.stack.specs.declared.Columns.{Columns}
 use Rattle.stack.proofs.Values.{track-at, column-at, tracks-long, columns-long}
@@ -35,11 +35,6 @@ front [] ys i h = absurd (omega arith)
 front (x ∷ xs) ys zero h = refl
 front (x ∷ xs) ys (suc i) h = front xs ys i (omega arith)
 
-past : (xs : List ℕ) (i : ℕ) → length xs ≤ i → getD xs i 0 ≡ 0
-past [] i h = refl
-past (x ∷ xs) zero h = absurd (omega arith)
-past (x ∷ xs) (suc i) h = past xs i (omega arith)
-
 module _ (v : ℕ) (ts : List Tracks) (xs : List Columns) (sized : length ts ≡ 8) (sized-columns : length xs ≡ 9) where
   pub number-track : (i : ℕ) → (i ≡ 0 → ⊥) → i ≤ 8 → getD ts (i - 1) (record { 0 = 0 }) .0 ≡ getD (v ∷ (tracks-of ts ++ columns-of xs)) i 0
   number-track zero n h = absurd (n refl)
@@ -56,7 +51,7 @@ module _ (v : ℕ) (ts : List Tracks) (xs : List Columns) (sized : length ts ≡
       sym (column-at xs n) ∙ sym r
 
   pub number-past : (i : ℕ) → 18 ≤ i → 0 ≡ getD (v ∷ (tracks-of ts ++ columns-of xs)) i 0
-  number-past i h = sym (past (v ∷ (tracks-of ts ++ columns-of xs)) i (omega (arith, length-append (tracks-of ts) (columns-of xs), tracks-long ts 8 sized, columns-long xs 9 sized-columns)))
+  number-past i h = sym (List·getD-eq-default (v ∷ (tracks-of ts ++ columns-of xs)) 0 {n = i} (omega (arith, length-append (tracks-of ts) (columns-of xs), tracks-long ts 8 sized, columns-long xs 9 sized-columns)))
 
 -- PUT one by one into an output
 module _ (v : ℕ) (ts : List Tracks) (xs : List Columns) where
@@ -91,17 +86,12 @@ pub short-refused : (o : Outcome) (r : Refused-struct) → o ≡ Refused r → r
 short-refused o r e = rw e (sym (or-else-refused (refusal-of (Refused r)) (refusal 8 0 0) (refused-number (Refused r) refl)))
 
 -- a refused answer's numbers are zeros
-zero-at : (n i : ℕ) → _≡_ {A = ℕ} (getD (replicate n 0) i 0) 0
-zero-at zero i = refl
-zero-at (suc n) zero = refl
-zero-at (suc n) (suc i) = zero-at n i
-
 unfoldable nothing : List ℕ
 nothing = replicate 18 0
 
 none : (n : ℕ) → tabulate n 0 (λ i. getD nothing i 0) ≡ replicate n 0
 unfolding nothing
-none n = tabulate-same n 0 (λ i. getD nothing i 0) (λ i. 0) (λ i l m. zero-at 18 i) ∙ tabulate-constant n 0 0
+none n = tabulate-same n 0 (λ i. getD nothing i 0) (λ i. 0) (λ i l m. zeros-at 18 i) ∙ tabulate-constant n 0 0
 
 refused-zeros : (n : ℕ) (o : Outcome) (a : SpreadAnswer) → Refused-answer o a → numbers-in n a ≡ replicate n 0
 unfolding numbers-in numbers nothing

@@ -1,5 +1,5 @@
--- Laws of tabulate: its length, its elements, one element more, agreement, and one element changed; of filled: its start, a step, its end; a map of a store; and the
--- places of padded that are used.
+-- Laws of tabulate: its length, its elements, one element more, agreement, and one element changed; of filled: its start, a step, its end; a map of a store; the
+-- places of padded that are used; and zeros place by place.
 -- Assumes nothing.
 use mathlib.Core.Path.{_≡_, refl, ap, sym, _∙_}
 use mathlib.Core.List.{List, [], _∷_, _++_, map, append-assoc}
@@ -105,3 +105,8 @@ map-set {B = B} f (x ∷ xs) (suc i) a = ap {B = List B} (λ ys. f x ∷ ys) (ma
 pub padded-take : (n m : ℕ) (xs : List ℕ) → length xs ≡ m → take m (padded n xs) ≡ xs
 unfolding padded
 padded-take n m xs e = take-at xs (replicate (n - length xs) 0) m e
+
+pub zeros-at : (n i : ℕ) → _≡_ {A = ℕ} (getD (replicate n 0) i 0) 0
+zeros-at zero i = refl
+zeros-at (suc n) zero = refl
+zeros-at (suc n) (suc i) = zeros-at n i

@@ -1,4 +1,4 @@
--- What stores, parts and repeats of lists leave behind a place. By induction on the list. Assumes nothing.
+-- What a store leaves from its place on, and a list from one place before. By induction on the list. Assumes nothing.
 use mathlib.Core.Path.{_≡_, refl}
 use mathlib.Core.List.{List, [], _∷_}
 use Prim.Native.Nat.{ℕ, zero, suc, _-_, _≤_, _<_}

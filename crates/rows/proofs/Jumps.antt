@@ -108,6 +108,10 @@ no-fall-strips b s d v (l ∷ ls) cs us ys wide n e clear i g =
     let m = longest-bounds l ls s n in
     no-fall-legal b s d l ls cs wide (m .0) (m .1) e v us ys clear i (most-total b s l ls cs (omega arith) (m .0) (m .1) e) g
 
+-- a spread counted from the next one
+pub moved : (s i : ℕ) → suc s + i ≡ s + suc i
+moved s i = omega arith
+
 module _ (k : Stack) (good : within-limits k ≡ true) where
   -- the least total never rises with the spread
   pub total-never-rises : (s r : ℕ) → longest (k .strips) ≤ s → s ≤ r → answer-total k r ≤ answer-total k s
@@ -138,8 +142,5 @@ module _ (k : Stack) (good : within-limits k ≡ true) where
       let e : suc d + n ≡ suc (d + n) = omega arith in
       let m : s + suc d ≡ suc s + d = omega arith in
       let here : v ≤ answer-total k s = rw add-zero at (h 0 (omega arith)) in
-      let z : (i : ℕ) → i < d → v ≤ answer-total k (suc s + i) = λ i j. rw (moved i) (h (suc i) (omega arith)) in
+      let z : (i : ℕ) → i < d → v ≤ answer-total k (suc s + i) = λ i j. rw (moved s i) (h (suc i) (omega arith)) in
       rw (e, m, le-ltb (answer-total k s) v here) (walk-jumps n d (suc s) v z)
-    where
-      moved : (i : ℕ) → suc s + i ≡ s + suc i
-      moved i = omega arith

@@ -12,7 +12,7 @@ use Rattle.stack.specs.Stack.{Stack}
 use Rattle.stack.specs.Limits.{within-limits}
 use Rattle.answer.specs.Solve.{answer-total}
 use Rattle.rows.specs.Walk.{row-at, rows-walk}
-use Rattle.rows.proofs.Jumps.{walk-jumps}
+use Rattle.rows.proofs.Jumps.{moved, walk-jumps}
 
 -- nothing falls below 0
 pub walk-zero : (k : Stack) (n s : ℕ) → rows-walk k n s 0 ≡ []
@@ -25,14 +25,11 @@ module _ (k : Stack) (good : within-limits k ≡ true) (w s v : ℕ) where
   abbrev Stay-to : ℕ → Type 0
   Stay-to next = (d : ℕ) → s + d < next → v ≤ answer-total k (s + d)
 
-  moved : (i : ℕ) → suc s + i ≡ s + suc i
-  moved i = omega arith
-
   walk-to : (next : ℕ) → s < next → next ≤ suc w → Stay-to next → rows-walk k (w - s) (suc s) v ≡ rows-walk k (suc w - next) next v
   walk-to next h l stay =
       let e : w - s ≡ (next - suc s) + (suc w - next) = omega arith in
       let f : suc s + (next - suc s) ≡ next = omega arith in
-      rw e (walk-jumps k good (suc w - next) (next - suc s) (suc s) v (λ i j. rw (moved i) (stay (suc i) (omega arith))) ∙ rw f)
+      rw e (walk-jumps k good (suc w - next) (next - suc s) (suc s) v (λ i j. rw (moved s i) (stay (suc i) (omega arith))) ∙ rw f)
 
   pub walk-ends : (next : ℕ) → s < next → w < next → Stay-to next → rows-walk k (w - s) (suc s) v ≡ []
   unfolding rows-walk

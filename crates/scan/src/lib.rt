@@ -2,9 +2,7 @@
 use numbers::difference;
 use numbers::greater;
 use numbers::lesser;
-use stack::Columns;
 use stack::Stack;
-use stack::Tracks;
 ghost use mathlib.Core.Path.{_≡_};
 ghost use Prim.Native.Nat.{_+_, _-_, _*_, _≤_, _<_, min, max};
 ghost use lib.ListN.{length};
@@ -12,7 +10,6 @@ ghost use lib.Dec.{ltb, eqb};
 ghost use Rattle.spans.specs.Spans.{span};
 ghost use Rattle.spans.specs.Jump.{min-if, max-if};
 ghost use Rattle.scan.specs.Scan.{Ends-ask, Ends-are, Ends-serve, Strip-asks, Strip-done, Counts-ask, sums, Sums-are, Leasts-are, jump-if, Empty-on, Empties-are, Row-is, Cleared, Only-at, Total-asks, Scanning, Scan-asks, Scan-is};
-ghost use Rattle.spans.specs.Solver.{stop};
 ghost use Rattle.solver.specs.Arrays.{bias, channels-held, separations-held, totals-held, entry, Sized, given};
 use solver::least_open;
 
