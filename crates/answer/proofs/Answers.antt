@@ -16,7 +16,7 @@ use Rattle.spans.specs.Placed.{Placed, alone, under, Widening, Exactly, Best}
 use Rattle.spans.proofs.Total.{least-total-at-most, least-total-reached}
 use Rattle.spans.proofs.Best.{best, chosen}
 use Rattle.spans.proofs.Order.{not-later-both}
-use Rattle.answer.specs.Solve.{window, stack-levels, bottom, levels-of, total-with, separations-with, positions-with, answer-total, answer-separations, answer-positions}
+use Rattle.answer.specs.Solve.{last-use, window, stack-levels, bottom, levels-of, total-with, separations-with, positions-with, answer-total, answer-separations, answer-positions}
 use Rattle.answer.proofs.Legal.{in-window, legal-placed, placed-legal, stack-widening, channel-fits-open}
 
 pub longest-bounds : (l : ℕ) (ls : List ℕ) (s : ℕ) → longest (l ∷ ls) ≤ s → (l ≤ s) × (longest ls ≤ s)
@@ -27,10 +27,10 @@ longest-bounds l ls s h = go (ltb l (longest ls)) refl h
     go true e k = omega (arith, ltb-true)
     go false e k = omega (arith, ltb-false)
 
--- every strip at 0 and every separation the count of pairs
-pub counts-of : List (List Pair) → List ℕ
-counts-of [] = []
-counts-of (c ∷ cs) = length c ∷ counts-of cs
+-- every strip at 0 and every separation the last of use
+pub lasts-of : List (List Pair) → List ℕ
+lasts-of [] = []
+lasts-of (c ∷ cs) = last-use (length c) ∷ lasts-of cs
 
 pub zeros-of : List (List Pair) → List ℕ
 zeros-of [] = []
@@ -38,8 +38,8 @@ zeros-of (c ∷ cs) = 0 ∷ zeros-of cs
 
 module _ (b s : ℕ) (wide : s + 32 ≤ b) where
   pub some-placed : (l : ℕ) (ls : List ℕ) (cs : List (List Pair)) → channels-within (l ∷ ls) cs ≡ true → l ≤ s → longest ls ≤ s →
-      Placed b (window s l) (stack-levels b s ls cs) (counts-of cs) 0 (zeros-of cs)
-  unfolding channels-within stack-levels counts-of zeros-of
+      Placed b (window s l) (stack-levels b s ls cs) (lasts-of cs) 0 (zeros-of cs)
+  unfolding channels-within stack-levels lasts-of zeros-of
   some-placed l [] [] e h k = alone (in-window b s wide l 0 (omega arith))
   some-placed l [] (c ∷ cs) e h k = impossible e
   some-placed l (u ∷ ls) [] e h k = impossible e
@@ -80,7 +80,7 @@ module _ (b s : ℕ) (wide : s + 32 ≤ b) where
   answer-of (l ∷ ls) cs e h =
       let n = longest-bounds l ls s h in
       answer-from l ls cs _ _ _ e
-      (best b (window s l) (stack-levels b s ls cs) (stack-widening b s wide l ls cs e) (counts-of cs) 0 (zeros-of cs) (some-placed l ls cs e (n .0) (n .1)))
+      (best b (window s l) (stack-levels b s ls cs) (stack-widening b s wide l ls cs e) (lasts-of cs) 0 (zeros-of cs) (some-placed l ls cs e (n .0) (n .1)))
 
   -- the answer with a bias of at least s + 32
   pub answer-with : (k : Stack) → within-limits k ≡ true → longest (k .strips) ≤ s →
@@ -98,7 +98,7 @@ module _ (b s : ℕ) (wide : s + 32 ≤ b) where
   most-of [] cs e h = impossible e
   most-of (l ∷ ls) cs e h =
       let n = longest-bounds l ls s h in
-      least-total-at-most b (window s l) (stack-levels b s ls cs) (stack-widening b s wide l ls cs e) (counts-of cs) 0 (zeros-of cs) (some-placed l ls cs e (n .0) (n .1))
+      least-total-at-most b (window s l) (stack-levels b s ls cs) (stack-widening b s wide l ls cs e) (lasts-of cs) 0 (zeros-of cs) (some-placed l ls cs e (n .0) (n .1))
 
   exactly-of : (ls : List ℕ) (cs : List (List Pair)) → channels-within ls cs ≡ true → longest ls ≤ s →
       Exactly b (bottom (stack ls cs) s) (levels-of b (stack ls cs) s) (total-with b (stack ls cs) s)

@@ -20,33 +20,33 @@ use Rattle.spans.specs.Spans.{In, Fits, last, low-at, high-at}
 use Rattle.spans.specs.Placed.{Placed, alone, under, Widens, Widening, none, more}
 use Rattle.solver.specs.Arrays.{limits-from}
 use Rattle.spans.proofs.Limits.{low-capped, high-capped}
-use Rattle.solver.proofs.Levels.{last-of, low-at-of, high-at-of}
-use Rattle.answer.specs.Solve.{window, channel-limits, stack-levels}
+use Rattle.solver.proofs.Levels.{last-is, low-at-of, high-at-of}
+use Rattle.answer.specs.Solve.{last-use, window, channel-limits, stack-levels}
 
 -- past the count of pairs the limits are those at it
-past : (b : ℕ) (c : List Pair) (t : ℕ) → length c < t → min t (last (channel-limits b c)) ≡ length c
+past : (b : ℕ) (c : List Pair) (t : ℕ) → last-use (length c) < t → min t (last (channel-limits b c)) ≡ last-use (length c)
 unfolding channel-limits
-past b c t h = omega (arith, last-of (low-limit b c) (high-limit b c) (length c))
+past b c t h = omega (arith, last-is (low-limit b c) (high-limit b c) (last-use (length c)))
 
 pub channel-low : (b : ℕ) (c : List Pair) (t : ℕ) → low-at (channel-limits b c) t ≡ low-limit b c t
 unfolding channel-limits
-channel-low b c t = go (le-or-lt t (length c))
+channel-low b c t = go (le-or-lt t (last-use (length c)))
   where
-    go : (t ≤ length c) ⊎ (length c < t) → low-at (limits-from (low-limit b c) (high-limit b c) 0 (suc (length c))) t ≡ low-limit b c t
-    go (inl h) = low-at-of (low-limit b c) (high-limit b c) (length c) t h
+    go : (t ≤ last-use (length c)) ⊎ (last-use (length c) < t) → low-at (limits-from (low-limit b c) (high-limit b c) 0 (suc (last-use (length c)))) t ≡ low-limit b c t
+    go (inl h) = low-at-of (low-limit b c) (high-limit b c) (last-use (length c)) t h
     go (inr h) =
         sym (low-capped (channel-limits b c) t)
-        ∙ rw (past b c t h, low-open b c t (omega arith), low-at-of (low-limit b c) (high-limit b c) (length c) (length c) (omega arith)) (low-open b c (length c) (omega arith))
+        ∙ rw (past b c t h, low-open b c t (omega arith), low-at-of (low-limit b c) (high-limit b c) (last-use (length c)) (last-use (length c)) (omega arith)) (low-open b c (last-use (length c)) (omega arith))
 
 channel-high : (b : ℕ) (c : List Pair) (t : ℕ) → high-at (channel-limits b c) t ≡ high-limit b c t
 unfolding channel-limits
-channel-high b c t = go (le-or-lt t (length c))
+channel-high b c t = go (le-or-lt t (last-use (length c)))
   where
-    go : (t ≤ length c) ⊎ (length c < t) → high-at (limits-from (low-limit b c) (high-limit b c) 0 (suc (length c))) t ≡ high-limit b c t
-    go (inl h) = high-at-of (low-limit b c) (high-limit b c) (length c) t h
+    go : (t ≤ last-use (length c)) ⊎ (last-use (length c) < t) → high-at (limits-from (low-limit b c) (high-limit b c) 0 (suc (last-use (length c)))) t ≡ high-limit b c t
+    go (inl h) = high-at-of (low-limit b c) (high-limit b c) (last-use (length c)) t h
     go (inr h) =
         sym (high-capped (channel-limits b c) t)
-        ∙ rw (past b c t h, high-open b c t (omega arith), high-at-of (low-limit b c) (high-limit b c) (length c) (length c) (omega arith)) (high-open b c (length c) (omega arith))
+        ∙ rw (past b c t h, high-open b c t (omega arith), high-at-of (low-limit b c) (high-limit b c) (last-use (length c)) (last-use (length c)) (omega arith)) (high-open b c (last-use (length c)) (omega arith))
 
 -- a lower limit is at most twice the bias
 pub low-bounded : (b s l u t : ℕ) (c : List Pair) → s + 32 ≤ b → l ≤ s → channel-within l u c ≡ true → low-limit b c t ≤ 2 * b
@@ -133,6 +133,6 @@ module _ (b s : ℕ) (wide : s + 32 ≤ b) where
   stack-widening l (u ∷ ls) (c ∷ cs) e = more (channel-widens b c (search ands)) (stack-widening u ls cs (search ands))
 
   -- at a separation of the count of pairs every offset is within the limits
-  pub channel-fits-open : (c : List Pair) (x y : ℕ) → x ≤ s → y ≤ s → Fits b (low-at (channel-limits b c) (length c)) (high-at (channel-limits b c) (length c)) x y
+  pub channel-fits-open : (c : List Pair) (x y : ℕ) → x ≤ s → y ≤ s → Fits b (low-at (channel-limits b c) (last-use (length c))) (high-at (channel-limits b c) (last-use (length c))) x y
   channel-fits-open c x y hx hy =
-      omega (arith, channel-low b c (length c), channel-high b c (length c), low-open b c (length c) (omega arith), high-open b c (length c) (omega arith))
+      omega (arith, channel-low b c (last-use (length c)), channel-high b c (last-use (length c)), low-open b c (last-use (length c)) (omega arith), high-open b c (last-use (length c)) (omega arith))

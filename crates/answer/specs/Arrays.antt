@@ -1,15 +1,17 @@
 -- When the solver's arrays stand for a stack: the limits of its channels, and the windows of its strips in a spread; the answer as the code gives it. Assumes nothing: these are definitions.
 use mathlib.Core.Path.{_≡_}
-use mathlib.Core.List.{List, []}
-use Prim.Native.Nat.{ℕ, suc, _-_, _<_}
+use mathlib.Core.List.{List, [], _∷_}
+use Prim.Native.Nat.{ℕ, _<_}
 use lib.ListN.{length, getD}
 use Rattle.stack.specs.Value.{tracks-of, columns-of}
 use Rattle.numbers.specs.Lists.{tabulate, padded}
 use Rattle.stack.specs.Stack.{Pair, Stack}
+use Rattle.stack.specs.Sizes.{channels-held, strips-held, separations-held}
+use Rattle.spans.specs.Spans.{Span}
 use Rattle.channel.specs.Limits.{low-limit, high-limit}
-use Rattle.solver.specs.Arrays.{bias, channels-held, strips-held, separations-held, entry, row}
+use Rattle.solver.specs.Arrays.{bias, entry, row, sides}
 use Rattle.solver.specs.declared.Placement.{Placement}
-use Rattle.answer.specs.Solve.{answer-total, answer-separations, answer-positions}
+use Rattle.answer.specs.Solve.{last-use, window, answer-total, answer-separations, answer-positions}
 
 abbrev pub channel-in : Stack → (i : ℕ) → List Pair
 channel-in k i = getD (k .channels) i []
@@ -17,19 +19,26 @@ channel-in k i = getD (k .channels) i []
 abbrev pub strip-in : Stack → (i : ℕ) → ℕ
 strip-in k i = getD (k .strips) i 0
 
--- the first n channels' limits and counts of pairs
-pub record Limits-in (k : Stack) (n : ℕ) (lows highs : List (List ℕ)) (counts : List ℕ) : Type 0 where
-  pub sized-lows : length lows ≡ channels-held
-  pub sized-highs : length highs ≡ channels-held
-  pub sized-counts : length counts ≡ channels-held
-  pub lows-are : (i : ℕ) → i < n → row lows i ≡ tabulate separations-held 0 (λ t. low-limit bias (channel-in k i) t)
-  pub highs-are : (i : ℕ) → i < n → row highs i ≡ tabulate separations-held 0 (λ t. high-limit bias (channel-in k i) t)
-  pub counts-are : (i : ℕ) → i < n → entry counts i ≡ length (channel-in k i)
+-- a channel's limits, in a row of lows and a row of highs
+abbrev pub limit-rows : List Pair → List (List ℕ)
+limit-rows c = tabulate separations-held 0 (λ t. low-limit bias c t) ∷ tabulate separations-held 0 (λ t. high-limit bias c t) ∷ []
 
--- the ends of the first n strips' windows
-pub record Windows-in (k : Stack) (n s : ℕ) (uptos : List ℕ) : Type 0 where
-  pub sized : length uptos ≡ strips-held
-  pub ends-are : (i : ℕ) → i < n → entry uptos i ≡ suc s - strip-in k i
+-- the first n channels' limits and last separations of use
+pub record Limits-in (k : Stack) (n : ℕ) (limits : List (List (List ℕ))) (lasts : List ℕ) : Type 0 where
+  pub sized-limits : length limits ≡ channels-held
+  pub two : (i : ℕ) → i < channels-held → length (sides limits i) ≡ 2
+  pub sized-lasts : length lasts ≡ channels-held
+  pub limits-are : (i : ℕ) → i < n → sides limits i ≡ limit-rows (channel-in k i)
+  pub lasts-are : (i : ℕ) → i < n → entry lasts i ≡ last-use (length (channel-in k i))
+
+-- a window's start and end
+abbrev pub window-ends : Span → List ℕ
+window-ends w = w .from ∷ w .upto ∷ []
+
+-- the first n strips' windows
+pub record Windows-in (k : Stack) (n s : ℕ) (windows : List (List ℕ)) : Type 0 where
+  pub sized : length windows ≡ strips-held
+  pub windows-are : (i : ℕ) → i < n → row windows i ≡ window-ends (window s (strip-in k i))
 
 -- THE ANSWER as the code gives it, with zeros in unused places
 pub record Answer-is (k : Stack) (s : ℕ) (r : Placement) : Type 0 where

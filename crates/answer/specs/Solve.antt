@@ -13,9 +13,13 @@ use Rattle.solver.specs.Arrays.{limits-from}
 unfoldable pub window : (s length : ℕ) → Span
 window s l = span 0 (suc s - l)
 
--- a channel's limits for the separations from 0 to its count of pairs
+-- the last separation of use in a channel, from its count of pairs
+abbrev pub last-use : (pairs : ℕ) → ℕ
+last-use m = m
+
+-- a channel's limits for the separations up to the last of use
 unfoldable pub channel-limits : (b : ℕ) → List Pair → List Limit
-channel-limits b c = limits-from (low-limit b c) (high-limit b c) 0 (suc (length c))
+channel-limits b c = limits-from (low-limit b c) (high-limit b c) 0 (suc (last-use (length c)))
 
 -- each channel with the strip on top of it
 unfoldable pub stack-levels : (b s : ℕ) → (upper-strips : List ℕ) → List (List Pair) → List Level

@@ -5,37 +5,46 @@ ghost use Prim.Native.Nat.{suc, _≤_};
 ghost use Rattle.stack.specs.Limits.{within-limits};
 ghost use Rattle.stack.specs.Value.{stack-of};
 ghost use Rattle.stack.specs.Stack.{longest};
+ghost use Rattle.answer.specs.Solve.{last-use};
 ghost use Rattle.answer.specs.Arrays.{Limits-in, Windows-in, Answer-is};
-use channel::SEPARATIONS;
 use channel::channel_limits;
 use numbers::difference;
 use scan::most_total;
 use scan::scan_totals;
+use solver::Goal;
+use solver::HIGH;
+use solver::LOW;
 use solver::Placement;
 use solver::place_in;
 use stack::Columns;
 use stack::Stack;
 
-// The limits and the counts of pairs of a stack's channels, in the solver's arrays.
+// The last separation of use in a channel with so many pairs: there the limits leave every offset open.
+fn last_use(pairs: usize) -> usize
+    ensures { λ r. ⌜ r ≡ last-use pairs ⌝ }
+{
+    pairs
+}
+
+// The limits and the last separations of use of a stack's channels, in the solver's arrays.
 pub fn fill_limits(
     stack: Stack,
-    low: &mut [[u64; SEPARATIONS]; Stack::MAX_CHANNELS],
-    high: &mut [[u64; SEPARATIONS]; Stack::MAX_CHANNELS],
-    counts: &mut [usize; Stack::MAX_CHANNELS],
+    limits: &mut [[[u64; Stack::SEPARATIONS]; 2]; Stack::MAX_CHANNELS],
+    lasts: &mut [usize; Stack::MAX_CHANNELS],
 )
     requires { ⌜ within-limits (stack-of stack) ≡ true ⌝ }
-    requires { ⌜ Limits-in (stack-of stack) 0 (now low) (now high) (now counts) ⌝ }
-    ensures { λ _. ⌜ Limits-in (stack-of stack) (stack .count) (now (low .exit)) (now (high .exit)) (now (counts .exit)) ⌝ }
+    requires { ⌜ Limits-in (stack-of stack) 0 (now limits) (now lasts) ⌝ }
+    ensures { λ _. ⌜ Limits-in (stack-of stack) (stack .count) (now (limits .exit)) (now (lasts .exit)) ⌝ }
 {
     let channels = stack.count;
     for i in 0..channels {
         let terminals = stack.channels[i];
-        let limits = channel_limits(terminals);
-        let lows = limits.low;
-        let highs = limits.high;
-        low[i] = lows;
-        high[i] = highs;
-        counts[i] = terminals.count;
+        let found = channel_limits(terminals);
+        let lows = found.low;
+        let highs = found.high;
+        limits[i][LOW] = lows;
+        limits[i][HIGH] = highs;
+        lasts[i] = last_use(terminals.count);
     }
 }
 
@@ -45,16 +54,16 @@ fn wide(c: Columns) -> u64
     c.0 as u64
 }
 
-// The ends of the strips' windows in a spread.
-pub fn fill_windows(stack: Stack, spread: u32, upto: &mut [u64; Stack::MAX_CHANNELS + 1])
+// The strips' windows in a spread.
+pub fn fill_windows(stack: Stack, spread: u32, windows: &mut [[u64; 2]; Stack::STRIPS])
     requires { ⌜ within-limits (stack-of stack) ≡ true ⌝ }
-    requires { ⌜ Windows-in (stack-of stack) 0 spread (now upto) ⌝ }
-    ensures { λ _. ⌜ Windows-in (stack-of stack) (suc (stack .count)) spread (now (upto .exit)) ⌝ }
+    requires { ⌜ Windows-in (stack-of stack) 0 spread (now windows) ⌝ }
+    ensures { λ _. ⌜ Windows-in (stack-of stack) (suc (stack .count)) spread (now (windows .exit)) ⌝ }
 {
     let strips = stack.count + 1;
     for i in 0..strips {
         let strip = stack.strips[i];
-        upto[i] = difference(spread as u64 + 1, wide(strip.length));
+        windows[i] = [0, difference(spread as u64 + 1, wide(strip.length))];
     }
 }
 
@@ -65,37 +74,18 @@ pub fn answer(stack: Stack, spread: u32) -> Placement
     ensures { λ r. ⌜ Answer-is (stack-of stack) spread r ⌝ }
 {
     let k = stack.count;
-    let mut low = [[0u64; SEPARATIONS]; Stack::MAX_CHANNELS];
-    let mut high = [[0u64; SEPARATIONS]; Stack::MAX_CHANNELS];
-    let mut counts = [0usize; Stack::MAX_CHANNELS];
-    fill_limits(stack, &mut low, &mut high, &mut counts);
-    let from = [0u64; Stack::MAX_CHANNELS + 1];
-    let mut upto = [0u64; Stack::MAX_CHANNELS + 1];
-    fill_windows(stack, spread, &mut upto);
-    let mut froms = [[0u64; Stack::MAX_TOTAL + 1]; Stack::MAX_CHANNELS + 1];
-    let mut uptos = [[0u64; Stack::MAX_TOTAL + 1]; Stack::MAX_CHANNELS + 1];
-    let cap = most_total(&counts, k);
-    let scan = scan_totals(
-        &low,
-        &high,
-        &counts,
-        &from,
-        &upto,
+    let mut limits = [[[0u64; Stack::SEPARATIONS]; 2]; Stack::MAX_CHANNELS];
+    let mut lasts = [0usize; Stack::MAX_CHANNELS];
+    fill_limits(stack, &mut limits, &mut lasts);
+    let mut windows = [[0u64; 2]; Stack::STRIPS];
+    fill_windows(stack, spread, &mut windows);
+    let mut table = [[[0u64; Stack::TOTALS]; 2]; Stack::STRIPS];
+    let cap = most_total(&lasts, k);
+    let scan = scan_totals(&limits, &lasts, &windows, k, cap, &mut table);
+    let goal = Goal {
         k,
-        cap,
-        &mut froms,
-        &mut uptos,
-    );
-    place_in(
-        &low,
-        &high,
-        &counts,
-        &from,
-        &upto,
-        k,
-        scan.total,
-        scan.above,
-        &froms,
-        &uptos,
-    )
+        total: scan.total,
+        above: scan.above,
+    };
+    place_in(&limits, &lasts, &windows, goal, &table)
 }

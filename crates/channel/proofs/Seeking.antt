@@ -7,6 +7,7 @@ use native.Mathlib.Omega.{arith}
 use lib.ListN.{length, getD, set, replicate}
 use Rattle.numbers.proofs.Lists.{filled-starts, filled-steps, filled-ends}
 use Rattle.stack.specs.Stack.{Pair}
+use Rattle.stack.specs.Sizes.{separations-held}
 use Rattle.stack.specs.Value.{columns, channel-of}
 use Rattle.stack.specs.declared.Terminals.{Terminals}
 use Rattle.stack.proofs.Values.{channel-length, channel-p-at, channel-q-at}
@@ -37,21 +38,21 @@ seeking-ends k t i low high h s =
     let e : i ≡ length (channel-of k) - t = omega (arith, s .seen, channel-length k) in
     record { low = rw e at (s .greatest-seen); high = rw e at (s .least-seen) }
 
-pub filling-starts : (c : List Pair) → Filling c 0 (replicate 33 0) (replicate 33 (2 * bias))
-filling-starts c = record { below = omega arith; lows = sym (filled-starts 33 _ 0); highs = sym (filled-starts 33 _ (2 * bias)) }
+pub filling-starts : (c : List Pair) → Filling c 0 (replicate separations-held 0) (replicate separations-held (2 * bias))
+filling-starts c = record { below = omega arith; lows = sym (filled-starts separations-held _ 0); highs = sym (filled-starts separations-held _ (2 * bias)) }
 
 pub filling-steps : (c : List Pair) (t : ℕ) (low high : List ℕ) (r : Bounds) → t < length c → length c ≤ 32 → Filling c t low high → Bounds-at c t r →
     Filling c (t + 1) (set low t (r .low)) (set high t (r .high))
 filling-steps c t low high r h few f b =
     record {
       below = omega arith;
-      lows = rw (f .lows, b .low) (filled-steps 33 t (λ s. low-limit bias c s) 0 (omega arith));
-      highs = rw (f .highs, b .high) (filled-steps 33 t (λ s. high-limit bias c s) (2 * bias) (omega arith));
+      lows = rw (f .lows, b .low) (filled-steps separations-held t (λ s. low-limit bias c s) 0 (omega arith));
+      highs = rw (f .highs, b .high) (filled-steps separations-held t (λ s. high-limit bias c s) (2 * bias) (omega arith));
     }
 
 pub filling-ends : (c : List Pair) (t : ℕ) (low high : List ℕ) → length c ≤ t → length c ≤ 32 → Filling c t low high → Limits-of c (record { low = low; high = high })
 filling-ends c t low high h few f =
     record {
-      low = f .lows ∙ filled-ends 33 t (λ s. low-limit bias c s) 0 (omega (arith, f .below)) (λ s k. low-open bias c s (omega arith));
-      high = f .highs ∙ filled-ends 33 t (λ s. high-limit bias c s) (2 * bias) (omega (arith, f .below)) (λ s k. high-open bias c s (omega arith));
+      low = f .lows ∙ filled-ends separations-held t (λ s. low-limit bias c s) 0 (omega (arith, f .below)) (λ s k. low-open bias c s (omega arith));
+      high = f .highs ∙ filled-ends separations-held t (λ s. high-limit bias c s) (2 * bias) (omega (arith, f .below)) (λ s k. high-open bias c s (omega arith));
     }

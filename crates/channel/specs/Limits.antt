@@ -9,6 +9,7 @@ use lib.Dec.{leb}
 use lib.ListN.{length}
 use Rattle.numbers.specs.Lists.{tabulate, filled}
 use Rattle.stack.specs.Stack.{Pair, p-at, q-at}
+use Rattle.stack.specs.Sizes.{separations-held}
 use Rattle.channel.specs.declared.Bounds.{Bounds}
 use Rattle.channel.specs.declared.Limits.{Limits}
 
@@ -65,13 +66,13 @@ pub record Seeking (c : List Pair) (t i low high : ℕ) : Type 0 where
 -- while the arrays are filled: the first t separations stand, the rest is open
 pub record Filling (c : List Pair) (t : ℕ) (low high : List ℕ) : Type 0 where
   pub below : t ≤ length c
-  pub lows : low ≡ filled 33 t (λ s. low-limit bias c s) 0
-  pub highs : high ≡ filled 33 t (λ s. high-limit bias c s) (2 * bias)
+  pub lows : low ≡ filled separations-held t (λ s. low-limit bias c s) 0
+  pub highs : high ≡ filled separations-held t (λ s. high-limit bias c s) (2 * bias)
 
--- the limits for every separation from 0 to 32
+-- the limits for every separation
 pub record Limits-of (c : List Pair) (r : Limits) : Type 0 where
-  pub low : r .low ≡ tabulate 33 0 (λ s. low-limit bias c s)
-  pub high : r .high ≡ tabulate 33 0 (λ s. high-limit bias c s)
+  pub low : r .low ≡ tabulate separations-held 0 (λ s. low-limit bias c s)
+  pub high : r .high ≡ tabulate separations-held 0 (λ s. high-limit bias c s)
 
 -- the tests of feasibility at one i = j - t: pair i joins p to q, pair i + t joins pt to qt
 unfoldable pub clear : (p q pt qt t lower upper : ℕ) → Bool

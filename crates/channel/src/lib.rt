@@ -11,8 +11,6 @@ use stack::Stack;
 use stack::Terminals;
 use stack::Tracks;
 
-pub const SEPARATIONS: usize = Stack::MAX_SEPARATION + 1;
-
 // The least and greatest offset at one separation, raised by Stack::BIAS.
 pub struct Bounds {
     pub low: u64,
@@ -21,8 +19,8 @@ pub struct Bounds {
 
 // The least and greatest offset for each separation from 0 on, raised by Stack::BIAS.
 pub struct Limits {
-    pub low: [u64; SEPARATIONS],
-    pub high: [u64; SEPARATIONS],
+    pub low: [u64; Stack::SEPARATIONS],
+    pub high: [u64; Stack::SEPARATIONS],
 }
 
 fn wide(c: Columns) -> u64
@@ -56,8 +54,8 @@ pub fn channel_limits(terminals: Terminals) -> Limits
     requires { ⌜ terminals .count ≤ 32 ⌝ }
     ensures { λ r. ⌜ Limits-of (channel-of terminals) r ⌝ }
 {
-    let mut low = [0u64; SEPARATIONS];
-    let mut high = [2 * Stack::BIAS; SEPARATIONS];
+    let mut low = [0u64; Stack::SEPARATIONS];
+    let mut high = [2 * Stack::BIAS; Stack::SEPARATIONS];
     let pairs = terminals.count;
     for t in 0..pairs {
         let at = bounds_at(terminals, t);

@@ -4,7 +4,7 @@ use mathlib.Core.Bool.{Bool}
 use mathlib.Core.List.{List}
 use Prim.Native.Nat.{ℕ}
 use Prim.Native.String.{String}
-use Rattle.numbers.specs.Lists.{padded}
+use Rattle.numbers.specs.Lists.{tabulate, padded}
 use Rattle.stack.specs.Stack as stacks
 use Rattle.stack.specs.Stack.{Stack}
 use Rattle.channel.specs.Limits as limits
@@ -13,6 +13,7 @@ use Rattle.spans.specs.Solver as solver
 use Rattle.solver.specs.Arrays.{limits-from}
 use Rattle.answer.specs.Solve as solve
 use Rattle.rows.specs.Walk as walk
+use Rattle.lines.specs.Lines as lines
 use Rattle.text.specs.Text as texts
 use Rattle.writing.specs.TableText as table-texts
 use Rattle.trial.specs.Legal.{all-zero, is-legal}
@@ -22,11 +23,12 @@ use Rattle.evidence.specs.Specimens.{byte-shown, line-shown, text-shown}
 
 unfoldable pub reading : List String → Stack
 unfolding byte-shown line-shown text-shown stacks.pair stacks.stack
-    texts.refusal texts.fine texts.or-else texts.line texts.to-front texts.lines texts.into-field texts.fields texts.is-digit texts.all-digits
-    texts.is-number texts.value-of texts.value texts.all-numbers texts.values texts.same-bytes texts.stack-word texts.part-word texts.nets-word
-    texts.no-line texts.line-at texts.shape texts.numbers-of texts.head-refusal texts.k-of texts.part-refusal texts.parts-refusal
-    texts.terminals-refusal texts.length-at texts.nets-refusal texts.all-nets-refusal texts.text-refusal texts.strips-in texts.pairs-of
-    texts.channels-in texts.stack-in
+    lines.line lines.to-front lines.lines lines.no-line lines.line-at lines.into-field lines.fields lines.word-of lines.number-fields lines.same-bytes
+    lines.has-word lines.is-digit lines.all-digits lines.is-number lines.ill-formed lines.value-of lines.value lines.values lines.numbers-of tabulate
+    texts.refusal texts.fine texts.or-else texts.stack-word texts.part-word texts.nets-word texts.kind texts.exactly texts.in-pairs texts.stack-kind
+    texts.part-kind texts.nets-kind texts.layout texts.entry texts.first-of texts.fault-at texts.supplied texts.part-content texts.terminals-refusal
+    texts.nets-content texts.check texts.k-of texts.head-refusal texts.head-check texts.part-check texts.length-at texts.nets-check texts.tail-at
+    texts.tail-check texts.checks texts.in-turn texts.text-refusal texts.file texts.file-in texts.pairs-of texts.stack-in-file texts.stack-in
 reading t = texts.stack-in (text-shown t)
 
 unfoldable pub replying : List ℕ → (s space : ℕ) → (ts xs : List ℕ) → Spread-reply × Table-reply × Bool

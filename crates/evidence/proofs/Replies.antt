@@ -11,8 +11,10 @@ use borrow.Author.Tests.{eqb-true, ltb-false}
 use Rattle.numbers.proofs.Bools.{ands, impossible}
 use Rattle.stack.specs.Stack.{Stack, Answer, longest}
 use Rattle.stack.specs.Limits.{within-limits}
-use Rattle.text.specs.Text.{Refusal, refusal, same-bytes, text-refusal, stack-in}
-use Rattle.text.proofs.Within.{or-else-fine, when-fine, accepted-within}
+use Rattle.lines.specs.Lines.{same-bytes}
+use Rattle.text.specs.Text.{Refusal, refusal, text-refusal, stack-in}
+use Rattle.text.proofs.Refusals.{or-else-fine, when-fine}
+use Rattle.text.proofs.Within.{accepted-within}
 use Rattle.answer.specs.Solve.{answer-separations, answer-positions}
 use Rattle.answer.proofs.Answers.{answer-there, answer-alone}
 use Rattle.rows.specs.Walk.{rows-of}

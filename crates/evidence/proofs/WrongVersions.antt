@@ -15,7 +15,8 @@ use Rattle.numbers.proofs.Bools.{impossible}
 use Rattle.stack.specs.Stack.{Stack, in-spread, longest, sum}
 use Rattle.routing.specs.Paths as paths
 use Rattle.routing.specs.Paths.{point, Drawable}
-use Rattle.text.specs.Text.{Refusal, refusal, same-bytes, stack-in}
+use Rattle.lines.specs.Lines.{same-bytes}
+use Rattle.text.specs.Text.{Refusal, refusal, stack-in}
 use Rattle.text.specs.Outcome.{refusal-of}
 use Rattle.nabetsu.specs.Entry.{spread-refusal, placed-is, Answered, Spread-says, table-told, Table-says}
 use Rattle.nabetsu.specs.Best.{Spread-best}

@@ -6,7 +6,8 @@ use Prim.Native.Nat.{ℕ, zero, suc, _-_}
 use lib.Dec.{leb, eqb}
 use lib.ListN.{length, replicate}
 use Rattle.stack.specs.Stack.{Stack, sum}
-use Rattle.text.specs.Text.{Refusal, refusal, same-bytes, text-refusal, stack-in}
+use Rattle.lines.specs.Lines.{same-bytes}
+use Rattle.text.specs.Text.{Refusal, refusal, text-refusal, stack-in}
 use Rattle.answer.specs.Solve.{answer-separations, answer-positions}
 use Rattle.rows.specs.Walk.{rows-of}
 use Rattle.writing.specs.TableText.{table-text}

@@ -22,8 +22,7 @@ use Rattle.text.specs.declared.Refused.{Refused as Refused-struct}
 use Rattle.text.specs.declared.Outcome.{Outcome}
 use Rattle.text.specs.declared.Outcome.the-variants.{Accepted, Refused}
 use Rattle.text.specs.declared.Refusal.the-variants.{ShortSpace}
-use Rattle.text.proofs.Places.{refused-number}
-use Rattle.text.proofs.Stages.{or-else-refused}
+use Rattle.text.proofs.Refusals.{refused-number, or-else-refused}
 use Rattle.nabetsu.specs.Entry.{numbers, numbers-in, zeros, code, verdict, is-legal-numbers, Spread-says, Trial-says, Numbers-put, Spread-coded}
 use Rattle.nabetsu.specs.Parts.{Refused-answer, Copied, Numbers-tried}
 use Rattle.nabetsu.proofs.Copies.{copied-starts, copied-steps, copied-ends}

@@ -8,7 +8,7 @@ use Rattle.text.specs.Text.{Refusal, refusal, fine, text-refusal, stack-in}
 use Rattle.text.specs.Outcome.{is-accepted}
 use Rattle.text.specs.Driver.{Stack-read}
 use Rattle.text.specs.declared.Reading.{Reading}
-use Rattle.text.proofs.Places.{refused-number, accepted-fine}
+use Rattle.text.proofs.Refusals.{refused-number, accepted-fine}
 
 module _ (bs : List ℕ) (g : Reading) (d : Stack-read bs g) where
   pub refused-text : is-accepted (g .outcome) ≡ false → text-refusal bs .number ≡ 0 → ⊥

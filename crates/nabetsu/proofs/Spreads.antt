@@ -20,9 +20,8 @@ use Rattle.text.specs.Outcome.{refusal-of, is-accepted, refused}
 use Rattle.text.specs.Driver.{Stack-read}
 use Rattle.text.specs.declared.Reading.{Reading}
 use Rattle.text.specs.declared.Refusal.the-variants.{Narrow}
-use Rattle.text.proofs.Within.{or-else-fine, accepted-within}
-use Rattle.text.proofs.Stages.{or-else-refused, or-else-next}
-use Rattle.text.proofs.Places.{accepted-fine}
+use Rattle.text.proofs.Refusals.{or-else-fine, or-else-refused, or-else-next, accepted-fine}
+use Rattle.text.proofs.Within.{accepted-within}
 use Rattle.solver.specs.declared.Placement.{Placement}
 use Rattle.answer.specs.Solve.{answer-separations, answer-positions}
 use Rattle.answer.specs.Arrays.{Answer-is}

@@ -15,7 +15,7 @@ use Rattle.text.specs.Driver.{Stack-read}
 use Rattle.text.specs.declared.Reading.{Reading}
 use Rattle.text.specs.declared.Outcome.{Outcome}
 use Rattle.text.specs.declared.Refusal.the-variants.{ShortSpace}
-use Rattle.text.proofs.Places.{accepted-fine}
+use Rattle.text.proofs.Refusals.{accepted-fine}
 use Rattle.rows.specs.Walk.{rows-of}
 use Rattle.rows.proofs.Rows.{rows-are}
 use Rattle.writing.specs.Output.{cleared}

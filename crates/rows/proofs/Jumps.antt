@@ -22,7 +22,7 @@ use Rattle.spans.proofs.Back.{back-complete}
 use Rattle.spans.proofs.Jump.{back-grows}
 use Rattle.answer.specs.Solve.{window, stack-levels, bottom, levels-of, total-with, answer-total, answer-separations, answer-positions}
 use Rattle.answer.proofs.Legal.{channel-low, low-bounded, legal-placed, stack-widening}
-use Rattle.answer.proofs.Answers.{longest-bounds, counts-of, zeros-of, some-placed, answer-there, answer-sum, total-any-bias}
+use Rattle.answer.proofs.Answers.{longest-bounds, lasts-of, zeros-of, some-placed, answer-there, answer-sum, total-any-bias}
 use Rattle.rows.specs.Walk.{rows-walk}
 use Rattle.rows.proofs.Settled.{legal-wider}
 
@@ -97,7 +97,7 @@ module _ (b s d l : ℕ) (ls : List ℕ) (cs : List (List Pair)) (wide : s + d +
 most-total : (b s l : ℕ) (ls : List ℕ) (cs : List (List Pair)) → s + 32 ≤ b → l ≤ s → longest ls ≤ s → channels-within (l ∷ ls) cs ≡ true →
     least-total b (window s l) (stack-levels b s ls cs) ≤ most (stack-levels b s ls cs)
 most-total b s l ls cs wide h n e =
-    least-total-at-most b (window s l) (stack-levels b s ls cs) (stack-widening b s wide l ls cs e) (counts-of cs) 0 (zeros-of cs) (some-placed b s wide l ls cs e h n)
+    least-total-at-most b (window s l) (stack-levels b s ls cs) (stack-widening b s wide l ls cs e) (lasts-of cs) 0 (zeros-of cs) (some-placed b s wide l ls cs e h n)
 
 no-fall-strips : (b s d v : ℕ) (ls : List ℕ) (cs : List (List Pair)) (us ys : List ℕ) → s + d + 32 ≤ b → longest ls ≤ s → channels-within ls cs ≡ true →
     None-within b b d v (bottom (stack ls cs) s) (levels-of b (stack ls cs) s) → total-with b (stack ls cs) s ≤ suc v → legal (stack ls cs) (s + d) us ys ≡ true →

@@ -44,8 +44,8 @@ module _ (f : ℕ → Bool) (cap all : ℕ) (h : cap ≤ all) where
       go (inl i) = omega (arith, first-least f 0 (suc cap) (first f 0 (suc all)) (omega arith) (omega arith) (first-holds f 0 (suc all) (omega arith)))
       go (inr i) = i
 
-module _ (k : Stack) (s : ℕ) (g : Given) (st : Stands k s g) (fits : s < 4294967296) (wide : longest (k .strips) ≤ s) (cap : ℕ) (froms uptos : List (List ℕ)) (r : Scan)
-    (i : Scan-is g (length (k .channels)) cap froms uptos r) where
+module _ (k : Stack) (s : ℕ) (g : Given) (st : Stands k s g) (fits : s < 4294967296) (wide : longest (k .strips) ≤ s) (cap : ℕ) (t : List (List (List ℕ))) (r : Scan)
+    (i : Scan-is g (length (k .channels)) cap t r) where
   abbrev m : ℕ
   m = length (k .channels)
 

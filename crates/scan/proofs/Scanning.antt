@@ -13,8 +13,9 @@ use Rattle.numbers.proofs.Orders.{lt-or-eq}
 use Rattle.spans.specs.Spans.{Span, span, nonempty}
 use Rattle.spans.specs.Solver.{start, stop, cell}
 use Rattle.spans.specs.Jump.{min-if, max-if, nearest, furthest, between, shortfall, near-of, reach-of, cell-short}
-use Rattle.solver.specs.Arrays.{bias, entry, spans-of, row}
-use Rattle.scan.specs.Scan.{put, Ends-ask, Ends-are, Ends-serve, Stretching, Strip-asks, Strip-done, none-in, Empty-on}
+use Rattle.solver.specs.Arrays.{bias, sides, low-in, high-in, span-at, span-in}
+use Rattle.scan.specs.Scan.{put-span, Ends-ask, Ends-are, Ends-serve, Stretching, window-in, Strip-asks, Strip-done, none-in, Empty-on}
+use Rattle.scan.specs.declared.Cell.{Cell}
 use Rattle.scan.specs.declared.Ends.{Ends}
 use Rattle.solver.proofs.Loops.{one-left, none-left}
 use Rattle.spans.proofs.Jump.{cell-ends}
@@ -141,8 +142,8 @@ covered b w near reach h k =
     let s : min (w .upto + b) reach ≡ w .upto + b = omega arith in
     (ap₂ span n r, ap₂ (λ (x y : ℕ). x + 1 + b - y) m s)
 
-pub ends-fewer : (v start stop q : ℕ) (lows highs froms uptos : List ℕ) → q + 1 ≡ stop → Ends-ask v start stop lows highs froms uptos → Ends-ask v start q lows highs froms uptos
-ends-fewer v start stop q lows highs froms uptos e a =
+pub ends-fewer : (limits spans : List (List ℕ)) (v start stop q : ℕ) → q + 1 ≡ stop → Ends-ask limits spans v start stop → Ends-ask limits spans v start q
+ends-fewer limits spans v start stop q e a =
     record {
       total = a .total;
       listed = omega (arith, a .listed);
@@ -154,47 +155,47 @@ ends-fewer v start stop q lows highs froms uptos e a =
     }
 
 -- ends from the last separation q on
-module _ (lows highs froms uptos : List ℕ) (v start stop q : ℕ) (w : Span) (e : Ends) (last : q + 1 ≡ stop) (inside : start ≤ q)
-    (n : e .near ≡ min-if (nonempty (spans-of froms uptos (v - q))) (entry froms (v - q) + 2 * bias - entry highs q) (2 * bias))
-    (r : e .reach ≡ max-if (nonempty (spans-of froms uptos (v - q))) (entry uptos (v - q) + 2 * bias - entry lows q) 0) where
+module _ (limits spans : List (List ℕ)) (v start stop q : ℕ) (w : Span) (e : Ends) (last : q + 1 ≡ stop) (inside : start ≤ q)
+    (n : e .near ≡ min-if (nonempty (span-at spans (v - q))) (span-at spans (v - q) .from + 2 * bias - high-in limits q) (2 * bias))
+    (r : e .reach ≡ max-if (nonempty (span-at spans (v - q))) (span-at spans (v - q) .upto + 2 * bias - low-in limits q) 0) where
   abbrev f : ℕ → Span
-  f j = spans-of froms uptos (v - j)
+  f j = span-at spans (v - j)
 
-  near-whole : nearest bias (entry highs) f start (q - start) (e .near - bias) ≡ nearest bias (entry highs) f start (stop - start) bias
+  near-whole : nearest bias (high-in limits) f start (q - start) (e .near - bias) ≡ nearest bias (high-in limits) f start (stop - start) bias
   near-whole =
       let i : start + (q - start) ≡ q = omega arith in
       let j : suc (q - start) ≡ stop - start = omega arith in
-      rw (lowered bias (nonempty (f q)) (entry froms (v - q)) (entry highs q) (2 * bias) (e .near) n)
-      (rw (i, j) at (nearest-last bias (entry highs) f start (q - start) bias))
+      rw (lowered bias (nonempty (f q)) (span-at spans (v - q) .from) (high-in limits q) (2 * bias) (e .near) n)
+      (rw (i, j) at (nearest-last bias (high-in limits) f start (q - start) bias))
 
-  reach-whole : furthest bias (entry lows) f start (q - start) (e .reach) ≡ furthest bias (entry lows) f start (stop - start) 0
+  reach-whole : furthest bias (low-in limits) f start (q - start) (e .reach) ≡ furthest bias (low-in limits) f start (stop - start) 0
   reach-whole =
       let i : start + (q - start) ≡ q = omega arith in
       let j : suc (q - start) ≡ stop - start = omega arith in
-      rw r (rw (i, j) at (furthest-last bias (entry lows) f start (q - start) 0))
+      rw r (rw (i, j) at (furthest-last bias (low-in limits) f start (q - start) 0))
 
   -- the first ends are small
   pub first-small : e .near ≤ 2 * bias
-  first-small = rw n (go (nonempty (spans-of froms uptos (v - q))))
+  first-small = rw n (go (nonempty (span-at spans (v - q))))
     where
-      go : (z : Bool) → min-if z (entry froms (v - q) + 2 * bias - entry highs q) (2 * bias) ≤ 2 * bias
+      go : (z : Bool) → min-if z (span-at spans (v - q) .from + 2 * bias - high-in limits q) (2 * bias) ≤ 2 * bias
       go true = omega arith
       go false = omega arith
 
   -- they reach over the whole window
-  pub ends-cover : e .near ≤ w .from + bias → w .upto + bias ≤ e .reach → Ends-serve lows highs froms uptos v start stop w e
+  pub ends-cover : e .near ≤ w .from + bias → w .upto + bias ≤ e .reach → Ends-serve limits spans v start stop w e
   ends-cover h k =
       let here = covered bias w (e .near - bias) (e .reach) (omega arith) k in
-      let whole = covered bias w (nearest bias (entry highs) f start (stop - start) bias) (furthest bias (entry lows) f start (stop - start) 0)
-      (omega (arith, near-whole, nearest-below bias (entry highs) f start (q - start) (e .near - bias)))
-      (omega (arith, reach-whole, furthest-beyond bias (entry lows) f start (q - start) (e .reach))) in
+      let whole = covered bias w (nearest bias (high-in limits) f start (stop - start) bias) (furthest bias (low-in limits) f start (stop - start) 0)
+      (omega (arith, near-whole, nearest-below bias (high-in limits) f start (q - start) (e .near - bias)))
+      (omega (arith, reach-whole, furthest-beyond bias (low-in limits) f start (q - start) (e .reach))) in
       record { small = first-small; span-is = here .0 ∙ sym (whole .0); short-is = here .1 ∙ sym (whole .1) }
 
   -- all separations taken
-  pub ends-all : (x : Ends) → Ends-are lows highs froms uptos v start q e x → Ends-serve lows highs froms uptos v start stop w x
+  pub ends-all : (x : Ends) → Ends-are limits spans v start q e x → Ends-serve limits spans v start stop w x
   ends-all x d =
-      let near : x .near - bias ≡ nearest bias (entry highs) f start (stop - start) bias = d .near-is ∙ near-whole in
-      let reach : x .reach ≡ furthest bias (entry lows) f start (stop - start) 0 = d .reach-is ∙ reach-whole in
+      let near : x .near - bias ≡ nearest bias (high-in limits) f start (stop - start) bias = d .near-is ∙ near-whole in
+      let reach : x .reach ≡ furthest bias (low-in limits) f start (stop - start) 0 = d .reach-is ∙ reach-whole in
       record { small = d .small; span-is = ap₂ (between bias w) near reach; short-is = ap₂ (shortfall bias w) near reach }
 
 -- the separations tried end no later than those of use, and those left out leave a total below the first that is not empty
@@ -214,16 +215,22 @@ left-of : (first v q : ℕ) → first ≤ q → q ≤ v → v - q + first ≤ v
 left-of first v q h k = omega arith
 
 -- THE SEPARATIONS TRIED: those left out leave totals whose spans in the strip above are empty
-module _ (i least last above empty v from upto first end : ℕ) (lows highs : List ℕ) (froms uptos : List (List ℕ)) (a : Strip-asks i last above empty v from upto lows highs froms uptos)
-    (d : first ≡ max least (v - above)) (e : end ≡ min (last + 1) (v + 1 - empty)) where
-  s : first ≡ start least last above v
+module _ (limits : List (List ℕ)) (c : Cell) (t : List (List (List ℕ))) (first end : ℕ) (a : Strip-asks limits c t)
+    (d : first ≡ max (c .least) (c .v - c .above)) (e : end ≡ min (c .last + 1) (c .v + 1 - c .empty)) where
+  s : first ≡ start (c .least) (c .last) (c .above) (c .v)
   s = omega (arith, a .of-use)
 
-  left-over : (u : ℕ) → u + first ≤ v → u ≤ above
+  left-over : (u : ℕ) → u + first ≤ c .v → u ≤ c .above
   left-over u k = let h = a .of-use in omega arith
 
+  abbrev above-spans : ℕ → Span
+  above-spans = span-in t (c .i + 1)
+
+  abbrev w : Span
+  w = window-in c
+
   -- what a cell asks of the loop over separations
-  pub strip-ends-ask : Ends-ask v first end lows highs (row froms (i + 1)) (row uptos (i + 1))
+  pub strip-ends-ask : Ends-ask limits (sides t (c .i + 1)) (c .v) first end
   strip-ends-ask =
       record {
         total = a .total;
@@ -235,68 +242,54 @@ module _ (i least last above empty v from upto first end : ℕ) (lows highs : Li
         ends = λ u h. a .ends u (omega arith) (left-over u h);
       }
 
-  abbrev above-spans : ℕ → Span
-  above-spans = spans-of (row froms (i + 1)) (row uptos (i + 1))
+  left-empty : (q : ℕ) → first + (end - first) ≤ q → q < first + (stop (c .last) (c .v) - first) → nonempty (above-spans (c .v - q)) ≡ false
+  left-empty q h k =
+      le-ltb (above-spans (c .v - q) .from) (above-spans (c .v - q) .upto)
+      (a .empties (c .v - q) (untried (c .last) (c .v) (c .empty) first end q e h k) (left-over (c .v - q) (left-of first (c .v) q (omega arith) (within (c .last) (c .v) first q k (omega arith)))))
 
-  left-empty : (q : ℕ) → first + (end - first) ≤ q → q < first + (stop last v - first) → nonempty (above-spans (v - q)) ≡ false
-  left-empty q h k = le-ltb (entry (row froms (i + 1)) (v - q)) (entry (row uptos (i + 1)) (v - q)) (a .empties (v - q) (untried last v empty first end q e h k) (left-over (v - q) (left-of first v q (omega arith) (within last v first q k (omega arith)))))
+  near-tried : nearest bias (high-in limits) (λ q. above-spans (c .v - q)) first (end - first) bias ≡ near-of bias bias (high-in limits) (c .least) (c .last) (c .above) above-spans (c .v)
+  near-tried = rw (← s) (nearest-cut bias (high-in limits) (λ q. above-spans (c .v - q)) first (end - first) (stop (c .last) (c .v) - first) bias (rw e (tried-less (c .last) (c .v) (c .empty) first)) left-empty)
 
-  near-tried : nearest bias (entry highs) (λ q. above-spans (v - q)) first (end - first) bias ≡ near-of bias bias (entry highs) least last above above-spans v
-  near-tried = rw (← s) (nearest-cut bias (entry highs) (λ q. above-spans (v - q)) first (end - first) (stop last v - first) bias (rw e (tried-less last v empty first)) left-empty)
-
-  reach-tried : furthest bias (entry lows) (λ q. above-spans (v - q)) first (end - first) 0 ≡ reach-of bias (entry lows) least last above above-spans v
-  reach-tried = rw (← s) (furthest-cut bias (entry lows) (λ q. above-spans (v - q)) first (end - first) (stop last v - first) 0 (rw e (tried-less last v empty first)) left-empty)
+  reach-tried : furthest bias (low-in limits) (λ q. above-spans (c .v - q)) first (end - first) 0 ≡ reach-of bias (low-in limits) (c .least) (c .last) (c .above) above-spans (c .v)
+  reach-tried = rw (← s) (furthest-cut bias (low-in limits) (λ q. above-spans (c .v - q)) first (end - first) (stop (c .last) (c .v) - first) 0 (rw e (tried-less (c .last) (c .v) (c .empty) first)) left-empty)
 
   -- one cell, from ends whose span and shortfall are those of the separations tried
-  module _ (near reach : ℕ)
-      (w : between bias (span from upto) near reach ≡ between bias (span from upto) (nearest bias (entry highs) (λ q. above-spans (v - q)) first (end - first) bias) (furthest bias (entry lows) (λ q. above-spans (v - q)) first (end - first) 0))
-      (c : shortfall bias (span from upto) near reach ≡ shortfall bias (span from upto) (nearest bias (entry highs) (λ q. above-spans (v - q)) first (end - first) bias) (furthest bias (entry lows) (λ q. above-spans (v - q)) first (end - first) 0)) where
-    cell-tried : between bias (span from upto) near reach ≡ cell bias (entry lows) (entry highs) least last above above-spans (span from upto) v
-    cell-tried =
-        w ∙ (ap₂ (between bias (span from upto)) near-tried reach-tried
-        ∙ sym (cell-ends bias bias (entry lows) (entry highs) least last above above-spans (span from upto) v (a .end)))
-
-    cell-put : (x y z : ℕ) → span x y ≡ between bias (span from upto) near reach → z ≡ shortfall bias (span from upto) near reach →
-        Strip-done lows highs i least last above v (span from upto) froms uptos (put froms i v x) (put uptos i v y) z
-    unfolding cell-short
-    cell-put x y z p t =
-        record {
-          from-put = ap (λ (k : Span). put froms i v (k .from)) (p ∙ cell-tried);
-          upto-put = ap (λ (k : Span). put uptos i v (k .upto)) (p ∙ cell-tried);
-          short-is = t ∙ (c ∙ ap₂ (shortfall bias (span from upto)) near-tried reach-tried);
-        }
-
-  pub strip-done : (r : Ends) (x y z : ℕ) → Ends-serve lows highs (row froms (i + 1)) (row uptos (i + 1)) v first end (span from upto) r →
-      x ≡ max from (min upto (r .near - bias)) → y ≡ min upto (r .reach - bias) → z ≡ max from (r .near - bias) + 1 + bias - min (upto + bias) (r .reach) →
-      Strip-done lows highs i least last above v (span from upto) froms uptos (put froms i v x) (put uptos i v y) z
-  strip-done r x y z d p q t = cell-put (r .near - bias) (r .reach) (d .span-is) (d .short-is) x y z (ap₂ span p q) t
+  pub strip-done : (r : Ends) (x y z : ℕ) → Ends-serve limits (sides t (c .i + 1)) (c .v) first end w r →
+      x ≡ max (c .from) (min (c .upto) (r .near - bias)) → y ≡ min (c .upto) (r .reach - bias) → z ≡ max (c .from) (r .near - bias) + 1 + bias - min (c .upto + bias) (r .reach) →
+      Strip-done limits c t (put-span t (c .i) (c .v) (span x y)) z
+  unfolding cell-short
+  strip-done r x y z f p q g =
+      record {
+        put-is = ap (put-span t (c .i) (c .v)) (ap₂ span p q ∙ cell-tried);
+        short-is = g ∙ (f .short-is ∙ ap₂ (shortfall bias w) near-tried reach-tried);
+      }
+    where
+      cell-tried : between bias w (r .near - bias) (r .reach) ≡ cell bias (low-in limits) (high-in limits) (c .least) (c .last) (c .above) above-spans w (c .v)
+      cell-tried =
+          f .span-is ∙ (ap₂ (between bias w) near-tried reach-tried
+          ∙ sym (cell-ends bias bias (low-in limits) (high-in limits) (c .least) (c .last) (c .above) above-spans w (c .v) (a .end)))
 
   -- no separation to try
   pub cell-none : end ≤ first →
-      (cell bias (entry lows) (entry highs) least last above above-spans (span from upto) v ≡ none-in (span from upto))
-      × (cell-short bias bias (entry lows) (entry highs) least last above above-spans (span from upto) v ≡ 2 * bias + 1)
+      (cell bias (low-in limits) (high-in limits) (c .least) (c .last) (c .above) above-spans w (c .v) ≡ none-in w)
+      × (cell-short bias bias (low-in limits) (high-in limits) (c .least) (c .last) (c .above) above-spans w (c .v) ≡ 2 * bias + 1)
   unfolding nearest furthest cell-short
   cell-none h =
       let z : 0 ≡ end - first = none-left end first h in
-      let d : _ = ap (λ (m : ℕ). nearest bias (entry highs) (λ q. above-spans (v - q)) first m bias) z in
-      let g : _ = ap (λ (m : ℕ). furthest bias (entry lows) (λ q. above-spans (v - q)) first m 0) z in
-      let n : bias ≡ near-of bias bias (entry highs) least last above above-spans v = d ∙ near-tried in
-      let r : 0 ≡ reach-of bias (entry lows) least last above above-spans v = g ∙ reach-tried in
-      let s : 2 * bias + 1 ≡ shortfall bias (span from upto) bias 0 = omega (arith, a .start) in
-      let c : none-in (span from upto) ≡ between bias (span from upto) bias 0 = ap₂ span (omega (arith, a .end)) (omega arith) in (
-        sym (c ∙ (ap₂ (between bias (span from upto)) n r ∙ sym (cell-ends bias bias (entry lows) (entry highs) least last above above-spans (span from upto) v (a .end)))),
-        sym (s ∙ ap₂ (shortfall bias (span from upto)) n r),
+      let y : _ = ap (λ (m : ℕ). nearest bias (high-in limits) (λ q. above-spans (c .v - q)) first m bias) z in
+      let g : _ = ap (λ (m : ℕ). furthest bias (low-in limits) (λ q. above-spans (c .v - q)) first m 0) z in
+      let n : bias ≡ near-of bias bias (high-in limits) (c .least) (c .last) (c .above) above-spans (c .v) = y ∙ near-tried in
+      let r : 0 ≡ reach-of bias (low-in limits) (c .least) (c .last) (c .above) above-spans (c .v) = g ∙ reach-tried in
+      let x : 2 * bias + 1 ≡ shortfall bias w bias 0 = omega (arith, a .start) in
+      let b : none-in w ≡ between bias w bias 0 = ap₂ span (omega (arith, a .end)) (omega arith) in (
+        sym (b ∙ (ap₂ (between bias w) n r ∙ sym (cell-ends bias bias (low-in limits) (high-in limits) (c .least) (c .last) (c .above) above-spans w (c .v) (a .end)))),
+        sym (x ∙ ap₂ (shortfall bias w) n r),
       )
 
-  pub strip-none : (x : ℕ) → end ≤ first → x ≡ max from upto →
-      Strip-done lows highs i least last above v (span from upto) froms uptos (put froms i v x) (put uptos i v 0) (2 * bias + 1)
+  pub strip-none : (x : ℕ) → end ≤ first → x ≡ max (c .from) (c .upto) → Strip-done limits c t (put-span t (c .i) (c .v) (span x 0)) (2 * bias + 1)
   strip-none x h p =
-      let c = cell-none h in
-      record {
-        from-put = ap (put froms i v) (p ∙ sym (ap (λ (k : Span). k .from) (c .0)));
-        upto-put = ap (put uptos i v) (sym (ap (λ (k : Span). k .upto) (c .0)));
-        short-is = sym (c .1);
-      }
+      let b = cell-none h in
+      record { put-is = ap (put-span t (c .i) (c .v)) (ap₂ span p refl ∙ sym (b .0)); short-is = sym (b .1) }
 
 -- a cell that is short is empty
 short-ends : (b from upto near reach : ℕ) → min (upto + b) reach < max from near + 1 + b → min upto (reach - b) ≤ max from near

@@ -5,21 +5,22 @@ use numbers::lesser;
 use stack::Stack;
 ghost use mathlib.Core.Path.{_≡_};
 ghost use Prim.Native.Nat.{_+_, _-_, _*_, _≤_, _<_, min, max};
-ghost use lib.ListN.{length};
 ghost use lib.Dec.{ltb, eqb};
+ghost use Rattle.stack.specs.Sizes.{channels-held, separations-held, totals-held};
 ghost use Rattle.spans.specs.Spans.{span};
 ghost use Rattle.spans.specs.Jump.{min-if, max-if};
-ghost use Rattle.scan.specs.Scan.{Ends-ask, Ends-are, Ends-serve, Strip-asks, Strip-done, Counts-ask, sums, Sums-are, Leasts-are, jump-if, Empty-on, Empties-are, Row-is, Cleared, Only-at, Total-asks, Scanning, Scan-asks, Scan-is};
-ghost use Rattle.solver.specs.Arrays.{bias, channels-held, separations-held, totals-held, entry, Sized, given};
+ghost use Rattle.solver.specs.Arrays.{bias, given, levels, Two-rows, Sized};
+ghost use Rattle.scan.specs.Scan.{Ends-ask, Ends-are, Ends-serve, window-in, Strip-asks, Strip-done, Lasts-ask, sums, Sums-are, Leasts-are, jump-if, Empty-on, Empties-are, Row-is, Cleared, Only-at, Total-asks, Scanning, Scan-asks, Scan-is};
+use solver::FROM;
+use solver::HIGH;
+use solver::LOW;
+use solver::UPTO;
 use solver::least_open;
 
-const SEPARATIONS: usize = Stack::MAX_SEPARATION + 1;
+// The two rows of what is worked out once for all totals: the least open separation of each channel, and the sum of the last separations above each strip.
+const LEAST: usize = 0;
 
-const CHANNELS: usize = Stack::MAX_CHANNELS;
-
-const STRIPS: usize = Stack::MAX_CHANNELS + 1;
-
-const TOTALS: usize = Stack::MAX_TOTAL + 1;
+const ABOVE: usize = 1;
 
 // Of spans shifted back: the nearest start and the furthest end, each raised by the bias once more.
 struct Ends {
@@ -27,7 +28,27 @@ struct Ends {
     reach: u64,
 }
 
-// The first total that can be had, the sum of the counts of the channels above channel 0, and how far the spread may grow before a smaller total can be had.
+// Strip i at total v: its window, the separations of its channel from the least open one to the last of use, what the channels above can use, and below
+// which total the strip above has empty spans.
+struct Cell {
+    i: usize,
+    v: usize,
+    least: usize,
+    last: usize,
+    above: usize,
+    empty: usize,
+    from: u64,
+    upto: u64,
+}
+
+// One total of a scan of k channels, and the jump before it.
+struct Turn {
+    k: usize,
+    v: usize,
+    jump: u64,
+}
+
+// The first total that can be had, the sum of the last separations above channel 0, and how far the spread may grow before a smaller total can be had.
 pub struct Scan {
     pub total: usize,
     pub above: usize,
@@ -51,57 +72,64 @@ fn stretch(e: Ends, from: u64, upto: u64, low: u64, high: u64) -> Ends
 
 // The ends stretched by the spans of the strip above for what separations from start to below stop leave of total v, each shifted back by its limit.
 fn reach_back(
-    low: &[u64; SEPARATIONS],
-    high: &[u64; SEPARATIONS],
-    froms: &[u64; TOTALS],
-    uptos: &[u64; TOTALS],
+    limits: &[[u64; Stack::SEPARATIONS]; 2],
+    spans: &[[u64; Stack::TOTALS]; 2],
     v: usize,
     start: usize,
     stop: usize,
     before: Ends,
 ) -> Ends
-    requires { ⌜ Ends-ask v start stop (now low) (now high) (now froms) (now uptos) × (before .near ≤ 2 * bias) ⌝ }
-    ensures { λ r. ⌜ Ends-are (now (low .entry)) (now (high .entry)) (now (froms .entry)) (now (uptos .entry)) v start stop before r ⌝ }
+    requires { ⌜ Ends-ask (now limits) (now spans) v start stop × (before .near ≤ 2 * bias) ⌝ }
+    ensures { λ r. ⌜ Ends-are (now (limits .entry)) (now (spans .entry)) v start stop before r ⌝ }
 {
     let mut e = before;
     let mut q = start;
     while q < stop {
         let u = v - q;
-        let wider = stretch(e, froms[u], uptos[u], low[q], high[q]);
+        let wider = stretch(
+            e,
+            spans[FROM][u],
+            spans[UPTO][u],
+            limits[LOW][q],
+            limits[HIGH][q],
+        );
         e = wider;
         q += 1;
     }
     e
 }
 
-// Ends for the window (from, upto), from separations start to below stop. If those of the last one reach over the whole window, the others change nothing in it.
+// Ends for a cell's window, from separations start to below stop. If those of the last one reach over the whole window, the others change nothing in it.
 fn ends_in(
-    low: &[u64; SEPARATIONS],
-    high: &[u64; SEPARATIONS],
-    froms: &[u64; TOTALS],
-    uptos: &[u64; TOTALS],
-    v: usize,
+    limits: &[[u64; Stack::SEPARATIONS]; 2],
+    spans: &[[u64; Stack::TOTALS]; 2],
+    cell: Cell,
     start: usize,
     stop: usize,
-    from: u64,
-    upto: u64,
 ) -> Ends
-    requires { ⌜ Ends-ask v start stop (now low) (now high) (now froms) (now uptos) × (start < stop) × (from ≤ bias) × (upto ≤ bias) ⌝ }
-    ensures { λ r. ⌜ Ends-serve (now (low .entry)) (now (high .entry)) (now (froms .entry)) (now (uptos .entry)) v start stop (span from upto) r ⌝ }
+    requires { ⌜ Ends-ask (now limits) (now spans) (cell .v) start stop × (start < stop) × (cell .from ≤ bias) × (cell .upto ≤ bias) ⌝ }
+    ensures { λ r. ⌜ Ends-serve (now (limits .entry)) (now (spans .entry)) (cell .v) start stop (window-in cell) r ⌝ }
 {
     let none = Ends {
         near: 2 * Stack::BIAS,
         reach: 0,
     };
+    let v = cell.v;
     let q = stop - 1;
     let u = v - q;
-    let e = stretch(none, froms[u], uptos[u], low[q], high[q]);
-    if e.near <= from + Stack::BIAS {
-        if upto + Stack::BIAS <= e.reach {
+    let e = stretch(
+        none,
+        spans[FROM][u],
+        spans[UPTO][u],
+        limits[LOW][q],
+        limits[HIGH][q],
+    );
+    if e.near <= cell.from + Stack::BIAS {
+        if cell.upto + Stack::BIAS <= e.reach {
             return e;
         }
     }
-    reach_back(low, high, froms, uptos, v, start, q, e)
+    reach_back(limits, spans, v, start, q, e)
 }
 
 // The first separation of use in a channel at a total of use: an open one that leaves no more than the levels above can use.
@@ -119,87 +147,69 @@ fn stop_above(last: usize, v: usize, empty: usize) -> usize
     lesser(last as u64 + 1, difference(v as u64 + 1, empty as u64)) as usize
 }
 
-// Writes the span of strip i for total v, from the spans of the strip above, which are empty for totals below empty, and answers by how much it is short.
+// Writes the span of a cell, from the spans of the strip above, and answers by how much it is short.
 fn scan_strip(
-    low: &[u64; SEPARATIONS],
-    high: &[u64; SEPARATIONS],
-    i: usize,
-    least: usize,
-    last: usize,
-    above: usize,
-    empty: usize,
-    from: u64,
-    upto: u64,
-    v: usize,
-    froms: &mut [[u64; TOTALS]; STRIPS],
-    uptos: &mut [[u64; TOTALS]; STRIPS],
+    limits: &[[u64; Stack::SEPARATIONS]; 2],
+    cell: Cell,
+    table: &mut [[[u64; Stack::TOTALS]; 2]; Stack::STRIPS],
 ) -> u64
-    requires { ⌜ Strip-asks i last above empty v from upto (now low) (now high) (now froms) (now uptos) ⌝ }
-    ensures { λ r. ⌜ Strip-done (now (low .entry)) (now (high .entry)) i least last above v (span from upto) (now (froms .entry)) (now (uptos .entry)) (now (froms .exit)) (now (uptos .exit)) r ⌝ }
+    requires { ⌜ Strip-asks (now limits) cell (now table) ⌝ }
+    ensures { λ r. ⌜ Strip-done (now (limits .entry)) cell (now (table .entry)) (now (table .exit)) r ⌝ }
 {
-    let first = start_above(least, above, v);
-    let end = stop_above(last, v, empty);
+    let i = cell.i;
+    let v = cell.v;
+    let first = start_above(cell.least, cell.above, v);
+    let end = stop_above(cell.last, v, cell.empty);
     if end <= first {
-        froms[i][v] = greater(from, upto);
-        uptos[i][v] = 0;
+        table[i][FROM][v] = greater(cell.from, cell.upto);
+        table[i][UPTO][v] = 0;
         return 2 * Stack::BIAS + 1;
     }
-    let e = ends_in(
-        low,
-        high,
-        &froms[i + 1],
-        &uptos[i + 1],
-        v,
-        first,
-        end,
-        from,
-        upto,
-    );
+    let e = ends_in(limits, &table[i + 1], cell, first, end);
     let near = difference(e.near, Stack::BIAS);
-    froms[i][v] = greater(from, lesser(upto, near));
-    uptos[i][v] = lesser(upto, difference(e.reach, Stack::BIAS));
+    table[i][FROM][v] = greater(cell.from, lesser(cell.upto, near));
+    table[i][UPTO][v] = lesser(cell.upto, difference(e.reach, Stack::BIAS));
     difference(
-        greater(from, near) + 1 + Stack::BIAS,
-        lesser(upto + Stack::BIAS, e.reach),
+        greater(cell.from, near) + 1 + Stack::BIAS,
+        lesser(cell.upto + Stack::BIAS, e.reach),
     )
 }
 
-// The sums of the counts above each strip.
-fn sums_above(counts: &[usize; CHANNELS], k: usize) -> [usize; STRIPS]
-    requires { ⌜ Counts-ask (now counts) k ⌝ }
-    ensures { λ r. ⌜ Sums-are (now (counts .entry)) k 0 r ⌝ }
+// The sums of the last separations above each strip.
+fn sums_above(lasts: &[usize; Stack::MAX_CHANNELS], k: usize) -> [usize; Stack::STRIPS]
+    requires { ⌜ Lasts-ask (now lasts) k ⌝ }
+    ensures { λ r. ⌜ Sums-are (now (lasts .entry)) k 0 r ⌝ }
 {
-    let mut sums = [0usize; STRIPS];
+    let mut sums = [0usize; Stack::STRIPS];
     let mut i = k;
     while 0 < i {
         i -= 1;
-        sums[i] = counts[i] + sums[i + 1];
+        sums[i] = lasts[i] + sums[i + 1];
     }
     sums
 }
 
-// The sum of all counts: no greater total is of use.
-pub fn most_total(counts: &[usize; CHANNELS], k: usize) -> usize
-    requires { ⌜ Counts-ask (now counts) k ⌝ }
-    ensures { λ r. ⌜ r ≡ sums (now (counts .entry)) 0 k ⌝ }
+// The sum of all last separations: no greater total is of use.
+pub fn most_total(lasts: &[usize; Stack::MAX_CHANNELS], k: usize) -> usize
+    requires { ⌜ Lasts-ask (now lasts) k ⌝ }
+    ensures { λ r. ⌜ r ≡ sums (now (lasts .entry)) 0 k ⌝ }
 {
-    let sums = sums_above(counts, k);
+    let sums = sums_above(lasts, k);
     sums[0]
 }
 
 // The least open separation of each channel.
 fn least_opens(
-    low: &[[u64; SEPARATIONS]; CHANNELS],
-    high: &[[u64; SEPARATIONS]; CHANNELS],
-    counts: &[usize; CHANNELS],
+    limits: &[[[u64; Stack::SEPARATIONS]; 2]; Stack::MAX_CHANNELS],
+    lasts: &[usize; Stack::MAX_CHANNELS],
     k: usize,
-) -> [usize; CHANNELS]
-    requires { ⌜ Counts-ask (now counts) k ⌝ }
-    ensures { λ r. ⌜ Leasts-are (now (low .entry)) (now (high .entry)) (now (counts .entry)) k r ⌝ }
+) -> [usize; Stack::STRIPS]
+    requires { ⌜ Lasts-ask (now lasts) k ⌝ }
+    ensures { λ r. ⌜ Leasts-are (now (limits .entry)) (now (lasts .entry)) k r ⌝ }
 {
-    let mut leasts = [0usize; CHANNELS];
+    let mut leasts = [0usize; Stack::STRIPS];
     for i in 0..k {
-        leasts[i] = least_open(&low[i], &high[i], counts[i]);
+        leasts[i] = least_open(&limits[i], lasts[i]);
     }
     leasts
 }
@@ -232,46 +242,38 @@ fn count_empty(count: usize, bound: usize, v: usize, short: u64) -> usize
 // Writes the spans of strips k - 1 to 0 for total v, and answers the jump cut down to their shortfalls. Below its bound a strip has no span, for every
 // separation leaves the strip above an empty one; then the strips below have none either, and all of them are cleared already.
 fn scan_total(
-    low: &[[u64; SEPARATIONS]; CHANNELS],
-    high: &[[u64; SEPARATIONS]; CHANNELS],
-    counts: &[usize; CHANNELS],
-    from: &[u64; STRIPS],
-    upto: &[u64; STRIPS],
-    leasts: &[usize; CHANNELS],
-    sums: &[usize; STRIPS],
-    k: usize,
-    v: usize,
-    before: u64,
-    empties: &mut [usize; STRIPS],
-    froms: &mut [[u64; TOTALS]; STRIPS],
-    uptos: &mut [[u64; TOTALS]; STRIPS],
+    limits: &[[[u64; Stack::SEPARATIONS]; 2]; Stack::MAX_CHANNELS],
+    lasts: &[usize; Stack::MAX_CHANNELS],
+    windows: &[[u64; 2]; Stack::STRIPS],
+    plan: &[[usize; Stack::STRIPS]; 2],
+    turn: Turn,
+    empties: &mut [usize; Stack::STRIPS],
+    table: &mut [[[u64; Stack::TOTALS]; 2]; Stack::STRIPS],
 ) -> u64
-    requires { ⌜ Total-asks (given (now low) (now high) (now counts) (now from) (now upto)) k v (now leasts) (now sums) (now empties) (now froms) (now uptos) before ⌝ }
-    ensures { λ r. ⌜ Scanning (given (now (low .entry)) (now (high .entry)) (now (counts .entry)) (now (from .entry)) (now (upto .entry))) k v 0 (now (froms .exit)) (now (uptos .exit)) r × Empties-are k v 0 (now (froms .exit)) (now (uptos .exit)) (now (empties .exit)) × Only-at v 0 (now (froms .entry)) (now (uptos .entry)) (now (froms .exit)) (now (uptos .exit)) ⌝ }
+    requires { ⌜ Total-asks (given (now limits) (now lasts) (now windows)) (turn .k) (turn .v) (now plan) (now empties) (now table) (turn .jump) ⌝ }
+    ensures { λ r. ⌜ Scanning (given (now (limits .entry)) (now (lasts .entry)) (now (windows .entry))) (turn .k) (turn .v) 0 (now (table .exit)) r × Empties-are (turn .k) (turn .v) 0 (now (table .exit)) (now (empties .exit)) × Only-at (turn .v) 0 (now (table .entry)) (now (table .exit)) ⌝ }
 {
-    let mut jump = before;
-    let mut i = k;
+    let v = turn.v;
+    let mut jump = turn.jump;
+    let mut i = turn.k;
     while 0 < i {
         i -= 1;
-        let bound = leasts[i] + empties[i + 1];
+        let bound = plan[LEAST][i] + empties[i + 1];
         if v < bound {
             return jump;
         }
-        if v <= sums[i] {
-            let short = scan_strip(
-                &low[i],
-                &high[i],
+        if v <= plan[ABOVE][i] {
+            let cell = Cell {
                 i,
-                leasts[i],
-                counts[i],
-                sums[i + 1],
-                empties[i + 1],
-                from[i],
-                upto[i],
                 v,
-                froms,
-                uptos,
-            );
+                least: plan[LEAST][i],
+                last: lasts[i],
+                above: plan[ABOVE][i + 1],
+                empty: empties[i + 1],
+                from: windows[i][FROM],
+                upto: windows[i][UPTO],
+            };
+            let short = scan_strip(&limits[i], cell, table);
             empties[i] = count_empty(empties[i], bound, v, short);
             jump = shorter(jump, short);
         }
@@ -280,74 +282,61 @@ fn scan_total(
 }
 
 // Writes the span (from, 0) for the totals up to cap.
-fn clear_row(froms: &mut [u64; TOTALS], uptos: &mut [u64; TOTALS], from: u64, cap: usize)
-    requires { ⌜ (cap < totals-held) × (length (now froms) ≡ totals-held) × (length (now uptos) ≡ totals-held) ⌝ }
-    ensures { λ _. ⌜ Row-is from (cap + 1) (now (froms .exit)) × Row-is 0 (cap + 1) (now (uptos .exit)) ⌝ }
+fn clear_row(spans: &mut [[u64; Stack::TOTALS]; 2], from: u64, cap: usize)
+    requires { ⌜ (cap < totals-held) × Two-rows (now spans) ⌝ }
+    ensures { λ _. ⌜ Row-is (span from 0) (cap + 1) (now (spans .exit)) ⌝ }
 {
     for u in 0..cap + 1 {
-        froms[u] = from;
-        uptos[u] = 0;
+        spans[FROM][u] = from;
+        spans[UPTO][u] = 0;
     }
 }
 
 // Gives each strip below strip k an empty span for the totals up to cap.
 fn clear(
-    from: &[u64; STRIPS],
-    upto: &[u64; STRIPS],
+    windows: &[[u64; 2]; Stack::STRIPS],
     k: usize,
     cap: usize,
-    froms: &mut [[u64; TOTALS]; STRIPS],
-    uptos: &mut [[u64; TOTALS]; STRIPS],
+    table: &mut [[[u64; Stack::TOTALS]; 2]; Stack::STRIPS],
 )
-    requires { ⌜ (k ≤ channels-held) × (cap < totals-held) × Sized (now froms) × Sized (now uptos) ⌝ }
-    ensures { λ _. ⌜ Cleared (now (from .entry)) (now (upto .entry)) k 0 cap (now (froms .exit)) (now (uptos .exit)) ⌝ }
+    requires { ⌜ (k ≤ channels-held) × (cap < totals-held) × Sized (now table) ⌝ }
+    ensures { λ _. ⌜ Cleared (now (windows .entry)) k 0 cap (now (table .exit)) ⌝ }
 {
     for i in 0..k {
-        clear_row(&mut froms[i], &mut uptos[i], greater(from[i], upto[i]), cap);
+        clear_row(
+            &mut table[i],
+            greater(windows[i][FROM], windows[i][UPTO]),
+            cap,
+        );
     }
 }
 
-// The first total up to cap that can be had, or one more than cap, with the tables of spans for the totals up to it.
+// The first total up to cap that can be had, or one more than cap, with the table of spans for the totals up to it.
 pub fn scan_totals(
-    low: &[[u64; SEPARATIONS]; CHANNELS],
-    high: &[[u64; SEPARATIONS]; CHANNELS],
-    counts: &[usize; CHANNELS],
-    from: &[u64; STRIPS],
-    upto: &[u64; STRIPS],
+    limits: &[[[u64; Stack::SEPARATIONS]; 2]; Stack::MAX_CHANNELS],
+    lasts: &[usize; Stack::MAX_CHANNELS],
+    windows: &[[u64; 2]; Stack::STRIPS],
     k: usize,
     cap: usize,
-    froms: &mut [[u64; TOTALS]; STRIPS],
-    uptos: &mut [[u64; TOTALS]; STRIPS],
+    table: &mut [[[u64; Stack::TOTALS]; 2]; Stack::STRIPS],
 ) -> Scan
-    requires { ⌜ Scan-asks (given (now low) (now high) (now counts) (now from) (now upto)) k cap (now froms) (now uptos) ⌝ }
-    ensures { λ r. ⌜ Scan-is (given (now (low .entry)) (now (high .entry)) (now (counts .entry)) (now (from .entry)) (now (upto .entry))) k cap (now (froms .exit)) (now (uptos .exit)) r ⌝ }
+    requires { ⌜ Scan-asks (given (now limits) (now lasts) (now windows)) k cap (now table) ⌝ }
+    ensures { λ r. ⌜ Scan-is (given (now (limits .entry)) (now (lasts .entry)) (now (windows .entry))) k cap (now (table .exit)) r ⌝ }
 {
-    let sums = sums_above(counts, k);
-    let leasts = least_opens(low, high, counts, k);
+    let leasts = least_opens(limits, lasts, k);
+    let sums = sums_above(lasts, k);
+    let plan = [leasts, sums];
     let above = sums[1];
-    clear(from, upto, k, cap, froms, uptos);
-    froms[k][0] = from[k];
-    uptos[k][0] = upto[k];
-    let mut empties = [0usize; STRIPS];
+    clear(windows, k, cap, table);
+    table[k][FROM][0] = windows[k][FROM];
+    table[k][UPTO][0] = windows[k][UPTO];
+    let mut empties = [0usize; Stack::STRIPS];
     let mut jump = Stack::BIAS;
     let mut v = 0;
     while v <= cap {
-        let next = scan_total(
-            low,
-            high,
-            counts,
-            from,
-            upto,
-            &leasts,
-            &sums,
-            k,
-            v,
-            jump,
-            &mut empties,
-            froms,
-            uptos,
-        );
-        if froms[0][v] < uptos[0][v] {
+        let turn = Turn { k, v, jump };
+        let next = scan_total(limits, lasts, windows, &plan, turn, &mut empties, table);
+        if table[0][FROM][v] < table[0][UPTO][v] {
             return Scan {
                 total: v,
                 above,

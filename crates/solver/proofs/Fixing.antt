@@ -8,10 +8,11 @@ use lib.ListN.{length, getD, set, length-set, List·getD-map}
 use lib.Seq.{getD-set-same, getD-set-other}
 use Rattle.stack.specs.Value.{tracks-of}
 use Rattle.stack.specs.declared.Tracks.{Tracks}
+use Rattle.stack.specs.Sizes.{strips-held, separations-held}
 use Rattle.numbers.proofs.Orders.{lt-or-eq}
 use Rattle.spans.specs.Spans.{Span, cut, shift-back}
 use Rattle.spans.specs.Solver.{fixed}
-use Rattle.solver.specs.Arrays.{bias, strips-held, separations-held, entry, spans-of, Given, low-of, high-of, count-of, window-of, levels, Stack-asks, taken, fixed-from, Starts-are}
+use Rattle.solver.specs.Arrays.{bias, entry, Given, low-of, high-of, last-of, window-of, levels, Stack-asks, taken, fixed-from, Starts-are}
 use Rattle.solver.specs.Loops.{Fixing}
 use Rattle.solver.proofs.Levels.{low-at-any, high-at-any}
 
@@ -35,7 +36,7 @@ module _ (g : Given) (k : ℕ) (ts : List ℕ) (a : Stack-asks g k) where
   unfolding fixed levels
   top n e = let z : n ≡ 0 = omega arith in rw z
 
-  pub fixing-start : (starts : List ℕ) → length starts ≡ strips-held → Fixing g k ts k (window-of g k) (set starts k (entry (g .froms) k))
+  pub fixing-start : (starts : List ℕ) → length starts ≡ strips-held → Fixing g k ts k (window-of g k) (set starts k (window-of g k .from))
   fixing-start starts l =
       record {
         to-top = omega arith;
@@ -45,10 +46,10 @@ module _ (g : Given) (k : ℕ) (ts : List ℕ) (a : Stack-asks g k) where
         upto-small = a .ends k (omega arith);
       }
 
-  pub fixing-asks : (i j : ℕ) (s : Span) (starts : List ℕ) → Fixing g k ts i s starts → j + 1 ≡ i → (count-of g j < separations-held) × (s .from ≤ strips-held * bias) × (s .upto ≤ bias)
+  pub fixing-asks : (i j : ℕ) (s : Span) (starts : List ℕ) → Fixing g k ts i s starts → j + 1 ≡ i → (last-of g j < separations-held) × (s .from ≤ strips-held * bias) × (s .upto ≤ bias)
   fixing-asks i j s starts f below = (a .listed j (omega (arith, f .to-top)), omega (arith, f .from-small, a .channels), f .upto-small)
 
-  module _ (i j q : ℕ) (s t : Span) (starts : List ℕ) (f : Fixing g k ts i s starts) (below : j + 1 ≡ i) (qe : q ≡ entry ts j) (te : t ≡ cut (spans-of (g .froms) (g .uptos) j) (shift-back bias (low-of g j (min q (count-of g j))) (high-of g j (min q (count-of g j))) s)) where
+  module _ (i j q : ℕ) (s t : Span) (starts : List ℕ) (f : Fixing g k ts i s starts) (below : j + 1 ≡ i) (qe : q ≡ entry ts j) (te : t ≡ cut (window-of g j) (shift-back bias (low-of g j (min q (last-of g j))) (high-of g j (min q (last-of g j))) s)) where
     above : (n : ℕ) → suc j + n ≡ k → s ≡ fixed-from g ts (suc j) n
     above n e = let z : suc j ≡ i = omega arith in rw z (f .here n (omega arith))
 
@@ -56,9 +57,9 @@ module _ (g : Given) (k : ℕ) (ts : List ℕ) (a : Stack-asks g k) where
     unfolding fixed levels taken
     here-below zero e = absurd (omega (arith, f .to-top))
     here-below (suc n) e =
-        rw (low-at-any (low-of g j) (high-of g j) (count-of g j) (entry ts j), high-at-any (low-of g j) (high-of g j) (count-of g j) (entry ts j), ← above n (omega arith), ← qe) te
+        rw (low-at-any (low-of g j) (high-of g j) (last-of g j) (entry ts j), high-at-any (low-of g j) (high-of g j) (last-of g j) (entry ts j), ← above n (omega arith), ← qe) te
 
-    t-ends : (t .from ≤ max (entry (g .froms) j) (s .from + bias)) × (t .upto ≤ entry (g .uptos) j)
+    t-ends : (t .from ≤ max (window-of g j .from) (s .from + bias)) × (t .upto ≤ window-of g j .upto)
     t-ends = (rw te (omega arith), rw te (omega arith))
 
     pub fixing-step : Fixing g k ts j t (set starts j (t .from))

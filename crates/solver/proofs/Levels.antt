@@ -11,7 +11,7 @@ use Rattle.spans.specs.Spans.{Span, span, Limit, limit, last, low-at, high-at, 
 use Rattle.spans.specs.Solver.{Level, first, first-open, least-open, most, start, stop, cell, back, serves, first-serving, least-serving, forward}
 use Rattle.spans.proofs.Limits.{low-capped, high-capped}
 use Rattle.spans.proofs.First.{first-hit, first-miss}
-use Rattle.solver.specs.Arrays.{bias, Given, low-of, high-of, count-of, window-of, limits-from, level-of, levels}
+use Rattle.solver.specs.Arrays.{bias, Given, low-of, high-of, last-of, window-of, limits-from, level-of, levels}
 
 module _ (low high : ℕ → ℕ) where
   limits-length : (q n : ℕ) → length (limits-from low high q n) ≡ n
@@ -25,13 +25,13 @@ module _ (low high : ℕ → ℕ) where
   limits-at q (suc n) zero d h = rw add-zero
   limits-at q (suc n) (suc j) d h = let e : suc q + j ≡ q + suc j = omega arith in rw (← e) (limits-at (suc q) n j d (omega arith))
 
-  pub last-of : (m : ℕ) → last (limits-from low high 0 (suc m)) ≡ m
+  pub last-is : (m : ℕ) → last (limits-from low high 0 (suc m)) ≡ m
   unfolding last
-  last-of m = omega (arith, limits-length 0 (suc m))
+  last-is m = omega (arith, limits-length 0 (suc m))
 
   entry-of : (m q : ℕ) → q ≤ m → getD (limits-from low high 0 (suc m)) (min q (last (limits-from low high 0 (suc m)))) (limit 0 0) ≡ limit (low q) (high q)
   entry-of m q h =
-      let e : min q (last (limits-from low high 0 (suc m))) ≡ q = omega (arith, last-of m) in
+      let e : min q (last (limits-from low high 0 (suc m))) ≡ q = omega (arith, last-is m) in
       let z : 0 + q ≡ q = omega arith in
       rw e (rw z at (limits-at 0 (suc m) q (limit 0 0) (omega arith)))
 
@@ -45,10 +45,10 @@ module _ (low high : ℕ → ℕ) where
 
   -- past the last separation the last entry
   pub low-at-any : (m q : ℕ) → low-at (limits-from low high 0 (suc m)) q ≡ low (min q m)
-  low-at-any m q = sym (low-capped (limits-from low high 0 (suc m)) q) ∙ rw (last-of m) (low-at-of m (min q m) (omega arith))
+  low-at-any m q = sym (low-capped (limits-from low high 0 (suc m)) q) ∙ rw (last-is m) (low-at-of m (min q m) (omega arith))
 
   pub high-at-any : (m q : ℕ) → high-at (limits-from low high 0 (suc m)) q ≡ high (min q m)
-  high-at-any m q = sym (high-capped (limits-from low high 0 (suc m)) q) ∙ rw (last-of m) (high-at-of m (min q m) (omega arith))
+  high-at-any m q = sym (high-capped (limits-from low high 0 (suc m)) q) ∙ rw (last-is m) (high-at-of m (min q m) (omega arith))
 
 -- a separation of use is in the list and leaves a total of use
 pub in-use : (o m a v j : ℕ) → v ≤ m + a → start o m a v ≤ j → j < start o m a v + (stop m v - start o m a v) → (j ≤ m) × (v - j ≤ v) × (v - j ≤ a)
@@ -92,7 +92,7 @@ open-of low high m =
 
 -- THE CODE'S CELL IS THE SPAN: with the spans of the row above in f
 abbrev m : (g : Given) (i : ℕ) → ℕ
-m g i = count-of g i
+m g i = last-of g i
 
 abbrev above : (g : Given) (i n : ℕ) → ℕ
 above g i n = most (levels g (suc i) n)
@@ -101,13 +101,13 @@ module _ (g : Given) (i n v : ℕ) (f : ℕ → Span) where
   pub cell-back : v ≤ m g i + above g i n → ((u : ℕ) → u ≤ v → u ≤ above g i n → f u ≡ back bias (window-of g (suc i)) (levels g (suc i) n) u) → cell bias (low-of g i) (high-of g i) (first-open (low-of g i) (high-of g i) (m g i)) (m g i) (above g i n) f (window-of g i) v ≡ back bias (window-of g i) (levels g i (suc n)) v
   unfolding back levels
   cell-back h s =
-      rw (last-of (low-of g i) (high-of g i) (m g i), open-of (low-of g i) (high-of g i) (m g i))
+      rw (last-is (low-of g i) (high-of g i) (m g i), open-of (low-of g i) (high-of g i) (m g i))
       (cell-same bias _ _ _ _ f _ _ (m g i) (above g i n) (window-of g i) v h (λ q k. (sym (low-at-of (low-of g i) (high-of g i) (m g i) q k), sym (high-at-of (low-of g i) (high-of g i) (m g i) q k))) s)
 
 -- the least separation that serves, and the forward span, from the arrays and from the levels
 module _ (g : Given) (i n : ℕ) (f : ℕ → Span) (s : Span) (v : ℕ) where
   abbrev c : List Limit
-  c = limits-from (low-of g i) (high-of g i) 0 (suc (count-of g i))
+  c = limits-from (low-of g i) (high-of g i) 0 (suc (last-of g i))
 
   serves-back : ((u : ℕ) → u ≤ v → u ≤ above g i n → f u ≡ back bias (window-of g (suc i)) (levels g (suc i) n) u) → (q : ℕ) → q < stop (m g i) v → serves bias (low-at c) (high-at c) (above g i n) (λ u. back bias (window-of g (suc i)) (levels g (suc i) n) u) s v q ≡ serves bias (low-of g i) (high-of g i) (above g i n) f s v q
   unfolding serves
@@ -117,7 +117,7 @@ module _ (g : Given) (i n : ℕ) (f : ℕ → Span) (s : Span) (v : ℕ) where
   pub serving-back : ((u : ℕ) → u ≤ v → u ≤ above g i n → f u ≡ back bias (window-of g (suc i)) (levels g (suc i) n) u) → first-serving bias (low-of g i) (high-of g i) (first-open (low-of g i) (high-of g i) (m g i)) (m g i) (above g i n) f s v ≡ least-serving bias s (level-of g i) (levels g (suc i) n) v
   unfolding first-serving
   serving-back h =
-      rw (last-of (low-of g i) (high-of g i) (m g i), open-of (low-of g i) (high-of g i) (m g i))
+      rw (last-is (low-of g i) (high-of g i) (m g i), open-of (low-of g i) (high-of g i) (m g i))
       (first-same _ _ _ _ (λ q k l. sym (serves-back h q (omega arith))))
 
   pub forward-back : (q : ℕ) → cut (window-of g (suc i)) (shift-on bias (low-of g i (min q (m g i))) (high-of g i (min q (m g i))) s) ≡ forward bias s (level-of g i) q

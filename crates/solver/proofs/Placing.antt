@@ -6,10 +6,11 @@ use native.Mathlib.Omega.{arith}
 use lib.ListN.{length, replicate}
 use Rattle.numbers.specs.Lists.{padded}
 use Rattle.stack.specs.Value.{tracks-of, columns-of}
+use Rattle.stack.specs.Sizes.{channels-held, strips-held}
 use Rattle.spans.specs.Spans.{Span}
 use Rattle.spans.specs.Solver.{Level, separations, positions-on, positions}
 use Rattle.spans.specs.Placed.{Chosen}
-use Rattle.solver.specs.Arrays.{bias, channels-held, strips-held, Given, window-of, levels, store, taken, Position-asks, separations-of, Place-asks, Placement-is}
+use Rattle.solver.specs.Arrays.{bias, Given, window-of, levels, store, taken, Position-asks, separations-of, Place-asks, Placement-is}
 use Rattle.solver.specs.declared.Placement.{Placement}
 use Rattle.solver.proofs.Stored.{store-padded, taken-padded}
 use Rattle.spans.proofs.Best.{chosen}

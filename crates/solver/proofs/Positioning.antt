@@ -5,10 +5,11 @@ use Prim.Native.Nat.{ℕ, suc, _+_, _-_, _≤_, _<_, min, max}
 use native.Mathlib.Numerals.{add-one}
 use native.Mathlib.Omega.{arith}
 use lib.ListN.{set, replicate}
+use Rattle.stack.specs.Sizes.{strips-held}
 use Rattle.spans.specs.Spans.{Span, low-at}
 use Rattle.spans.specs.Solver.{Level, lowest, positions-on, positions}
 use Rattle.spans.specs.Placed.{Placed, under}
-use Rattle.solver.specs.Arrays.{bias, strips-held, entry, row, Given, low-of, high-of, count-of, window-of, level-of, levels, taken, fixed-from, Starts-are, store, Next-asks, Position-asks}
+use Rattle.solver.specs.Arrays.{bias, entry, row, sides, Given, low-of, high-of, last-of, window-of, level-of, levels, store, taken, fixed-from, Starts-are, Next-asks, Position-asks}
 use Rattle.solver.specs.Loops.{Positioning}
 use Rattle.spans.proofs.Separations.{bottom-in}
 use Rattle.spans.proofs.Positions.{lowest-placed}
@@ -36,7 +37,7 @@ module _ (g : Given) (k : ℕ) (ts : List ℕ) (a : Position-asks g k ts) (start
     position-small =
         omega (arith, bottom-in (p .placed (k - i) (omega (arith, p .inside))) .below, a .narrow i (p .inside))
 
-    pub next-asks : i < k → Next-asks (row (g .lows) i) (count-of g i) x
+    pub next-asks : i < k → Next-asks (row (sides (g .limits) i) 0) (last-of g i) x
     next-asks h =
         record {
           listed = a .stack .listed i h;
@@ -44,10 +45,10 @@ module _ (g : Given) (k : ℕ) (ts : List ℕ) (a : Position-asks g k ts) (start
           lows-small = λ q m. a .stack .lows i q h m;
         }
 
-    module _ (h : i < k) (q y : ℕ) (qe : q ≡ entry ts i) (ye : y ≡ max (entry starts (i + 1)) (x + low-of g i (min q (count-of g i)) - bias)) where
+    module _ (h : i < k) (q y : ℕ) (qe : q ≡ entry ts i) (ye : y ≡ max (entry starts (i + 1)) (x + low-of g i (min q (last-of g i)) - bias)) where
       y-is : (n : ℕ) → suc i + n ≡ k → y ≡ max (fixed-from g ts (suc i) n .from) (x + low-at (level-of g i .limits) (entry ts i) - bias)
       y-is n e =
-          rw (low-at-any (low-of g i) (high-of g i) (count-of g i) (entry ts i), ← s .written (suc i) n (omega arith) e, ← qe, ← add-one i) ye
+          rw (low-at-any (low-of g i) (high-of g i) (last-of g i) (entry ts i), ← s .written (suc i) n (omega arith) e, ← qe, ← add-one i) ye
 
       step-left : (n : ℕ) → suc i + n ≡ k → store (set xs (suc i) y) (suc (suc i)) (positions-on bias y (levels g (suc i) n) (taken ts (suc i) n)) ≡ store (replicate strips-held 0) 0 (positions bias (window-of g 0) (levels g 0 k) (taken ts 0 k))
       unfolding store positions-on levels taken

@@ -5,12 +5,13 @@ use Prim.Native.Nat.{ℕ, zero, suc, _+_, _-_, _*_, _≤_, _<_, min, max}
 use native.Mathlib.Numerals.{add-one}
 use native.Mathlib.Omega.{arith}
 use lib.ListN.{set, replicate}
+use Rattle.stack.specs.Sizes.{channels-held, last-held, separations-held}
 use Rattle.spans.specs.Spans.{Span, cut, shift-on}
 use Rattle.spans.specs.Solver.{first, opens, first-open, most, stop, back, serves, first-serving, least-serving, forward, separations}
-use Rattle.solver.specs.Arrays.{bias, channels-held, separations-held, entry, spans-of, row, Given, low-of, high-of, count-of, window-of, level-of, levels, Stack-asks, Serve-asks, Separate-asks, store}
+use Rattle.solver.specs.Arrays.{bias, sides, Given, low-of, high-of, last-of, window-of, level-of, levels, span-in, Stack-asks, Serve-asks, Separate-asks, store}
 use Rattle.solver.specs.Loops.{Separating}
 use Rattle.spans.proofs.First.{first-upto}
-use Rattle.solver.proofs.Levels.{last-of, serving-back, forward-back}
+use Rattle.solver.proofs.Levels.{last-is, serving-back, forward-back}
 
 -- what is found is at most one past the last separation
 pub open-bound : (low high : ℕ → ℕ) (m : ℕ) → first-open low high m ≤ suc m
@@ -22,15 +23,15 @@ unfolding first-serving
 serving-bound b low high o m a f s v h = omega (arith, first-upto (serves b low high a f s v) o (stop m v - o))
 
 -- the last separations of a stack sum to what the tables hold
-pub most-small : (g : Given) (k : ℕ) → Stack-asks g k → (i n : ℕ) → i + n ≡ k → most (levels g i n) ≤ 32 * n
+pub most-small : (g : Given) (k : ℕ) → Stack-asks g k → (i n : ℕ) → i + n ≡ k → most (levels g i n) ≤ last-held * n
 unfolding most levels
 most-small g k s i zero e = omega arith
 most-small g k s i (suc n) e =
-    omega (arith, most-small g k s (suc i) n (omega arith), last-of (low-of g i) (high-of g i) (count-of g i), s .listed i (omega arith))
+    omega (arith, most-small g k s (suc i) n (omega arith), last-is (low-of g i) (high-of g i) (last-of g i), s .listed i (omega arith))
 
 -- to pass a span on asks nothing of what is above
-pub pass-on-asks : (lows highs : List ℕ) (last above from upto : ℕ) → Serve-asks lows highs last above from upto → Serve-asks lows highs last 0 from upto
-pass-on-asks lows highs last above from upto a =
+pub pass-on-asks : (c : List (List ℕ)) (last above from upto : ℕ) → Serve-asks c last above from upto → Serve-asks c last 0 from upto
+pass-on-asks c last above from upto a =
     record {
       listed = a .listed;
       total = omega arith;
@@ -41,8 +42,8 @@ pass-on-asks lows highs last above from upto a =
     }
 
 module _ (g : Given) (k total : ℕ) where
-  pub separating-start : (first : ℕ) (froms uptos : List (List ℕ)) → Separate-asks g k total first froms uptos → Separating g k total 0 total first (window-of g 0) (replicate channels-held 0)
-  separating-start first froms uptos a =
+  pub separating-start : (first : ℕ) (table : List (List (List ℕ))) → Separate-asks g k total first table → Separating g k total 0 total first (window-of g 0) (replicate channels-held 0)
+  separating-start first table a =
       record {
         inside = a .stack .some;
         left = λ n e. let z : n ≡ k = omega arith in rw z;
@@ -53,8 +54,8 @@ module _ (g : Given) (k total : ℕ) where
         ends = a .stack .ends 0 (omega arith);
       }
 
-  module _ (i v above : ℕ) (s : Span) (ts : List ℕ) (first : ℕ) (froms uptos : List (List ℕ)) (a : Separate-asks g k total first froms uptos) (h : Separating g k total i v above s ts) (next : i + 1 < k) where
-    pub separating-asks : Serve-asks (row (g .lows) i) (row (g .highs) i) (count-of g i) above (s .from) (s .upto)
+  module _ (i v above : ℕ) (s : Span) (ts : List ℕ) (first : ℕ) (table : List (List (List ℕ))) (a : Separate-asks g k total first table) (h : Separating g k total i v above s ts) (next : i + 1 < k) where
+    pub separating-asks : Serve-asks (sides (g .limits) i) (last-of g i) above (s .from) (s .upto)
     separating-asks =
         record {
           listed = a .stack .listed i (h .inside);
@@ -66,7 +67,7 @@ module _ (g : Given) (k total : ℕ) where
         }
 
     abbrev f : ℕ → Span
-    f = spans-of (row froms (i + 1)) (row uptos (i + 1))
+    f = span-in table (i + 1)
 
     row-is : (n u : ℕ) → suc i + n ≡ k → u ≤ v → u ≤ most (levels g (suc i) n) → f u ≡ back bias (window-of g (suc i)) (levels g (suc i) n) u
     row-is n u e m l =
@@ -74,18 +75,18 @@ module _ (g : Given) (k total : ℕ) where
         (a .table .filled (suc i) n u (omega arith) e (omega (arith, a .enough, h .at-most, h .above-is n e, h .above-less)) l)
 
     -- the sum of what is above, one channel on
-    above-next : (n : ℕ) → suc (suc i) + n ≡ k → above ≡ count-of g (suc i) + most (levels g (suc (suc i)) n)
+    above-next : (n : ℕ) → suc (suc i) + n ≡ k → above ≡ last-of g (suc i) + most (levels g (suc (suc i)) n)
     unfolding most levels
-    above-next n e = h .above-is (suc n) (omega arith) ∙ rw (last-of (low-of g (suc i)) (high-of g (suc i)) (count-of g (suc i)))
+    above-next n e = h .above-is (suc n) (omega arith) ∙ rw (last-is (low-of g (suc i)) (high-of g (suc i)) (last-of g (suc i)))
 
-    pub above-holds : count-of g (i + 1) ≤ above
+    pub above-holds : last-of g (i + 1) ≤ above
     above-holds = rw (add-one i) (omega (arith, above-next (k - suc (suc i)) (omega arith)))
 
-    pub separation-small : (q : ℕ) → q ≡ first-serving bias (low-of g i) (high-of g i) (first-open (low-of g i) (high-of g i) (count-of g i)) (count-of g i) above f s v → q ≤ separations-held
+    pub separation-small : (q : ℕ) → q ≡ first-serving bias (low-of g i) (high-of g i) (first-open (low-of g i) (high-of g i) (last-of g i)) (last-of g i) above f s v → q ≤ separations-held
     separation-small q e =
-        omega (arith, e, serving-bound bias (low-of g i) (high-of g i) (first-open (low-of g i) (high-of g i) (count-of g i)) (count-of g i) above f s v (open-bound (low-of g i) (high-of g i) (count-of g i)), a .stack .listed i (h .inside))
+        omega (arith, e, serving-bound bias (low-of g i) (high-of g i) (first-open (low-of g i) (high-of g i) (last-of g i)) (last-of g i) above f s v (open-bound (low-of g i) (high-of g i) (last-of g i)), a .stack .listed i (h .inside))
 
-    module _ (q : ℕ) (t : Span) (v₁ : ℕ) (qe : q ≡ first-serving bias (low-of g i) (high-of g i) (first-open (low-of g i) (high-of g i) (count-of g i)) (count-of g i) above f s v) (te : t ≡ cut (spans-of (g .froms) (g .uptos) (i + 1)) (shift-on bias (low-of g i (min q (count-of g i))) (high-of g i (min q (count-of g i))) s)) (ve : v₁ ≡ v - q) where
+    module _ (q : ℕ) (t : Span) (v₁ : ℕ) (qe : q ≡ first-serving bias (low-of g i) (high-of g i) (first-open (low-of g i) (high-of g i) (last-of g i)) (last-of g i) above f s v) (te : t ≡ cut (window-of g (i + 1)) (shift-on bias (low-of g i (min q (last-of g i))) (high-of g i (min q (last-of g i))) s)) (ve : v₁ ≡ v - q) where
       q-is : (n : ℕ) → suc i + n ≡ k → q ≡ least-serving bias s (level-of g i) (levels g (suc i) n) v
       q-is n e = qe ∙ rw (h .above-is n e) (serving-back g i n f s v (λ u m l. row-is n u e m l))
 
@@ -97,10 +98,10 @@ module _ (g : Given) (k total : ℕ) where
       step-left zero e = absurd (omega arith)
       step-left (suc n) e = rw (ve, t-is, q-is (suc n) e) (h .left (suc (suc n)) (omega arith))
 
-      t-ends : (t .from ≤ max (entry (g .froms) (i + 1)) (s .from + low-of g i (min q (count-of g i)) - bias)) × (t .upto ≤ entry (g .uptos) (i + 1))
+      t-ends : (t .from ≤ max (window-of g (i + 1) .from) (s .from + low-of g i (min q (last-of g i)) - bias)) × (t .upto ≤ window-of g (i + 1) .upto)
       t-ends = (rw te (omega arith), rw te (omega arith))
 
-      pub separating-step : Separating g k total (i + 1) v₁ (above - count-of g (i + 1)) t (set ts i q)
+      pub separating-step : Separating g k total (i + 1) v₁ (above - last-of g (i + 1)) t (set ts i q)
       separating-step =
           rw (add-one i)
           (record {
@@ -109,7 +110,7 @@ module _ (g : Given) (k total : ℕ) where
             above-is = λ n e. omega (arith, above-next n e);
             above-less = omega (arith, h .above-less);
             at-most = omega (arith, h .at-most);
-            starts = omega (arith, t-ends, h .starts, a .stack .starts (i + 1) (omega arith), a .stack .lows i (min q (count-of g i)) (h .inside) (omega arith));
+            starts = omega (arith, t-ends, h .starts, a .stack .starts (i + 1) (omega arith), a .stack .lows i (min q (last-of g i)) (h .inside) (omega arith));
             ends = omega (arith, t-ends, a .stack .ends (i + 1) (omega arith));
           })
 

@@ -4,6 +4,7 @@ use mathlib.Core.List.{List, [], _∷_}
 use Prim.Native.Nat.{ℕ, zero, suc, _+_, _-_, _*_, _≤_, _<_, min}
 use lib.ListN.{length, getD, set}
 use Rattle.numbers.specs.Lists.{padded}
+use Rattle.stack.specs.Sizes.{channels-held, strips-held, separations-held, totals-held}
 use Rattle.stack.specs.Value.{tracks-of, columns-of}
 use Rattle.solver.specs.declared.Placement.{Placement}
 use Rattle.spans.specs.Spans.{Span, span, Limit, limit}
@@ -14,51 +15,52 @@ use Rattle.spans.specs.Placed.{Placed, Exactly, Widening}
 abbrev pub bias : ℕ
 bias = 8589934592
 
--- the sizes of the code's arrays: channels, strips, separations from 0, totals from 0
-abbrev pub channels-held : ℕ
-channels-held = 8
-
-abbrev pub strips-held : ℕ
-strips-held = 9
-
-abbrev pub separations-held : ℕ
-separations-held = 33
-
-abbrev pub totals-held : ℕ
-totals-held = 257
-
 abbrev pub entry : List ℕ → (q : ℕ) → ℕ
 entry xs q = getD xs q 0
-
--- the span in two arrays of ends
-abbrev pub spans-of : (from upto : List ℕ) → (i : ℕ) → Span
-spans-of froms uptos i = span (entry froms i) (entry uptos i)
-
--- THE STACK that the arrays stand for: in channel i the limits at separations 0 to counts[i], the window of strip i. Channel i lies under strip i + 1
-pub record Given : Type 0 where
-  pub lows : List (List ℕ)
-  pub highs : List (List ℕ)
-  pub counts : List ℕ
-  pub froms : List ℕ
-  pub uptos : List ℕ
-
-abbrev pub given : (lows highs : List (List ℕ)) → (counts froms uptos : List ℕ) → Given
-given l h c f u = record { lows = l; highs = h; counts = c; froms = f; uptos = u }
 
 abbrev pub row : List (List ℕ) → (i : ℕ) → List ℕ
 row t i = getD t i []
 
+-- the two rows of a channel or a strip
+abbrev pub sides : List (List (List ℕ)) → (i : ℕ) → List (List ℕ)
+sides t i = getD t i []
+
+-- a channel's limits, in a row of lows and a row of highs
+abbrev pub low-in : List (List ℕ) → (q : ℕ) → ℕ
+low-in c q = entry (row c 0) q
+
+abbrev pub high-in : List (List ℕ) → (q : ℕ) → ℕ
+high-in c q = entry (row c 1) q
+
+-- a strip's spans, in a row of starts and a row of ends
+abbrev pub span-at : List (List ℕ) → (v : ℕ) → Span
+span-at r v = span (entry (row r 0) v) (entry (row r 1) v)
+
+-- a window, as its start and its end
+abbrev pub window-at : List ℕ → Span
+window-at w = span (entry w 0) (entry w 1)
+
+-- THE STACK that the arrays stand for: in channel i the limits at separations 0 to lasts[i], the window of strip i. Channel i lies under strip i + 1
+pub record Given : Type 0 where
+  pub limits : List (List (List ℕ))
+  pub lasts : List ℕ
+  pub windows : List (List ℕ)
+
+abbrev pub given : (limits : List (List (List ℕ))) → (lasts : List ℕ) → (windows : List (List ℕ)) → Given
+given l c w = record { limits = l; lasts = c; windows = w }
+
 abbrev pub low-of : Given → (i q : ℕ) → ℕ
-low-of g i q = entry (row (g .lows) i) q
+low-of g i q = low-in (sides (g .limits) i) q
 
 abbrev pub high-of : Given → (i q : ℕ) → ℕ
-high-of g i q = entry (row (g .highs) i) q
+high-of g i q = high-in (sides (g .limits) i) q
 
-abbrev pub count-of : Given → (i : ℕ) → ℕ
-count-of g i = entry (g .counts) i
+-- the last separation of use in channel i: from there on the limits do not widen
+abbrev pub last-of : Given → (i : ℕ) → ℕ
+last-of g i = entry (g .lasts) i
 
 abbrev pub window-of : Given → (i : ℕ) → Span
-window-of g i = spans-of (g .froms) (g .uptos) i
+window-of g i = window-at (row (g .windows) i)
 
 -- n limits from separation q on
 unfoldable pub limits-from : (low high : ℕ → ℕ) → (q n : ℕ) → List Limit
@@ -66,51 +68,55 @@ limits-from low high q zero = []
 limits-from low high q (suc n) = limit (low q) (high q) ∷ limits-from low high (suc q) n
 
 abbrev pub level-of : Given → (i : ℕ) → Level
-level-of g i = level (limits-from (low-of g i) (high-of g i) 0 (suc (count-of g i))) (window-of g (suc i))
+level-of g i = level (limits-from (low-of g i) (high-of g i) 0 (suc (last-of g i))) (window-of g (suc i))
 
 -- n levels from channel i on
 unfoldable pub levels : Given → (i n : ℕ) → List Level
 levels g i zero = []
 levels g i (suc n) = level-of g i ∷ levels g (suc i) n
 
--- a table: a row for each strip, a cell for each total
-pub record Sized (t : List (List ℕ)) : Type 0 where
-  pub rows : length t ≡ strips-held
-  pub cells : (i : ℕ) → i < strips-held → length (row t i) ≡ totals-held
+-- two rows, in each a cell for each total
+pub record Two-rows (r : List (List ℕ)) : Type 0 where
+  pub two : length r ≡ 2
+  pub cells : (s : ℕ) → s < 2 → length (row r s) ≡ totals-held
 
-abbrev pub span-in : (froms uptos : List (List ℕ)) → (i v : ℕ) → Span
-span-in froms uptos i v = span (entry (row froms i) v) (entry (row uptos i) v)
+-- a table: the spans of each strip
+pub record Sized (t : List (List (List ℕ))) : Type 0 where
+  pub strips : length t ≡ strips-held
+  pub rows : (i : ℕ) → i < strips-held → Two-rows (sides t i)
 
--- what all of it asks: k channels, counts within the arrays, ends and limits that leave room for the bias
+abbrev pub span-in : List (List (List ℕ)) → (i v : ℕ) → Span
+span-in t i v = span-at (sides t i) v
+
+-- what all of it asks: k channels, last separations within the arrays, ends and limits that leave room for the bias
 pub record Stack-asks (g : Given) (k : ℕ) : Type 0 where
   pub some : 1 ≤ k
   pub channels : k ≤ channels-held
-  pub listed : (i : ℕ) → i < k → count-of g i < separations-held
-  pub starts : (i : ℕ) → i ≤ k → entry (g .froms) i ≤ bias
-  pub ends : (i : ℕ) → i ≤ k → entry (g .uptos) i ≤ bias
-  pub lows : (i q : ℕ) → i < k → q ≤ count-of g i → low-of g i q ≤ 2 * bias
-  pub highs : (i q : ℕ) → i < k → q ≤ count-of g i → high-of g i q ≤ 2 * bias
+  pub listed : (i : ℕ) → i < k → last-of g i < separations-held
+  pub starts : (i : ℕ) → i ≤ k → window-of g i .from ≤ bias
+  pub ends : (i : ℕ) → i ≤ k → window-of g i .upto ≤ bias
+  pub lows : (i q : ℕ) → i < k → q ≤ last-of g i → low-of g i q ≤ 2 * bias
+  pub highs : (i q : ℕ) → i < k → q ≤ last-of g i → high-of g i q ≤ 2 * bias
 
--- rows i to k of the tables hold the spans of their strips, for totals up to cap
-pub record Filled (g : Given) (k cap i : ℕ) (froms uptos : List (List ℕ)) : Type 0 where
-  pub sized-froms : Sized froms
-  pub sized-uptos : Sized uptos
-  pub filled : (j n v : ℕ) → i ≤ j → j + n ≡ k → v ≤ cap → v ≤ most (levels g j n) → span-in froms uptos j v ≡ back bias (window-of g j) (levels g j n) v
+-- rows i to k of the table hold the spans of their strips, for totals up to cap
+pub record Filled (g : Given) (k cap i : ℕ) (t : List (List (List ℕ))) : Type 0 where
+  pub sized : Sized t
+  pub filled : (j n v : ℕ) → i ≤ j → j + n ≡ k → v ≤ cap → v ≤ most (levels g j n) → span-in t j v ≡ back bias (window-of g j) (levels g j n) v
 
 -- what the search for a separation asks of a channel, for the strip below in the span (from, upto)
-pub record Serve-asks (lows highs : List ℕ) (last above from upto : ℕ) : Type 0 where
+pub record Serve-asks (c : List (List ℕ)) (last above from upto : ℕ) : Type 0 where
   pub listed : last < separations-held
   pub total : above < totals-held
   pub starts : from ≤ strips-held * bias
   pub ends : upto ≤ bias
-  pub lows-small : (q : ℕ) → q ≤ last → entry lows q ≤ 2 * bias
-  pub highs-small : (q : ℕ) → q ≤ last → entry highs q ≤ 2 * bias
+  pub lows-small : (q : ℕ) → q ≤ last → low-in c q ≤ 2 * bias
+  pub highs-small : (q : ℕ) → q ≤ last → high-in c q ≤ 2 * bias
 
--- what the search for all separations asks: the tables hold what is left of the total in every channel but the last
-pub record Separate-asks (g : Given) (k total first : ℕ) (froms uptos : List (List ℕ)) : Type 0 where
+-- what the search for all separations asks: the table holds what is left of the total in every channel but the last
+pub record Separate-asks (g : Given) (k total first : ℕ) (t : List (List (List ℕ))) : Type 0 where
   pub stack : Stack-asks g k
   pub cap : ℕ
-  pub table : Filled g k cap 1 froms uptos
+  pub table : Filled g k cap 1 t
   pub enough : min total (most (levels g 1 (k - 1))) ≤ cap
   pub above-first : first ≡ most (levels g 1 (k - 1))
   pub fits : total < 4294967296
@@ -140,7 +146,7 @@ pub record Next-asks (lows : List ℕ) (last x : ℕ) : Type 0 where
 
 -- positions fit their type
 abbrev pub Narrow : Given → (k : ℕ) → Type 0
-Narrow g k = (i : ℕ) → i ≤ k → entry (g .uptos) i ≤ 4294967296
+Narrow g k = (i : ℕ) → i ≤ k → window-of g i .upto ≤ 4294967296
 
 -- what the search for the positions asks: a placement with these separations
 pub record Position-asks (g : Given) (k : ℕ) (ts : List ℕ) : Type 0 where

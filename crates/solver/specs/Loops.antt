@@ -4,10 +4,11 @@ use mathlib.Core.Bool.{Bool}
 use mathlib.Core.List.{List}
 use Prim.Native.Nat.{ℕ, suc, _+_, _-_, _*_, _≤_, _<_}
 use lib.ListN.{replicate}
+use Rattle.stack.specs.Sizes.{channels-held, strips-held}
 use Rattle.spans.specs.Spans.{Span}
 use Rattle.spans.specs.Solver.{first, most, separations, positions-on, positions}
 use Rattle.spans.specs.Placed.{Placed}
-use Rattle.solver.specs.Arrays.{bias, channels-held, strips-held, Given, window-of, levels, store, taken, fixed-from, Starts-are}
+use Rattle.solver.specs.Arrays.{bias, Given, window-of, levels, store, taken, fixed-from, Starts-are}
 
 -- a search for the first number below stop at which f is true, at q
 pub record Searching (f : ℕ → Bool) (stop q found : ℕ) : Type 0 where

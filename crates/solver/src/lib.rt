@@ -9,17 +9,20 @@ ghost use mathlib.Core.Path.{_≡_};
 ghost use Prim.Native.Nat.{_+_, _-_, _*_, _≤_, _<_, min, max};
 ghost use lib.ListN.{replicate};
 ghost use Rattle.stack.specs.Value.{tracks-of, columns-of};
+ghost use Rattle.stack.specs.Sizes.{channels-held, strips-held, separations-held};
 ghost use Rattle.spans.specs.Spans.{span, cut, shift-back, shift-on};
 ghost use Rattle.spans.specs.Solver.{first-open, stop, first-serving, separations, positions};
-ghost use Rattle.solver.specs.Arrays.{bias, channels-held, strips-held, separations-held, entry, spans-of, given, Serve-asks, window-of, levels, store, Separate-asks, Stack-asks, Starts-are, Next-asks, Position-asks, taken, Place-asks, Placement-is};
+ghost use Rattle.solver.specs.Arrays.{bias, entry, low-in, high-in, span-at, window-at, given, window-of, levels, Stack-asks, Serve-asks, Separate-asks, store, taken, Starts-are, Next-asks, Position-asks, Place-asks, Placement-is};
 
-const SEPARATIONS: usize = Stack::MAX_SEPARATION + 1;
+// The two rows of a channel's limits.
+pub const LOW: usize = 0;
 
-const CHANNELS: usize = Stack::MAX_CHANNELS;
+pub const HIGH: usize = 1;
 
-const STRIPS: usize = Stack::MAX_CHANNELS + 1;
+// The two rows of a strip's spans, and the two ends of a window.
+pub const FROM: usize = 0;
 
-const TOTALS: usize = Stack::MAX_TOTAL + 1;
+pub const UPTO: usize = 1;
 
 // A span of positions: from ≤ x < upto.
 struct Span {
@@ -27,21 +30,28 @@ struct Span {
     upto: u64,
 }
 
+// What is to be placed: so many channels, with this total; the sum of the last separations above channel 0.
+pub struct Goal {
+    pub k: usize,
+    pub total: usize,
+    pub above: usize,
+}
+
 // A placement: its total, its separations from channel 1 up, its positions from strip 0 up; zeros in unused places.
 pub struct Placement {
     pub total: Tracks,
-    pub separations: [Tracks; CHANNELS],
-    pub positions: [Columns; STRIPS],
+    pub separations: [Tracks; Stack::MAX_CHANNELS],
+    pub positions: [Columns; Stack::STRIPS],
 }
 
 // The least separation whose limit is open, or one past the last.
-pub fn least_open(low: &[u64; SEPARATIONS], high: &[u64; SEPARATIONS], last: usize) -> usize
+pub fn least_open(limits: &[[u64; Stack::SEPARATIONS]; 2], last: usize) -> usize
     requires { ⌜ last < separations-held ⌝ }
-    ensures { λ r. ⌜ r ≡ first-open (entry (now (low .entry))) (entry (now (high .entry))) last ⌝ }
+    ensures { λ r. ⌜ r ≡ first-open (low-in (now (limits .entry))) (high-in (now (limits .entry))) last ⌝ }
 {
     let mut q = 0;
     while q <= last {
-        if low[q] <= high[q] {
+        if limits[LOW][q] <= limits[HIGH][q] {
             return q;
         }
         q += 1;
@@ -70,23 +80,27 @@ fn forward(s: Span, low: u64, high: u64, from: u64, upto: u64) -> Span
 
 // The least separation of a channel that serves with total v, for the strip below in s; one past the last of use if none does.
 fn serving(
-    low: &[u64; SEPARATIONS],
-    high: &[u64; SEPARATIONS],
-    froms: &[u64; TOTALS],
-    uptos: &[u64; TOTALS],
+    limits: &[[u64; Stack::SEPARATIONS]; 2],
+    spans: &[[u64; Stack::TOTALS]; 2],
     last: usize,
     above: usize,
     s: Span,
     v: usize,
 ) -> usize
-    requires { ⌜ Serve-asks (now low) (now high) last above (s .from) (s .upto) ⌝ }
-    ensures { λ r. ⌜ r ≡ first-serving bias (entry (now (low .entry))) (entry (now (high .entry))) (first-open (entry (now (low .entry))) (entry (now (high .entry))) last) last above (spans-of (now (froms .entry)) (now (uptos .entry))) (span (s .from) (s .upto)) v ⌝ }
+    requires { ⌜ Serve-asks (now limits) last above (s .from) (s .upto) ⌝ }
+    ensures { λ r. ⌜ r ≡ first-serving bias (low-in (now (limits .entry))) (high-in (now (limits .entry))) (first-open (low-in (now (limits .entry))) (high-in (now (limits .entry))) last) last above (span-at (now (spans .entry))) (span (s .from) (s .upto)) v ⌝ }
 {
     let end = stop(last, v);
-    let mut q = least_open(low, high, last);
+    let mut q = least_open(limits, last);
     while q < end {
         let u = lesser((v - q) as u64, above as u64) as usize;
-        let t = forward(s, low[q], high[q], froms[u], uptos[u]);
+        let t = forward(
+            s,
+            limits[LOW][q],
+            limits[HIGH][q],
+            spans[FROM][u],
+            spans[UPTO][u],
+        );
         if t.from < t.upto {
             return q;
         }
@@ -95,65 +109,56 @@ fn serving(
     q
 }
 
-// The positions in the window (from, upto) of the strip above, for the strip below in s and separation q.
+// The positions in the window of the strip above, for the strip below in s and separation q.
 fn pass_on(
-    low: &[u64; SEPARATIONS],
-    high: &[u64; SEPARATIONS],
+    limits: &[[u64; Stack::SEPARATIONS]; 2],
     last: usize,
     q: usize,
     s: Span,
-    from: u64,
-    upto: u64,
+    window: &[u64; 2],
 ) -> Span
-    requires { ⌜ Serve-asks (now low) (now high) last 0 (s .from) (s .upto) ⌝ }
-    ensures { λ r. ⌜ span (r .from) (r .upto) ≡ cut (span from upto) (shift-on bias (entry (now (low .entry)) (min q last)) (entry (now (high .entry)) (min q last)) (span (s .from) (s .upto))) ⌝ }
+    requires { ⌜ Serve-asks (now limits) last 0 (s .from) (s .upto) ⌝ }
+    ensures { λ r. ⌜ span (r .from) (r .upto) ≡ cut (window-at (now (window .entry))) (shift-on bias (low-in (now (limits .entry)) (min q last)) (high-in (now (limits .entry)) (min q last)) (span (s .from) (s .upto))) ⌝ }
 {
     let p = lesser(q as u64, last as u64) as usize;
-    forward(s, low[p], high[p], from, upto)
+    forward(
+        s,
+        limits[LOW][p],
+        limits[HIGH][p],
+        window[FROM],
+        window[UPTO],
+    )
 }
 
-// The separations for a total, channel 1 first, from the tables of spans; zeros in unused places.
+// The separations for a total, channel 1 first, from the table of spans; zeros in unused places.
 fn separations_for(
-    low: &[[u64; SEPARATIONS]; CHANNELS],
-    high: &[[u64; SEPARATIONS]; CHANNELS],
-    counts: &[usize; CHANNELS],
-    from: &[u64; STRIPS],
-    upto: &[u64; STRIPS],
-    k: usize,
-    total: usize,
-    first: usize,
-    froms: &[[u64; TOTALS]; STRIPS],
-    uptos: &[[u64; TOTALS]; STRIPS],
-) -> [Tracks; CHANNELS]
-    requires { ⌜ Separate-asks (given (now low) (now high) (now counts) (now from) (now upto)) k total first (now froms) (now uptos) ⌝ }
-    ensures { λ r. ⌜ tracks-of r ≡ store (replicate channels-held 0) 0 (separations bias (window-of (given (now (low .entry)) (now (high .entry)) (now (counts .entry)) (now (from .entry)) (now (upto .entry))) 0) (levels (given (now (low .entry)) (now (high .entry)) (now (counts .entry)) (now (from .entry)) (now (upto .entry))) 0 k) total) ⌝ }
+    limits: &[[[u64; Stack::SEPARATIONS]; 2]; Stack::MAX_CHANNELS],
+    lasts: &[usize; Stack::MAX_CHANNELS],
+    windows: &[[u64; 2]; Stack::STRIPS],
+    goal: Goal,
+    table: &[[[u64; Stack::TOTALS]; 2]; Stack::STRIPS],
+) -> [Tracks; Stack::MAX_CHANNELS]
+    requires { ⌜ Separate-asks (given (now limits) (now lasts) (now windows)) (goal .k) (goal .total) (goal .above) (now table) ⌝ }
+    ensures { λ r. ⌜ tracks-of r ≡ store (replicate channels-held 0) 0 (separations bias (window-of (given (now (limits .entry)) (now (lasts .entry)) (now (windows .entry))) 0) (levels (given (now (limits .entry)) (now (lasts .entry)) (now (windows .entry))) 0 (goal .k)) (goal .total)) ⌝ }
 {
-    let mut ts = [Tracks(0); CHANNELS];
+    let k = goal.k;
+    let mut ts = [Tracks(0); Stack::MAX_CHANNELS];
     let mut s = Span {
-        from: from[0],
-        upto: upto[0],
+        from: windows[0][FROM],
+        upto: windows[0][UPTO],
     };
-    let mut v = total;
-    let mut above = first;
+    let mut v = goal.total;
+    let mut above = goal.above;
     let mut i = 0;
     while i + 1 < k {
-        let last = counts[i];
-        let q = serving(
-            &low[i],
-            &high[i],
-            &froms[i + 1],
-            &uptos[i + 1],
-            last,
-            above,
-            s,
-            v,
-        );
+        let last = lasts[i];
+        let q = serving(&limits[i], &table[i + 1], last, above, s, v);
         ts[i] = Tracks(q as u32);
-        let t = pass_on(&low[i], &high[i], last, q, s, from[i + 1], upto[i + 1]);
+        let t = pass_on(&limits[i], last, q, s, &windows[i + 1]);
         s = t;
         v = difference(v as u64, q as u64) as usize;
         i += 1;
-        above -= counts[i];
+        above -= lasts[i];
     }
     ts[i] = Tracks(v as u32);
     ts
@@ -170,47 +175,49 @@ fn backward(s: Span, low: u64, high: u64, from: u64, upto: u64) -> Span
     }
 }
 
-// The positions in the window (from, upto) of the strip below, for the strip above in s and separation q.
+// The positions in the window of the strip below, for the strip above in s and separation q.
 fn pull_back(
-    low: &[u64; SEPARATIONS],
-    high: &[u64; SEPARATIONS],
+    limits: &[[u64; Stack::SEPARATIONS]; 2],
     last: usize,
     q: u32,
     s: Span,
-    from: u64,
-    upto: u64,
+    window: &[u64; 2],
 ) -> Span
     requires { ⌜ (last < separations-held) × (s .from ≤ strips-held * bias) × (s .upto ≤ bias) ⌝ }
-    ensures { λ r. ⌜ span (r .from) (r .upto) ≡ cut (span from upto) (shift-back bias (entry (now (low .entry)) (min q last)) (entry (now (high .entry)) (min q last)) (span (s .from) (s .upto))) ⌝ }
+    ensures { λ r. ⌜ span (r .from) (r .upto) ≡ cut (window-at (now (window .entry))) (shift-back bias (low-in (now (limits .entry)) (min q last)) (high-in (now (limits .entry)) (min q last)) (span (s .from) (s .upto))) ⌝ }
 {
     let p = lesser(q as u64, last as u64) as usize;
-    backward(s, low[p], high[p], from, upto)
+    backward(
+        s,
+        limits[LOW][p],
+        limits[HIGH][p],
+        window[FROM],
+        window[UPTO],
+    )
 }
 
 // The first position of each strip from which the strips above can be placed with these separations.
 fn starts_for(
-    low: &[[u64; SEPARATIONS]; CHANNELS],
-    high: &[[u64; SEPARATIONS]; CHANNELS],
-    counts: &[usize; CHANNELS],
-    from: &[u64; STRIPS],
-    upto: &[u64; STRIPS],
+    limits: &[[[u64; Stack::SEPARATIONS]; 2]; Stack::MAX_CHANNELS],
+    lasts: &[usize; Stack::MAX_CHANNELS],
+    windows: &[[u64; 2]; Stack::STRIPS],
     k: usize,
-    ts: [Tracks; CHANNELS],
-) -> [u64; STRIPS]
-    requires { ⌜ Stack-asks (given (now low) (now high) (now counts) (now from) (now upto)) k ⌝ }
-    ensures { λ r. ⌜ Starts-are (given (now (low .entry)) (now (high .entry)) (now (counts .entry)) (now (from .entry)) (now (upto .entry))) k (tracks-of ts) 0 r ⌝ }
+    ts: [Tracks; Stack::MAX_CHANNELS],
+) -> [u64; Stack::STRIPS]
+    requires { ⌜ Stack-asks (given (now limits) (now lasts) (now windows)) k ⌝ }
+    ensures { λ r. ⌜ Starts-are (given (now (limits .entry)) (now (lasts .entry)) (now (windows .entry))) k (tracks-of ts) 0 r ⌝ }
 {
     let mut s = Span {
-        from: from[k],
-        upto: upto[k],
+        from: windows[k][FROM],
+        upto: windows[k][UPTO],
     };
-    let mut starts = [0u64; STRIPS];
+    let mut starts = [0u64; Stack::STRIPS];
     starts[k] = s.from;
     let mut i = k;
     while 0 < i {
         i -= 1;
         let Tracks(q) = ts[i];
-        let t = pull_back(&low[i], &high[i], counts[i], q, s, from[i], upto[i]);
+        let t = pull_back(&limits[i], lasts[i], q, s, &windows[i]);
         s = t;
         starts[i] = s.from;
     }
@@ -218,7 +225,7 @@ fn starts_for(
 }
 
 // The position of the strip above, as far left as start and the strip below at x allow.
-fn next(low: &[u64; SEPARATIONS], last: usize, q: u32, x: u64, start: u64) -> u64
+fn next(low: &[u64; Stack::SEPARATIONS], last: usize, q: u32, x: u64, start: u64) -> u64
     requires { ⌜ Next-asks (now low) last x ⌝ }
     ensures { λ r. ⌜ r ≡ max start (x + entry (now (low .entry)) (min q last) - bias) ⌝ }
 {
@@ -228,51 +235,44 @@ fn next(low: &[u64; SEPARATIONS], last: usize, q: u32, x: u64, start: u64) -> u6
 
 // The positions for separations that can be had, bottom strip first, each as far left as can be; zeros in unused places.
 fn positions_for(
-    low: &[[u64; SEPARATIONS]; CHANNELS],
-    high: &[[u64; SEPARATIONS]; CHANNELS],
-    counts: &[usize; CHANNELS],
-    from: &[u64; STRIPS],
-    upto: &[u64; STRIPS],
+    limits: &[[[u64; Stack::SEPARATIONS]; 2]; Stack::MAX_CHANNELS],
+    lasts: &[usize; Stack::MAX_CHANNELS],
+    windows: &[[u64; 2]; Stack::STRIPS],
     k: usize,
-    ts: [Tracks; CHANNELS],
-) -> [Columns; STRIPS]
-    requires { ⌜ Position-asks (given (now low) (now high) (now counts) (now from) (now upto)) k (tracks-of ts) ⌝ }
-    ensures { λ r. ⌜ columns-of r ≡ store (replicate strips-held 0) 0 (positions bias (window-of (given (now (low .entry)) (now (high .entry)) (now (counts .entry)) (now (from .entry)) (now (upto .entry))) 0) (levels (given (now (low .entry)) (now (high .entry)) (now (counts .entry)) (now (from .entry)) (now (upto .entry))) 0 k) (taken (tracks-of ts) 0 k)) ⌝ }
+    ts: [Tracks; Stack::MAX_CHANNELS],
+) -> [Columns; Stack::STRIPS]
+    requires { ⌜ Position-asks (given (now limits) (now lasts) (now windows)) k (tracks-of ts) ⌝ }
+    ensures { λ r. ⌜ columns-of r ≡ store (replicate strips-held 0) 0 (positions bias (window-of (given (now (limits .entry)) (now (lasts .entry)) (now (windows .entry))) 0) (levels (given (now (limits .entry)) (now (lasts .entry)) (now (windows .entry))) 0 k) (taken (tracks-of ts) 0 k)) ⌝ }
 {
-    let starts = starts_for(low, high, counts, from, upto, k, ts);
-    let mut xs = [Columns(0); STRIPS];
+    let starts = starts_for(limits, lasts, windows, k, ts);
+    let mut xs = [Columns(0); Stack::STRIPS];
     let mut x = starts[0];
     xs[0] = Columns(x as u32);
     let mut i = 0;
     while i < k {
         let Tracks(q) = ts[i];
-        x = next(&low[i], counts[i], q, x, starts[i + 1]);
+        x = next(&limits[i][LOW], lasts[i], q, x, starts[i + 1]);
         i += 1;
         xs[i] = Columns(x as u32);
     }
     xs
 }
 
-// The placement for a total that can be had, from the tables of spans.
+// The placement for a total that can be had, from the table of spans.
 pub fn place_in(
-    low: &[[u64; SEPARATIONS]; CHANNELS],
-    high: &[[u64; SEPARATIONS]; CHANNELS],
-    counts: &[usize; CHANNELS],
-    from: &[u64; STRIPS],
-    upto: &[u64; STRIPS],
-    k: usize,
-    total: usize,
-    above: usize,
-    froms: &[[u64; TOTALS]; STRIPS],
-    uptos: &[[u64; TOTALS]; STRIPS],
+    limits: &[[[u64; Stack::SEPARATIONS]; 2]; Stack::MAX_CHANNELS],
+    lasts: &[usize; Stack::MAX_CHANNELS],
+    windows: &[[u64; 2]; Stack::STRIPS],
+    goal: Goal,
+    table: &[[[u64; Stack::TOTALS]; 2]; Stack::STRIPS],
 ) -> Placement
-    requires { ⌜ Place-asks (given (now low) (now high) (now counts) (now from) (now upto)) k total × Separate-asks (given (now low) (now high) (now counts) (now from) (now upto)) k total above (now froms) (now uptos) ⌝ }
-    ensures { λ r. ⌜ Placement-is (given (now (low .entry)) (now (high .entry)) (now (counts .entry)) (now (from .entry)) (now (upto .entry))) k total r ⌝ }
+    requires { ⌜ Place-asks (given (now limits) (now lasts) (now windows)) (goal .k) (goal .total) × Separate-asks (given (now limits) (now lasts) (now windows)) (goal .k) (goal .total) (goal .above) (now table) ⌝ }
+    ensures { λ r. ⌜ Placement-is (given (now (limits .entry)) (now (lasts .entry)) (now (windows .entry))) (goal .k) (goal .total) r ⌝ }
 {
-    let ts = separations_for(low, high, counts, from, upto, k, total, above, froms, uptos);
-    let xs = positions_for(low, high, counts, from, upto, k, ts);
+    let ts = separations_for(limits, lasts, windows, goal, table);
+    let xs = positions_for(limits, lasts, windows, goal.k, ts);
     Placement {
-        total: Tracks(total as u32),
+        total: Tracks(goal.total as u32),
         separations: ts,
         positions: xs,
     }

@@ -265,6 +265,12 @@ impl Stack {
     pub const MAX_SEPARATION: usize = Terminals::MAX_PAIRS;
 
     pub const MAX_TOTAL: usize = Stack::MAX_CHANNELS * Stack::MAX_SEPARATION;
+    // The sizes of arrays with a place for each strip, each separation from 0 and each total from 0.
+    pub const STRIPS: usize = Stack::MAX_CHANNELS + 1;
+
+    pub const SEPARATIONS: usize = Stack::MAX_SEPARATION + 1;
+
+    pub const TOTALS: usize = Stack::MAX_TOTAL + 1;
     // Added to offsets and limits, so that none is negative: more than any position and terminal together.
     pub const BIAS: u64 = 8_589_934_592;
 

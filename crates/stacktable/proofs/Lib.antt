@@ -1,3 +1,2 @@
--- The laws of the arguments, and of what is printed.
-pub mod Arguments
-pub mod Printing
+-- The laws of the status that is passed on.
+pub mod Passing

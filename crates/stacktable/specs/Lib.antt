@@ -1,3 +1,2 @@
--- What the arguments stand for, and what is printed.
-pub mod Words
-pub mod Output
+-- How the status is passed on.
+pub mod Status

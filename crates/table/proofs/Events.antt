@@ -11,61 +11,62 @@ use Rattle.stack.specs.Value.{no-terminals, stack-of}
 use Rattle.stack.specs.declared.Stack.{Stack as Stack-struct}
 use Rattle.stack.proofs.Values.{channel-length}
 use Rattle.stack.proofs.Within.{stack-channels, stack-channel, few-channels, few-pairs}
-use Rattle.scan.specs.Scan.{sums, Scan-is, Counts-ask}
+use Rattle.solver.specs.Arrays.{given}
+use Rattle.scan.specs.Scan.{sums, Scan-is, Lasts-ask}
 use Rattle.scan.specs.declared.Scan.{Scan}
 use Rattle.scan.proofs.Sums.{most-sums}
 use Rattle.answer.specs.Solve.{answer-total}
 use Rattle.rows.specs.Walk.{widest}
-use Rattle.rows.specs.Evaluate.{arrays, Held, Evaluated, Place-row-asks}
+use Rattle.rows.specs.Evaluate.{Held, Evaluated, Place-row-asks}
 use Rattle.rows.proofs.Settled.{widest-small, longest-widest}
 use Rattle.rows.proofs.Steps.{scan-passes, scan-stays, scan-whole, scan-most}
 use Rattle.rows.proofs.Evaluating.{held-stands, cap-used, found-total}
 use Rattle.table.specs.Walking.{Holding}
 
-module _ (k : Stack-struct) (s cap : ℕ) (lows highs : List (List ℕ)) (counts uptos : List ℕ) (froms ends : List (List ℕ)) (r : Scan) (fits : s < 4294967296) (wide : longest (stack-of k .strips) ≤ s)
-    (held : Held k lows highs counts) (e : Evaluated k s cap lows highs counts uptos froms ends r) where
-  scanned : Scan-is (arrays lows highs counts uptos) (length (stack-of k .channels)) cap froms ends r
+module _ (k : Stack-struct) (s cap : ℕ) (limits : List (List (List ℕ))) (lasts : List ℕ) (windows : List (List ℕ)) (t : List (List (List ℕ))) (r : Scan) (fits : s < 4294967296) (wide : longest (stack-of k .strips) ≤ s)
+    (held : Held k limits lasts) (e : Evaluated k s cap limits lasts windows t r) where
+  scanned : Scan-is (given limits lasts windows) (length (stack-of k .channels)) cap t r
   scanned = rw (stack-channels k) (e .scanned)
 
   -- the arrays are held on
-  pub holds-on : Holding k lows highs counts uptos froms ends
-  holds-on = record { held = held; sized-windows = e .windows .sized; sized-froms = e .scanned .table .sized-froms; sized-ends = e .scanned .table .sized-uptos }
+  pub holds-on : Holding k limits lasts windows t
+  holds-on = record { held = held; sized-windows = e .spread-windows .sized; sized = e .scanned .table .sized }
 
   -- until the jump is reached the total stays
   pub event-stays : answer-total (stack-of k) s ≡ r .total → (d : ℕ) → d < r .jump → s + d ≤ widest (stack-of k) → r .total ≤ answer-total (stack-of k) (s + d)
-  event-stays t d j w = go (r .total) refl
+  event-stays e₀ d j w = go (r .total) refl
     where
       go : (n : ℕ) → r .total ≡ n → n ≤ answer-total (stack-of k) (s + d)
       go zero z = omega arith
       go (suc v) z =
-          omega (arith, scan-stays (stack-of k) s (arrays lows highs counts uptos) (held-stands k s lows highs counts uptos fits wide held (e .windows)) fits wide cap froms ends r scanned v (t ∙ z) z d j (omega (arith, widest-small (stack-of k) (held .good))))
+          omega (arith, scan-stays (stack-of k) s (given limits lasts windows) (held-stands k s limits lasts windows fits wide held (e .spread-windows)) fits wide cap t r scanned v (e₀ ∙ z) z d j (omega (arith, widest-small (stack-of k) (held .good))))
 
-  pub event-least : cap ≤ sums counts 0 (k .count) → r .total ≤ cap → r .total ≡ answer-total (stack-of k) s
-  event-least c f = found-total k s lows highs counts uptos fits wide held (e .windows) cap froms ends r c (e .scanned) f
+  pub event-least : cap ≤ sums lasts 0 (k .count) → r .total ≤ cap → r .total ≡ answer-total (stack-of k) s
+  event-least c f = found-total k s limits lasts windows fits wide held (e .spread-windows) cap t r c (e .scanned) f
 
-  pub event-whole : cap ≡ sums counts 0 (k .count) → r .total ≤ cap
+  pub event-whole : cap ≡ sums lasts 0 (k .count) → r .total ≤ cap
   event-whole c =
-      scan-whole (stack-of k) s (arrays lows highs counts uptos) (held-stands k s lows highs counts uptos fits wide held (e .windows)) fits wide cap froms ends r scanned
-      (c ∙ rw (stack-channels k) (sym (most-sums (arrays lows highs counts uptos) 0 (k .count))))
+      scan-whole (stack-of k) s (given limits lasts windows) (held-stands k s limits lasts windows fits wide held (e .spread-windows)) fits wide cap t r scanned
+      (c ∙ rw (stack-channels k) (sym (most-sums (given limits lasts windows) 0 (k .count))))
 
   -- no total up to the cap: the total before stays
-  pub event-passed : (before : ℕ) → cap ≤ sums counts 0 (k .count) → before ≡ suc cap → answer-total (stack-of k) s ≤ before → cap < r .total → (answer-total (stack-of k) s ≡ before) × (r .total ≡ before)
+  pub event-passed : (before : ℕ) → cap ≤ sums lasts 0 (k .count) → before ≡ suc cap → answer-total (stack-of k) s ≤ before → cap < r .total → (answer-total (stack-of k) s ≡ before) × (r .total ≡ before)
   event-passed before c b h l =
-      let st = held-stands k s lows highs counts uptos fits wide held (e .windows) in
-      let g = arrays lows highs counts uptos in
-      let over = scan-passes (stack-of k) s g st fits wide cap froms ends r scanned (rw (stack-channels k) (cap-used k s lows highs counts uptos fits wide held (e .windows) cap c)) l in
-      let most = scan-most (stack-of k) s g st fits wide cap froms ends r scanned in
+      let st = held-stands k s limits lasts windows fits wide held (e .spread-windows) in
+      let g = given limits lasts windows in
+      let over = scan-passes (stack-of k) s g st fits wide cap t r scanned (rw (stack-channels k) (cap-used k s limits lasts windows fits wide held (e .spread-windows) cap c)) l in
+      let most = scan-most (stack-of k) s g st fits wide cap t r scanned in
       (omega arith, omega arith)
 
-  pub event-place-asks : cap ≤ sums counts 0 (k .count) → r .total ≤ cap → Place-row-asks k s lows highs counts uptos froms ends r
+  pub event-place-asks : cap ≤ sums lasts 0 (k .count) → r .total ≤ cap → Place-row-asks k s limits lasts windows t r
   event-place-asks c f = record { held = held; wide = wide; cap = cap; capped = c; found = f; evaluated = e }
 
--- counts within the arrays
-pub held-counts : (k : Stack-struct) (lows highs : List (List ℕ)) (counts : List ℕ) → Held k lows highs counts → Counts-ask counts (k .count)
-held-counts k lows highs counts h =
+-- last separations within the arrays
+pub held-lasts : (k : Stack-struct) (limits : List (List (List ℕ))) (lasts : List ℕ) → Held k limits lasts → Lasts-ask lasts (k .count)
+held-lasts k limits lasts h =
     record {
       channels = few-channels k (h .good);
-      listed = λ i l. omega (arith, h .limits .counts-are i l, ap length (stack-channel k i l), channel-length (getD (k .channels) i no-terminals), few-pairs k (h .good) i l);
+      listed = λ i l. omega (arith, h .filled .lasts-are i l, ap length (stack-channel k i l), channel-length (getD (k .channels) i no-terminals), few-pairs k (h .good) i l);
     }
 
 -- a spread up to the sum of the lengths is small
@@ -76,7 +77,3 @@ spread-fits k s e h = omega (arith, longest-widest k, widest-small k e)
 pub sum-widest : (k : Stack-struct) (w : ℕ) → w ≡ sum (stack-of k .strips) → widest (stack-of k) ≡ w
 unfolding widest
 sum-widest k w h = sym h
-
-pub inside-sum : (k : Stack-struct) (w : ℕ) → within-limits (stack-of k) ≡ true → w ≡ sum (stack-of k .strips) → w ≤ 9000
-unfolding widest
-inside-sum k w e h = omega (arith, widest-small (stack-of k) e)

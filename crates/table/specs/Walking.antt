@@ -6,7 +6,8 @@ use lib.ListN.{length}
 use Rattle.stack.specs.Stack.{Stack, longest}
 use Rattle.stack.specs.Value.{stack-of}
 use Rattle.stack.specs.declared.Stack.{Stack as Stack-struct}
-use Rattle.solver.specs.Arrays.{strips-held, Sized}
+use Rattle.stack.specs.Sizes.{strips-held}
+use Rattle.solver.specs.Arrays.{Sized}
 use Rattle.scan.specs.Scan.{sums}
 use Rattle.answer.specs.Solve.{answer-total}
 use Rattle.rows.specs.Walk.{rows-walk, widest, rows-of}
@@ -28,24 +29,22 @@ pub record Walking (k : Stack) (out : List ℕ) (w : Walk) : Type 0 where
   pub written : Written text out out
 
 -- the arrays that are held from spread to spread
-pub record Holding (k : Stack-struct) (lows highs : List (List ℕ)) (counts uptos : List ℕ) (froms ends : List (List ℕ)) : Type 0 where
-  pub held : Held k lows highs counts
-  pub sized-windows : length uptos ≡ strips-held
-  pub sized-froms : Sized froms
-  pub sized-ends : Sized ends
+pub record Holding (k : Stack-struct) (limits : List (List (List ℕ))) (lasts : List ℕ) (windows : List (List ℕ)) (t : List (List (List ℕ))) : Type 0 where
+  pub held : Held k limits lasts
+  pub sized-windows : length windows ≡ strips-held
+  pub sized : Sized t
 
--- the walk with the arrays it is made in; no total is more than all pairs
-pub record Stepping (k : Stack-struct) (lows highs : List (List ℕ)) (counts uptos : List ℕ) (froms ends : List (List ℕ)) (out : List ℕ) (w : Walk) : Type 0 where
-  pub holding : Holding k lows highs counts uptos froms ends
+-- the walk with the arrays it is made in; no total is more than all last separations
+pub record Stepping (k : Stack-struct) (limits : List (List (List ℕ))) (lasts : List ℕ) (windows : List (List ℕ)) (t : List (List (List ℕ))) (out : List ℕ) (w : Walk) : Type 0 where
+  pub holding : Holding k limits lasts windows t
   pub walking : Walking (stack-of k) out w
-  pub capped : w .total ≤ sums counts 0 (k .count)
+  pub capped : w .total ≤ sums lasts 0 (k .count)
 
 -- the next event lies within the sum of the lengths
-pub record Step-asks (k : Stack-struct) (w : Walk) (next : ℕ) (lows highs : List (List ℕ)) (counts uptos : List ℕ) (froms ends : List (List ℕ)) (out : List ℕ) : Type 0 where
-  pub here : Stepping k lows highs counts uptos froms ends out w
+pub record Step-asks (k : Stack-struct) (w : Walk) (limits : List (List (List ℕ))) (lasts : List ℕ) (windows : List (List ℕ)) (t : List (List (List ℕ))) (out : List ℕ) : Type 0 where
+  pub here : Stepping k limits lasts windows t out w
   pub some : 0 < w .total
-  pub jumped : next ≡ w .spread + w .jump
-  pub inside : next ≤ widest (stack-of k)
+  pub inside : w .spread + w .jump ≤ widest (stack-of k)
 
 -- THE TABLE: its whole length, for which a stated number of bytes is enough, and its text if there is space for it
 pub record Table-put (k : Stack) (out : List ℕ) (r : ℕ) : Type 0 where

@@ -1,10 +1,9 @@
--- The laws of lines, fields and numbers that proofs of this crate and of the layers above cite.
-pub mod Cutting
-pub mod Digits
-pub mod Fields
+-- The laws of refusals and of readings that proofs of this crate and of the layers above cite.
+pub mod Refusals
+pub mod Layouts
 pub mod Singles
 pub mod Nets
 pub mod Within
-pub mod Places
 pub mod Stages
+pub mod Places
 pub mod Whole

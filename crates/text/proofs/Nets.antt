@@ -7,11 +7,14 @@ use Prim.Native.Nat.{ℕ, zero, suc, _+_, _*_, _-_, _/_, _%_, _≤_, _<_}
 use native.Mathlib.Numerals.{add-one}
 use native.Mathlib.Omega.{arith}
 use lib.Dec.{ltb, leb, eqb}
-use lib.ListN.{length, getD, drop, length-append}
+use lib.ListN.{length, getD, length-append}
 use lib.Seq.{ext-getD, getD-append-seam}
-use borrow.Author.Tests.{leb-false, lt-ltb, le-ltb, ltb-true, ltb-false, le-leb, lt-leb, eq-eqb, ne-eqb}
-use Rattle.numbers.proofs.Bools.{ands}
+use borrow.Author.Tests.{leb-false, lt-ltb, le-ltb, ltb-true, ltb-false, eqb-true, le-leb, lt-leb, ne-eqb}
 use Rattle.numbers.proofs.Lists.{getD-tabulate}
+use Rattle.lines.specs.Lines.{Line, number-fields, numbers-of}
+use Rattle.lines.specs.Numbers.{in-places, Line-read}
+use Rattle.lines.specs.declared.LineRead.{LineRead}
+use Rattle.lines.proofs.Fields.{getD-in-places, numbers-count}
 use Rattle.stack.specs.Stack.{Pair, pair, p-at, q-at}
 use Rattle.stack.specs.Value.{channel-of}
 use Rattle.stack.specs.Made.{not-above, pair-found, or-fault, pairs-found, terminals-found, kept, pairs-in, Terminals-made}
@@ -20,15 +23,13 @@ use Rattle.stack.specs.declared.Terminals.{Terminals}
 use Rattle.stack.specs.declared.TerminalsFound.{TerminalsFound}
 use Rattle.stack.specs.declared.TerminalsFound.the-variants.{Good, Crowd, Overhang, Crossing}
 use Rattle.stack.specs.declared.TerminalsMade.{TerminalsMade}
-use Rattle.text.specs.Text.{Refusal, refusal, Line, fields, all-numbers, values, nets-word, numbers-of, shape, terminals-refusal, pairs-of}
-use Rattle.text.specs.Outcome.{refusal-of, refused}
-use Rattle.text.specs.Numbers.{in-places, worded, Line-read}
-use Rattle.text.specs.Kinds.{place, found-refusal, channel-refusal, Nets-read}
+use Rattle.text.specs.Text.{Refusal, refusal, nets-word, kind, in-pairs, nets-kind, entry, fault-at, terminals-refusal, nets-content, pairs-of}
+use Rattle.text.specs.Outcome.{refusal-of, is-accepted, refused}
+use Rattle.text.specs.Kinds.{layout-found, place, found-refusal, nets-refusal, Nets-read}
 use Rattle.text.specs.declared.Refusal.the-variants as why
-use Rattle.text.specs.declared.Numbers.{Numbers}
 use Rattle.text.specs.declared.Outcome.{Outcome}
-use Rattle.text.proofs.Fields.{getD-in-places, numbers-are, shape-by}
-use Rattle.text.proofs.Singles.{not-fine}
+use Rattle.text.proofs.Refusals.{refused-number}
+use Rattle.text.proofs.Layouts.{layout-refused, layout-then, good-count, numbers-kept}
 
 -- THE PLACE of a fault is below 64
 module _ (c : List Pair) (lo hi p q : ℕ) where
@@ -75,15 +76,15 @@ pub place-crossing : (f : TerminalsFound) (n : ℕ) → f ≡ Crossing n → pla
 place-crossing f n e h = rw e at h
 
 -- A REFUSAL at the fault
-module _ (i : ℕ) (f : TerminalsFound) (o : Outcome) where
-  pub told-crowd : f ≡ Crowd → o ≡ refused why.Crowd (i + 1) 66 → refusal-of o ≡ found-refusal i f
-  told-crowd e h = rw (e, h, add-one i)
+module _ (n : ℕ) (f : TerminalsFound) (o : Outcome) where
+  pub told-crowd : f ≡ Crowd → o ≡ refused why.Crowd n 66 → refusal-of o ≡ found-refusal n f
+  told-crowd e h = rw (e, h)
 
-  pub told-overhang : (n : ℕ) → f ≡ Overhang n → o ≡ refused why.Overhang (i + 1) (n + 2) → refusal-of o ≡ found-refusal i f
-  told-overhang n e h = rw (e, h, add-one i)
+  pub told-overhang : (i : ℕ) → f ≡ Overhang i → o ≡ refused why.Overhang n (i + 2) → refusal-of o ≡ found-refusal n f
+  told-overhang i e h = rw (e, h)
 
-  pub told-crossing : (n : ℕ) → f ≡ Crossing n → o ≡ refused why.Crossing (i + 1) (n + 2) → refusal-of o ≡ found-refusal i f
-  told-crossing n e h = rw (e, h, add-one i)
+  pub told-crossing : (i : ℕ) → f ≡ Crossing i → o ≡ refused why.Crossing n (i + 2) → refusal-of o ≡ found-refusal n f
+  told-crossing i e h = rw (e, h)
 
 -- THE FIRST FAULT
 some-before : (n : ℕ) → leb 1 n ≡ not (eqb n 0)
@@ -92,13 +93,13 @@ some-before (suc n) = rw (le-leb 1 (suc n) (omega arith), ne-eqb (suc n) 0 (omeg
 
 step-cases : (i n : ℕ) (a b c d : Bool) (f : TerminalsFound) (r : Refusal) → found-refusal i f ≡ r →
     found-refusal i (or-fault (cond a (Overhang (2 * n)) (cond b (Crossing (2 * n)) (cond c (Overhang (2 * n + 1)) (cond d (Crossing (2 * n + 1)) Good)))) f)
-    ≡ cond a (refusal 5 (suc i) (2 * n + 2)) (cond b (refusal 6 (suc i) (2 * n + 2))
-    (cond c (refusal 5 (suc i) (suc (2 * n + 2))) (cond d (refusal 6 (suc i) (suc (2 * n + 2))) r)))
+    ≡ cond a (refusal 5 i (2 * n + 2)) (cond b (refusal 6 i (2 * n + 2))
+    (cond c (refusal 5 i (suc (2 * n + 2))) (cond d (refusal 6 i (suc (2 * n + 2))) r)))
 unfolding or-fault
 step-cases i n true b c d f r e = refl
 step-cases i n false true c d f r e = refl
-step-cases i n false false true d f r e = ap (λ k. refusal 5 (suc i) k) (omega arith)
-step-cases i n false false false true f r e = ap (λ k. refusal 6 (suc i) k) (omega arith)
+step-cases i n false false true d f r e = ap (λ k. refusal 5 i k) (omega arith)
+step-cases i n false false false true f r e = ap (λ k. refusal 6 i k) (omega arith)
 step-cases i n false false false false f r e = e
 
 pair-tests : (c : List Pair) (lo hi p q : ℕ) → length c < 32 →
@@ -130,13 +131,13 @@ behind c x y lo hi n vs =
 
 faults-refused : (i : ℕ) (c : List Pair) (lo hi : ℕ) (vs : List ℕ) → length c + length (pairs-of vs) ≤ 32 →
     found-refusal i (pairs-found c lo hi (pairs-of vs))
-    ≡ terminals-refusal (2 * length c + 2) (eqb (length c) 0) (p-at c (length c - 1)) (q-at c (length c - 1)) lo hi (suc i) vs
+    ≡ terminals-refusal (2 * length c + 2) (eqb (length c) 0) (p-at c (length c - 1)) (q-at c (length c - 1)) lo hi i vs
 unfolding pairs-found pairs-of terminals-refusal pair
 faults-refused i c lo hi [] h = refl
 faults-refused i c lo hi (x ∷ []) h = refl
 faults-refused i c lo hi (x ∷ y ∷ vs) h =
     let d = c ++ (pair x y ∷ []) in
-    let rest = faults-refused i d lo hi vs (omega (arith, length-append c (pair x y ∷ []))) ∙ behind c x y lo hi (suc i) vs in
+    let rest = faults-refused i d lo hi vs (omega (arith, length-append c (pair x y ∷ []))) ∙ behind c x y lo hi i vs in
     let n = length c in
     let left = not (eqb n 0) && leb x (p-at c (n - 1)) in
     let right = not (eqb n 0) && leb y (q-at c (n - 1)) in
@@ -190,71 +191,66 @@ good-few lo hi xs e = go (ltb 32 (length xs)) refl e
     go false h e = ltb-false 32 (length xs) h
 
 -- crowd, then the terminals
-terminals-refused : (i lo hi : ℕ) (vs : List ℕ) → length vs % 2 ≡ 0 →
-    found-refusal i (terminals-found lo hi (pairs-in (in-places 64 vs) (length vs / 2)))
-    ≡ cond (ltb 64 (length vs)) (refusal 3 (suc i) 66) (terminals-refusal 2 true 0 0 lo hi (suc i) vs)
-unfolding terminals-found p-at q-at pair
-terminals-refused i lo hi vs even = go (ltb 64 (length vs)) refl
+terminals-refused : (n lo hi : ℕ) (vs : List ℕ) → length vs % 2 ≡ 0 →
+    found-refusal n (terminals-found lo hi (pairs-in (in-places 64 vs) (length vs / 2))) ≡ nets-content lo hi (entry n 0 vs)
+unfolding terminals-found nets-content entry fault-at p-at q-at pair
+terminals-refused n lo hi vs even = go (ltb 64 (length vs)) refl
   where
     long : length (pairs-in (in-places 64 vs) (length vs / 2)) ≡ length vs / 2
     long = pairs-in-length (in-places 64 vs) (length vs / 2)
 
     go : (v : Bool) → ltb 64 (length vs) ≡ v →
-        found-refusal i (cond (ltb 32 (length (pairs-in (in-places 64 vs) (length vs / 2)))) Crowd (pairs-found [] lo hi (pairs-in (in-places 64 vs) (length vs / 2))))
-        ≡ cond v (refusal 3 (suc i) 66) (terminals-refusal 2 true 0 0 lo hi (suc i) vs)
+        found-refusal n (cond (ltb 32 (length (pairs-in (in-places 64 vs) (length vs / 2)))) Crowd (pairs-found [] lo hi (pairs-in (in-places 64 vs) (length vs / 2))))
+        ≡ cond v (refusal 3 n 66) (terminals-refusal 2 true 0 0 lo hi n vs)
     go true h = rw (long, lt-ltb 32 (length vs / 2) (omega (arith, ltb-true)))
     go false h =
         let few : length vs / 2 ≤ 32 = omega (arith, ltb-false) in
-        rw (long, le-ltb 32 (length vs / 2) few, pairs-in-places vs few) (faults-refused i [] lo hi vs (omega (arith, pairs-length vs)))
+        rw (long, le-ltb 32 (length vs / 2) few, pairs-in-places vs few) (faults-refused n [] lo hi vs (omega (arith, pairs-length vs)))
+
+pairs-even : (n : ℕ) → in-pairs n ≡ 0 → n % 2 ≡ 0
+unfolding in-pairs
+pairs-even n h = go (eqb (n % 2) 0) refl h
+  where
+    go : (v : Bool) → eqb (n % 2) 0 ≡ v → cond v 0 (n + 2) ≡ 0 → n % 2 ≡ 0
+    go true e h = eqb-true (n % 2) 0 e
+    go false e h = absurd (omega arith)
 
 -- THE LINE
-module _ (lo hi i : ℕ) (l : Line) (n : Numbers) (m : Line-read l nets-word n) where
-  pub nets-ill : (o : Outcome) (t : Terminals) → n .good ≡ false → o ≡ refused why.Layout (i + 1) 0 → Nets-read lo hi i l (record { outcome = o; terminals = t })
-  unfolding channel-refusal
-  nets-ill o t h e =
-      let ill : shape l nets-word (λ n. eqb (n % 2) 0) ≡ false = shape-by l nets-word (λ n. eqb (n % 2) 0) ∙ rw (sym (m .good) ∙ h) in
-      let says : channel-refusal lo hi i l ≡ refusal 2 (suc i) 0 = rw ill in
-      record { outcome = rw (e, says, add-one i); pairs = λ z. absurd (not-fine 1 (suc i) 0 (channel-refusal lo hi i l) says z) }
+module _ (lo hi n : ℕ) (l : Line) (r : LineRead) (m : Line-read l nets-word r) (f : ℕ) (e : f ≡ in-pairs (r .count)) (o : Outcome)
+    (t : refusal-of o ≡ layout-found (r .worded) f (r .ill) n) where
+  pub nets-ill : (q : Terminals) → is-accepted o ≡ false → Nets-read lo hi n l (record { outcome = o; terminals = q })
+  unfolding nets-refusal nets-kind kind
+  nets-ill q a = record { outcome = layout-refused nets-kind n l r m f e o t _ a; pairs = λ z. absurd (refused-number o a z) }
 
-  pub nets-odd : (o : Outcome) (t : Terminals) → n .good ≡ true → (n .count % 2 ≡ 0 → ⊥) → o ≡ refused why.Layout (i + 1) 0 →
-      Nets-read lo hi i l (record { outcome = o; terminals = t })
-  unfolding channel-refusal
-  nets-odd o t h d e =
-      let odd : length (numbers-of l) % 2 ≡ 0 → ⊥ = rw (m .count) at d in
-      let ill : shape l nets-word (λ n. eqb (n % 2) 0) ≡ false =
-      shape-by l nets-word (λ n. eqb (n % 2) 0) ∙ rw (sym (m .good) ∙ h, ne-eqb (length (numbers-of l) % 2) 0 odd) in
-      let says : channel-refusal lo hi i l ≡ refusal 2 (suc i) 0 = rw ill in
-      record { outcome = rw (e, says, add-one i); pairs = λ z. absurd (not-fine 1 (suc i) 0 (channel-refusal lo hi i l) says z) }
-
-  module _ (good : n .good ≡ true) (even : n .count % 2 ≡ 0) where
-    kept-numbers : n .values ≡ in-places 64 (numbers-of l)
-    unfolding worded numbers-of
-    kept-numbers =
-        let there : worded l nets-word ≡ true = sym (m .good) ∙ good in
-        let fs = drop 1 (fields (l .bytes)) in
-        let numbers : all-numbers fs ≡ true = search ands in
-        m .values ∙ rw (numbers-are fs numbers)
+  module _ (a : is-accepted o ≡ true) where
+    count-there : r .count ≡ length (numbers-of l)
+    count-there = m .count ∙ sym (numbers-count l)
 
     even-there : length (numbers-of l) % 2 ≡ 0
-    even-there = rw (m .count) at even
+    unfolding nets-kind kind
+    even-there = rw (numbers-count l) (pairs-even (length (number-fields l)) (good-count nets-kind n l r m f e o t a))
 
-    line-refused : channel-refusal lo hi i l ≡ found-refusal i (terminals-found lo hi (pairs-in (n .values) (n .count / 2)))
-    unfolding channel-refusal
+    values-there : r .values ≡ in-places 64 (numbers-of l)
+    unfolding nets-kind kind
+    values-there = numbers-kept nets-kind n l r m f e o t a
+
+    line-refused : nets-refusal lo hi n l ≡ found-refusal n (terminals-found lo hi (pairs-in (r .values) (r .count / 2)))
+    unfolding nets-refusal nets-kind kind
     line-refused =
-        let well : shape l nets-word (λ n. eqb (n % 2) 0) ≡ true =
-        shape-by l nets-word (λ n. eqb (n % 2) 0) ∙ rw (sym (m .good) ∙ good, eq-eqb (length (numbers-of l) % 2) 0 even-there) in
-        rw (well, kept-numbers, m .count) (sym (terminals-refused i lo hi (numbers-of l) even-there))
+        layout-then nets-kind n l r m f e o t a (nets-content lo hi (entry n 0 (numbers-of l)))
+        ∙ rw (values-there, count-there) (sym (terminals-refused n lo hi (numbers-of l) even-there))
 
-    pairs-kept : (r : TerminalsMade) → Terminals-made (n .values) (n .count / 2) lo hi r → r .found ≡ Good → channel-of (r .terminals) ≡ pairs-of (numbers-of l)
+    pairs-kept : (q : TerminalsMade) → Terminals-made (r .values) (r .count / 2) lo hi q → q .found ≡ Good → channel-of (q .terminals) ≡ pairs-of (numbers-of l)
     unfolding kept
-    pairs-kept r t g =
+    pairs-kept q s g =
         let vs = numbers-of l in
-        let found = good-few lo hi (pairs-in (n .values) (n .count / 2)) (sym (t .found) ∙ g) in
-        let few : length vs / 2 ≤ 32 = omega (arith, found, pairs-in-length (n .values) (n .count / 2), m .count) in
-        t .pairs ∙ rw (g, kept-numbers, m .count) (pairs-in-places vs few)
+        let found = good-few lo hi (pairs-in (r .values) (r .count / 2)) (sym (s .found) ∙ g) in
+        let few : length vs / 2 ≤ 32 = omega (arith, found, pairs-in-length (r .values) (r .count / 2), count-there) in
+        s .pairs ∙ rw (g, values-there, count-there) (pairs-in-places vs few)
 
-    pub nets-found : (o : Outcome) (r : TerminalsMade) → Terminals-made (n .values) (n .count / 2) lo hi r → refusal-of o ≡ found-refusal i (r .found) →
-        Nets-read lo hi i l (record { outcome = o; terminals = r .terminals })
-    nets-found o r t e =
-        let says : channel-refusal lo hi i l ≡ found-refusal i (r .found) = line-refused ∙ rw (t .found) in
-        record { outcome = e ∙ sym says; pairs = λ z. pairs-kept r t (good-only i (r .found) (rw says at z)) }
+    pub nets-found : (w : Outcome) (q : TerminalsMade) → Terminals-made (r .values) (r .count / 2) lo hi q → refusal-of w ≡ found-refusal n (q .found) →
+        Nets-read lo hi n l (record { outcome = w; terminals = q .terminals })
+    nets-found w q s v = record {
+      outcome = v ∙ (rw (s .found) (sym line-refused));
+      pairs = λ z. pairs-kept q s (good-only n (q .found) (rw v at z));
+    }

@@ -1,173 +1,158 @@
--- The line that begins at a place, and the place of the next: by the laws that the first line goes up to the first line feed and the other lines are those behind
--- it. Then what reading the first line, or one line of a kind, adds to what has been read. Assumes nothing.
-use mathlib.Core.Path.{_≡_, refl, ap, sym, _∙_}
-use mathlib.Core.Bool.{Bool, true, false}
-use mathlib.Core.List.{List, [], _∷_}
-use Prim.Native.Nat.{ℕ, suc, _+_, _-_, _%_, _≤_, _<_}
+-- What reading the first line, or one line of a kind, adds to what has been read: the refusal of that line, the strip or the channel on it, and the place of the
+-- next line. Assumes nothing.
+use mathlib.Core.Path.{_≡_, refl, sym, _∙_}
+use mathlib.Core.Bool.{true}
+use mathlib.Core.List.{List, []}
+use Prim.Native.Nat.{ℕ, suc, _+_, _-_, _≤_, _<_}
+use native.Mathlib.Nat.{add-zero}
 use native.Mathlib.Numerals.{add-one}
 use native.Mathlib.Omega.{arith}
-use lib.Dec.{ltb, eqb}
-use lib.ListN.{length, getD, take, drop, length-drop}
-use lib.Seq.{drop-drop}
-use borrow.Author.Tests.{leb-true, ltb-true, ltb-false, lt-ltb, le-ltb}
+use lib.ListN.{length, getD, take, drop}
+use lib.Seq.{getD-drop, drop-drop}
+use borrow.Author.Tests.{leb-true}
 use Rattle.numbers.proofs.Bools.{ands}
-use Rattle.numbers.proofs.Lists.{getD-tabulate}
-use Rattle.stack.specs.Stack.{stack}
-use Rattle.stack.specs.Value.{strip, channel-of, length-at, stack-of}
+use Rattle.numbers.proofs.Lists.{getD-tabulate, filled-steps}
+use Rattle.lines.specs.Lines.{Line, line, lines, no-line, line-at, numbers-of}
+use Rattle.lines.specs.Cut.{Line-from, line-from, Next}
+use Rattle.lines.specs.declared.LineEnd.{LineEnd}
+use Rattle.lines.proofs.Places.{line-there, next-there}
+use Rattle.stack.specs.Stack.{Pair, Stack, stack}
+use Rattle.stack.specs.Value.{strip, channel-of, length-at as struct-length, stack-of}
 use Rattle.stack.specs.Made.{bare, Strip-set, Channel-set}
 use Rattle.stack.specs.declared.Stack.{Stack as Stack-struct}
-use Rattle.text.specs.Text.{refusal, fine, Line, line, lines, line-at, shape, nets-word, head-refusal, k-of}
-use Rattle.text.specs.Outcome.{number-of, refusal-of, is-accepted}
-use Rattle.text.specs.Cut.{run}
-use Rattle.text.specs.Kinds.{Head-read, Part-read, channel-refusal, Nets-read}
-use Rattle.text.specs.Driver.{Line-from, line-from, Next, Going, Head-taken, Part-taken, Nets-taken}
-use Rattle.text.specs.declared.Refusal.{Refusal as Why}
-use Rattle.text.specs.declared.Refusal.the-variants.{Overlong, Layout, Crowd, Length, Overhang, Crossing, Narrow, ShortSpace}
+use Rattle.text.specs.Text.{Refusal, fine, part-kind, nets-kind, layout, entry, first-of, supplied, part-content, nets-content, check, k-of, head-refusal, head-check, part-check, length-at, nets-check, pairs-of}
+use Rattle.text.specs.Outcome.{refusal-of}
+use Rattle.text.specs.Kinds.{Head-read, part-refusal, Part-read, nets-refusal, Nets-read}
+use Rattle.text.specs.Driver.{Going, Read-to, line-refusal, Head-taken, Parting, Part-taken, Wiring, Nets-taken}
 use Rattle.text.specs.declared.Outcome.{Outcome}
-use Rattle.text.specs.declared.Outcome.the-variants.{Accepted, Refused}
-use Rattle.text.specs.declared.LineEnd.{LineEnd}
 use Rattle.text.specs.declared.Progress.{Progress}
 use Rattle.text.specs.declared.Reading.{Reading}
 use Rattle.text.specs.declared.PartRead.{PartRead}
 use Rattle.text.specs.declared.NetsRead.{NetsRead}
-use Rattle.text.proofs.Cutting.{run-below, first-line, other-lines}
-use Rattle.text.proofs.Fields.{rest-of}
-use Rattle.text.proofs.Within.{unless-fine, head-says, part-says}
+use Rattle.text.proofs.Refusals.{or-else-fine, number-fine, or-else-none}
+use Rattle.text.proofs.Layouts.{layout-ended}
+use Rattle.text.proofs.Within.{head-says}
 
--- no word has number 0
-word-number : (w : Why) → number-of w ≡ 0 → ⊥
-word-number Overlong h = omega arith
-word-number Layout h = omega arith
-word-number Crowd h = omega arith
-word-number Length h = omega arith
-word-number Overhang h = omega arith
-word-number Crossing h = omega arith
-word-number Narrow h = omega arith
-word-number ShortSpace h = omega arith
+-- STACK
+module _ (bs : List ℕ) (e : LineEnd) (m : Line-from bs 0 e) (r : Reading) (h : Head-read (line (take (e .end - 0) (drop 0 bs)) (e .ended)) r) where
+  here : 0 ≤ length bs
+  here = omega arith
 
-pub refused-number : (o : Outcome) → is-accepted o ≡ false → refusal-of o .number ≡ 0 → ⊥
-unfolding refusal fine
-refused-number Accepted h z = let q : _≡_ {A = ℕ} 0 1 = cc in omega arith
-refused-number (Refused r) h z = word-number (r .why) z
+  head-there : Head-read (line-from bs 0) r
+  head-there = rw (line-there bs 0 e here m) h
 
-pub accepted-fine : (o : Outcome) → is-accepted o ≡ true → refusal-of o ≡ fine
-accepted-fine Accepted h = refl
-accepted-fine (Refused r) h = let q : _≡_ {A = ℕ} 0 1 = cc in absurd (omega arith)
+  head-outcome : refusal-of (r .outcome) ≡ head-refusal (lines bs)
+  unfolding head-refusal k-of line-at
+  head-outcome = head-there .outcome
 
-number-fine : (o : Outcome) → refusal-of o .number ≡ 0 → refusal-of o ≡ fine
-unfolding refusal fine
-number-fine Accepted z = refl
-number-fine (Refused r) z = absurd (word-number (r .why) z)
-
--- THE LINE at a place
-behind-place : (at r n : ℕ) → at ≤ n → ltb r (n - at) ≡ ltb (at + r) n
-behind-place at r n h = go (ltb r (n - at)) refl
-  where
-    go : (v : Bool) → ltb r (n - at) ≡ v → v ≡ ltb (at + r) n
-    go true e = sym (lt-ltb (at + r) n (omega (arith, ltb-true)))
-    go false e = sym (le-ltb (at + r) n (omega (arith, ltb-false)))
-
-pub line-ends : (bs : List ℕ) (at r : ℕ) → at ≤ length bs → r ≡ run 10 (take (length bs - at) (drop at bs)) →
-    Line-from bs at (record { end = at + r; ended = ltb (at + r) (length bs) })
-line-ends bs at r here e =
-    let s : r ≡ run 10 (drop at bs) = e ∙ rw (rest-of bs at) in
-    record { end = rw s; within = omega (arith, run-below 10 (drop at bs), length-drop at bs); ended = refl }
-
-module _ (bs : List ℕ) (at : ℕ) (e : LineEnd) (here : at ≤ length bs) (m : Line-from bs at e) where
-  line-there : line-from bs at ≡ line (take (e .end - at) (drop at bs)) (e .ended)
-  line-there =
-      let r = run 10 (drop at bs) in
-      let s : e .end - at ≡ r = omega (arith, m .end) in
-      first-line (drop at bs) ∙ rw (s, m .ended, m .end, length-drop at bs, behind-place at r (length bs) here)
-
-  next-there : line-from bs at .ended ≡ true → Next bs at (e .end + 1)
-  unfolding line
-  next-there h =
-      let ended : e .ended ≡ true = sym (ap (λ (l : Line). l .ended) line-there) ∙ h in
-      let n : e .end + 1 ≡ at + suc (run 10 (drop at bs)) = omega (arith, m .end) in
+  head-going : head-refusal (lines bs) .number ≡ 0 →
+      Going bs 1 (bare (k-of (lines bs))) (record { outcome = r .outcome; at = e .end + 1; stack = r .stack })
+  unfolding head-refusal k-of line-at
+  head-going z =
+      let says = head-says (lines bs) z in
+      let next = next-there bs 0 e here m (layout-ended _ 1 (line-from bs 0) (says .layout)) in
+      let w = says .within in
       record {
-        within = omega (arith, ltb-true (e .end) (length bs) (sym (m .ended) ∙ ended));
-        rest = rw (n, ← drop-drop (suc (run 10 (drop at bs))) at bs) (sym (other-lines (drop at bs)));
+        accepted = number-fine (r .outcome) (rw head-outcome z);
+        within = next .within;
+        rest = next .rest;
+        few = leb-true (k-of (lines bs)) 8 (search ands);
+        count = head-there .count z;
+        stands = head-there .bare z;
       }
 
--- a line whose layout is right is ended
-shape-ended : (l : Line) (w : List ℕ) (f : ℕ → Bool) → shape l w f ≡ true → l .ended ≡ true
-unfolding shape
-shape-ended l w f h = search ands
+  pub head-taken : Head-taken bs (record { outcome = r .outcome; at = e .end + 1; stack = r .stack })
+  unfolding head-check check
+  head-taken = record {
+    outcome = head-outcome ∙ or-else-none (r .outcome) (head-refusal (lines bs)) head-outcome;
+    going = λ z. head-going (or-else-fine (head-refusal (lines bs)) fine z .0);
+  }
 
-channel-ended : (lo hi i : ℕ) (l : Line) → channel-refusal lo hi i l .number ≡ 0 → l .ended ≡ true
-unfolding channel-refusal
-channel-ended lo hi i l h =
-    shape-ended l nets-word (λ n. eqb (n % 2) 0) (unless-fine (shape l nets-word (λ n. eqb (n % 2) 0)) 1 (suc i) 0 _ h .0)
+-- A LINE behind i lines that are read
+module _ (bs : List ℕ) (i : ℕ) (k : Stack) (p : Progress) (g : Going bs i k p) (e : LineEnd) (m : Line-from bs (p .at) e) where
+  due : line (take (e .end - p .at) (drop (p .at) bs)) (e .ended) ≡ line-at (lines bs) i
+  unfolding line-at
+  due = sym (line-there bs (p .at) e (g .within) m) ∙ rw (g .rest, getD-drop i (lines bs) 0 no-line, add-zero i)
 
--- WHAT A LINE ADDS
-module _ (bs : List ℕ) (e : LineEnd) (m : Line-from bs 0 e) where
-  head-of-first : head-refusal (lines bs) ≡ head-refusal (line-from bs 0 ∷ [])
-  unfolding head-refusal line-at
-  head-of-first = refl
+  next-due : line-at (lines bs) i .ended ≡ true → Next bs (p .at) (e .end + 1)
+  next-due h = next-there bs (p .at) e (g .within) m (rw (line-there bs (p .at) e (g .within) m, due) h)
 
-  k-of-first : k-of (lines bs) ≡ k-of (line-from bs 0 ∷ [])
-  unfolding k-of line-at
-  k-of-first = refl
-
-  module _ (r : Reading) (h : Head-read (line (take (e .end - 0) (drop 0 bs)) (e .ended)) r) where
-    here : 0 ≤ length bs
-    here = omega arith
-
-    head-there : Head-read (line-from bs 0) r
-    head-there = rw (line-there bs 0 e here m) h
-
-    head-outcome : refusal-of (r .outcome) ≡ head-refusal (lines bs)
-    head-outcome = head-there .outcome ∙ sym head-of-first
-
-    head-going : head-refusal (lines bs) .number ≡ 0 →
-        Going bs 1 (k-of (lines bs)) (bare (k-of (lines bs))) (record { outcome = r .outcome; at = e .end + 1; stack = r .stack })
-    head-going z =
-        let says = head-says (lines bs) z in
-        let next = next-there bs 0 e here m (shape-ended (line-from bs 0) _ _ (says .layout)) in
-        let count : r .stack .count ≡ k-of (lines bs) = head-there .count (rw head-of-first at z) ∙ sym k-of-first in
+  -- f is refused of it; where that is nothing, it is ended, and what is on it stands
+  line-taken : (f : Refusal) (o : Outcome) (l : Stack) (q : Stack-struct) → refusal-of o ≡ f → (f .number ≡ 0 → line-at (lines bs) i .ended ≡ true) →
+      (f .number ≡ 0 → (q .count ≡ p .stack .count) × (stack-of q ≡ l)) → Read-to bs f (suc i) l (record { outcome = o; at = e .end + 1; stack = q })
+  line-taken f o l q says ended made = record {
+    outcome = says;
+    going = λ z.
+        let next = next-due (ended z) in
         record {
-          accepted = number-fine (r .outcome) (rw head-outcome z);
+          accepted = number-fine o (rw says z);
           within = next .within;
-          rest = next .rest;
-          few = leb-true (k-of (lines bs)) 8 (says .upto);
-          count = count;
-          stands = head-there .bare ∙ rw count;
-        }
+          rest = next .rest ∙ rw (g .rest, drop-drop 1 i (lines bs), add-one i);
+          few = g .few;
+          count = made z .0 ∙ g .count;
+          stands = made z .1;
+        };
+  }
 
-    pub head-taken : Head-taken bs (record { outcome = r .outcome; at = e .end + 1; stack = r .stack })
-    head-taken = record { outcome = head-outcome; going = head-going }
+-- PART
+check-part : (ls : List Line) (j : ℕ) → line-refusal (part-check ls j) ≡ part-refusal (suc (suc j)) (line-at ls (suc j))
+unfolding part-check part-refusal check supplied
+check-part ls j = refl
+
+pub part-taken : (bs : List ℕ) (p : Progress) (j : ℕ) (e : LineEnd) (r : PartRead) (k : Stack-struct) → Parting bs j p → j ≤ p .stack .count → Line-from bs (p .at) e →
+    Part-read (j + 2) (line (take (e .end - p .at) (drop (p .at) bs)) (e .ended)) r → Strip-set (p .stack) j (r .strip .length .0) k →
+    Part-taken bs j (record { outcome = r .outcome; at = e .end + 1; stack = k })
+unfolding stack length-at first-of supplied entry part-refusal
+part-taken bs p j e r k m h f t s =
+    let ls = lines bs in
+    let l = line-at ls (suc j) in
+    let first : 1 + j ≡ suc j = omega arith in
+    let number : j + 2 ≡ suc (1 + j) = omega arith in
+    let g = m .going in
+    let there : Part-read (suc (suc j)) l r = rw (← first, ← due bs (1 + j) _ p g e f, ← number) t in
+    let says : refusal-of (r .outcome) ≡ line-refusal (part-check ls j) = there .outcome ∙ sym (check-part ls j) in
+    let content = part-content (entry (suc (suc j)) 0 (numbers-of l)) in
+    line-taken bs (1 + j) _ p g e f (line-refusal (part-check ls j)) (r .outcome) _ k says
+    (λ z. rw first (layout-ended part-kind (suc (suc j)) l (or-else-fine _ content (rw (check-part ls j) at z) .0)))
+    (λ z. (
+      s .count,
+      s .value ∙ rw (g .stands, there .strip (rw says z), ← filled-steps (suc (k-of ls)) j (λ i. length-at ls i) 1 (omega (arith, g .count))),
+    ))
+
+-- NETS
+check-nets : (ls : List Line) (c : ℕ) →
+    line-refusal (nets-check ls c) ≡ nets-refusal (length-at ls c) (length-at ls (suc c)) (suc (k-of ls + 2 + c)) (line-at ls (k-of ls + 2 + c))
+unfolding nets-check nets-refusal check supplied
+check-nets ls c = refl
 
 -- a strip's length
 length-of : (k : Stack-struct) (i : ℕ) → i ≤ k .count → getD (k .strips) i (strip 0) .length .0 ≡ getD (stack-of k .strips) i 0
 unfolding stack-of stack
-length-of k i h = sym (getD-tabulate (suc (k .count)) i (λ i. length-at k i) 0 (omega arith))
+length-of k i h = sym (getD-tabulate (suc (k .count)) i (λ i. struct-length k i) 0 (omega arith))
 
-module _ (bs : List ℕ) (p : Progress) (i : ℕ) (e : LineEnd) (here : p .at ≤ length bs) (m : Line-from bs (p .at) e) where
-  pub part-taken : (r : PartRead) (k : Stack-struct) → Part-read (i + 1) (line (take (e .end - p .at) (drop (p .at) bs)) (e .ended)) r →
-      Strip-set (p .stack) i (r .strip .length .0) k → Part-taken bs p i (record { outcome = r .outcome; at = e .end + 1; stack = k })
-  part-taken r k h s =
-      let l = line-from bs (p .at) in
-      let there : Part-read (suc i) l r = rw (line-there bs (p .at) e here m, ← add-one i) h in
-      record {
-        outcome = there .outcome;
-        next = λ z. next-there bs (p .at) e here m (shape-ended l _ _ (part-says (suc i) l (rw (there .outcome) at z) .layout));
-        strip = λ z. rw (there .strip (rw (there .outcome) at z)) at s;
-      }
+strip-length : (bs : List ℕ) (p : Progress) (c i : ℕ) → Wiring bs c p → i ≤ p .stack .count → getD (p .stack .strips) i (strip 0) .length .0 ≡ length-at (lines bs) i
+unfolding stack
+strip-length bs p c i m h =
+    length-of (p .stack) i h ∙ rw (m .going .stands) (getD-tabulate (suc (k-of (lines bs))) i (λ j. length-at (lines bs) j) 0 (omega (arith, m .going .count)))
 
-  pub nets-taken : (r : NetsRead) (k : Stack-struct) → i < p .stack .count →
-      Nets-read (getD (p .stack .strips) i (strip 0) .length .0) (getD (p .stack .strips) (i + 1) (strip 0) .length .0) (p .stack .count + 2 + i)
-      (line (take (e .end - p .at) (drop (p .at) bs)) (e .ended)) r →
-      Channel-set (p .stack) i (channel-of (r .terminals)) k → Nets-taken bs p i (record { outcome = r .outcome; at = e .end + 1; stack = k })
-  nets-taken r k less h s =
-      let l = line-from bs (p .at) in
-      let n = p .stack .count + 2 + i in
-      let lo = getD (stack-of (p .stack) .strips) i 0 in
-      let hi = getD (stack-of (p .stack) .strips) (suc i) 0 in
-      let there : Nets-read lo hi n l r =
-      rw (line-there bs (p .at) e here m, ← add-one i, ← length-of (p .stack) i (omega arith), ← length-of (p .stack) (i + 1) (omega arith)) h in
-      record {
-        outcome = there .outcome;
-        next = λ z. next-there bs (p .at) e here m (channel-ended lo hi n l (rw (there .outcome) at z));
-        channel = λ z. rw (there .pairs (rw (there .outcome) at z)) at s;
-      }
+pub nets-taken : (bs : List ℕ) (p : Progress) (c : ℕ) (e : LineEnd) (r : NetsRead) (k : Stack-struct) → Wiring bs c p → c < p .stack .count → Line-from bs (p .at) e →
+    Nets-read (getD (p .stack .strips) c (strip 0) .length .0) (getD (p .stack .strips) (c + 1) (strip 0) .length .0) (p .stack .count + c + 3)
+    (line (take (e .end - p .at) (drop (p .at) bs)) (e .ended)) r →
+    Channel-set (p .stack) c (channel-of (r .terminals)) k → Nets-taken bs c (record { outcome = r .outcome; at = e .end + 1; stack = k })
+unfolding stack supplied entry nets-refusal
+nets-taken bs p c e r k m h f t s =
+    let ls = lines bs in
+    let i = k-of ls + 2 + c in
+    let l = line-at ls i in
+    let lo = length-at ls c in
+    let hi = length-at ls (suc c) in
+    let g = m .going in
+    let number : p .stack .count + c + 3 ≡ suc i = omega (arith, g .count) in
+    let there : Nets-read lo hi (suc i) l r =
+    rw (← due bs i _ p g e f, ← number, ← strip-length bs p c c m (omega arith), ← add-one c, ← strip-length bs p c (c + 1) m (omega arith)) t in
+    let says : refusal-of (r .outcome) ≡ line-refusal (nets-check ls c) = there .outcome ∙ sym (check-nets ls c) in
+    let content = nets-content lo hi (entry (suc i) 0 (numbers-of l)) in
+    let pairs : ℕ → List Pair = λ j. pairs-of (supplied ls (k-of ls + 2 + j) .numbers) in
+    line-taken bs i _ p g e f (line-refusal (nets-check ls c)) (r .outcome) _ k says
+    (λ z. layout-ended nets-kind (suc i) l (or-else-fine _ content (rw (check-nets ls c) at z) .0))
+    (λ z. (s .count, s .value ∙ rw (g .stands, there .pairs (rw says z), ← filled-steps (k-of ls) c pairs [] (omega (arith, g .count)))))

@@ -1,95 +1,152 @@
 -- The stages of reading a text, one after the other: what each hands on, the test of the text's end, and the reading of the whole. The refusals of the stages,
 -- first come first, are document 01's refusal of the text. Assumes nothing.
 use mathlib.Core.Path.{_≡_, refl, sym, _∙_}
-use mathlib.Core.Bool.{Bool, true, false, cond}
-use mathlib.Core.List.{List, []}
+use mathlib.Core.Bool.{Bool, true, false}
+use mathlib.Core.List.{List, [], append-nil}
 use Prim.Native.Nat.{ℕ, suc, _+_, _*_, _-_, _≤_, _<_}
 use native.Mathlib.Omega.{arith}
-use lib.Dec.{eqb}
 use lib.ListN.{length, drop, length-drop, drop-of-length-le}
 use borrow.Author.Tests.{lt-ltb, le-ltb}
+use Rattle.numbers.specs.Lists.{tabulate, filled}
+use Rattle.numbers.proofs.Lists.{filled-starts}
+use Rattle.lines.specs.Lines.{lines}
+use Rattle.lines.proofs.Cutting.{lines-some}
 use Rattle.stack.specs.Limits.{rising, on-strips, channel-within, channels-within, strips-within, within-limits}
 use Rattle.stack.specs.Stack.{stack}
 use Rattle.stack.specs.Value.{stack-of}
 use Rattle.stack.specs.Made.{bare, stack-found, channels-made, Stack-made}
 use Rattle.stack.specs.declared.Stack.{Stack as Stack-struct}
 use Rattle.stack.specs.declared.StackMade.{StackMade}
-use Rattle.text.specs.Text.{Refusal, refusal, fine, or-else, lines, head-refusal, k-of, parts-refusal, all-nets-refusal, text-refusal, strips-in, channels-in, stack-in}
+use Rattle.text.specs.Text.{refusal, fine, or-else, supplied, check, k-of, part-check, length-at, nets-check, tail-at, tail-check, in-turn, text-refusal, pairs-of, stack-in}
 use Rattle.text.specs.Outcome.{refusal-of, is-accepted, refused}
-use Rattle.text.specs.Driver.{Going, Read-to, upto-head, upto-parts, upto-nets, extra-refusal, upto-end, Head-taken, parts-stack, Parts-taken, All-nets-taken, End-taken, Reading-of, Stack-read}
+use Rattle.text.specs.Driver.{Going, Read-to, upto-head, Head-taken, Parting, Part-taken, upto-parts, nets-read, Parts-taken, Wiring, Nets-taken, upto-nets, All-nets-taken, upto-end, End-taken, Reading-of, Stack-read}
 use Rattle.text.specs.declared.Refusal.the-variants as why
 use Rattle.text.specs.declared.Outcome.{Outcome}
 use Rattle.text.specs.declared.Progress.{Progress}
 use Rattle.text.specs.declared.Reading.{Reading}
-use Rattle.text.proofs.Cutting.{lines-some}
-use Rattle.text.proofs.Within.{accepted-within}
-use Rattle.text.proofs.Places.{refused-number, accepted-fine}
-use Rattle.text.proofs.Stages.{stays-refused, goes-on, then-read}
+use Rattle.text.proofs.Refusals.{refused-number, accepted-fine}
+use Rattle.text.proofs.Within.{checks-in-turn, stack-by-lines, accepted-within}
+use Rattle.text.proofs.Stages.{stays-refused, goes-on, then-read, lines-start, lines-step, lines-refuse, lines-end}
+
+-- the list of all is full
+filled-whole {ℓ} : {A : Type ℓ} (n : ℕ) (f : ℕ → A) (d : A) → filled n n f d ≡ tabulate n 0 f
+unfolding filled
+filled-whole n f d = let none : n - n ≡ 0 = omega arith in rw none (append-nil (tabulate n 0 f))
 
 -- PART LINES behind the first line
 module _ (bs : List ℕ) (h : Progress) (t : Head-taken bs h) where
   pub parts-stay : is-accepted (h .outcome) ≡ false → Parts-taken bs h
-  parts-stay a = stays-refused bs (k-of (lines bs)) (upto-head bs) 1 _ h t _ _ _ a
+  parts-stay a = stays-refused bs (upto-head bs) 1 _ h t _ _ _ a
 
   module _ (a : is-accepted (h .outcome) ≡ true) where
-    pub parts-go-on : Going bs 1 (k-of (lines bs)) (bare (k-of (lines bs))) h
-    parts-go-on = goes-on bs (k-of (lines bs)) (upto-head bs) 1 _ h t a
+    pub parts-go-on : Going bs 1 (bare (k-of (lines bs))) h
+    parts-go-on = goes-on bs (upto-head bs) 1 _ h t a
 
-    pub parts-then : (r : Progress) →
-        Read-to bs (k-of (lines bs)) (parts-refusal (suc (k-of (lines bs))) 1 (lines bs)) (k-of (lines bs) + 2) (parts-stack (k-of (lines bs)) (lines bs)) r →
-        Parts-taken bs r
-    parts-then r u = then-read bs (k-of (lines bs)) (upto-head bs) 1 _ h t a _ _ _ r u
+    pub parts-start : Parting bs 0 h
+    unfolding bare
+    parts-start =
+        let none = filled-starts (suc (k-of (lines bs))) (λ i. length-at (lines bs) i) 1 in
+        lines-start bs (λ i. part-check (lines bs) i) 1 (suc (k-of (lines bs))) _ h (rw none parts-go-on)
+
+    parts-then : (r : Progress) →
+        Read-to bs (in-turn (tabulate (suc (k-of (lines bs))) 0 (λ i. part-check (lines bs) i))) (k-of (lines bs) + 2) (nets-read (lines bs) 0) r → Parts-taken bs r
+    parts-then r u = then-read bs (upto-head bs) 1 _ h t a _ _ _ r u
+
+    module _ (j : ℕ) (p : Progress) (m : Parting bs j p) where
+      part-next : j < h .stack .count + 1 → j < suc (k-of (lines bs))
+      part-next less = omega (arith, parts-go-on .count)
+
+      pub parts-step : (r : Progress) → j < h .stack .count + 1 → Part-taken bs j r → is-accepted (r .outcome) ≡ true → Parting bs (j + 1) r
+      parts-step r less u b = lines-step bs (λ i. part-check (lines bs) i) 1 (suc (k-of (lines bs))) j _ p m (part-next less) _ r u b
+
+      pub parts-refuse : (r : Progress) → j < h .stack .count + 1 → Part-taken bs j r → is-accepted (r .outcome) ≡ false → Parts-taken bs r
+      parts-refuse r less u b =
+          parts-then r (lines-refuse bs (λ i. part-check (lines bs) i) 1 (suc (k-of (lines bs))) j _ p m (part-next less) _ r u _ _ b)
+
+      pub parts-end : h .stack .count + 1 ≤ j → Parts-taken bs p
+      parts-end past =
+          let k = k-of (lines bs) in
+          let all : suc k ≤ j = omega (arith, parts-go-on .count) in
+          let e : j ≡ suc k = omega (arith, m .below) in
+          let last : k + 2 ≡ 1 + suc k = omega arith in
+          let strips = filled-whole (suc k) (λ i. length-at (lines bs) i) 1 in
+          let channels = filled-starts k (λ c. pairs-of (supplied (lines bs) (k + 2 + c) .numbers)) [] in
+          parts-then p (rw (channels, ← strips, last) (rw e at (lines-end bs (λ i. part-check (lines bs) i) 1 (suc k) j _ p m all)))
 
 -- NETS LINES behind them
 module _ (bs : List ℕ) (p : Progress) (t : Parts-taken bs p) where
   pub nets-stay : is-accepted (p .outcome) ≡ false → All-nets-taken bs p
-  nets-stay a = stays-refused bs (k-of (lines bs)) (upto-parts bs) _ _ p t _ _ _ a
+  nets-stay a = stays-refused bs (upto-parts bs) _ _ p t _ _ _ a
 
   module _ (a : is-accepted (p .outcome) ≡ true) where
-    pub nets-go-on : Going bs (k-of (lines bs) + 2) (k-of (lines bs)) (parts-stack (k-of (lines bs)) (lines bs)) p
-    nets-go-on = goes-on bs (k-of (lines bs)) (upto-parts bs) _ _ p t a
+    pub nets-go-on : Going bs (k-of (lines bs) + 2) (nets-read (lines bs) 0) p
+    nets-go-on = goes-on bs (upto-parts bs) _ _ p t a
 
-    pub nets-then : (r : Progress) →
-        Read-to bs (k-of (lines bs)) (all-nets-refusal (k-of (lines bs)) 0 (k-of (lines bs) + 2) (lines bs)) (k-of (lines bs) + 2 + k-of (lines bs))
-        (stack (strips-in (suc (k-of (lines bs))) 0 (lines bs)) (channels-in (k-of (lines bs)) (k-of (lines bs) + 2) (lines bs))) r →
+    pub nets-start : Wiring bs 0 p
+    nets-start = lines-start bs (λ i. nets-check (lines bs) i) (k-of (lines bs) + 2) (k-of (lines bs)) _ p nets-go-on
+
+    nets-then : (r : Progress) →
+        Read-to bs (in-turn (tabulate (k-of (lines bs)) 0 (λ i. nets-check (lines bs) i))) (k-of (lines bs) + 2 + k-of (lines bs)) (stack-in bs) r →
         All-nets-taken bs r
-    unfolding stack-in
-    nets-then r u = then-read bs (k-of (lines bs)) (upto-parts bs) _ _ p t a _ _ _ r u
+    nets-then r u = then-read bs (upto-parts bs) _ _ p t a _ _ _ r u
+
+    module _ (c : ℕ) (q : Progress) (m : Wiring bs c q) where
+      nets-next : c < p .stack .count → c < k-of (lines bs)
+      nets-next less = omega (arith, nets-go-on .count)
+
+      pub nets-step : (r : Progress) → c < p .stack .count → Nets-taken bs c r → is-accepted (r .outcome) ≡ true → Wiring bs (c + 1) r
+      nets-step r less u b = lines-step bs (λ i. nets-check (lines bs) i) (k-of (lines bs) + 2) (k-of (lines bs)) c _ q m (nets-next less) _ r u b
+
+      pub nets-refuse : (r : Progress) → c < p .stack .count → Nets-taken bs c r → is-accepted (r .outcome) ≡ false → All-nets-taken bs r
+      nets-refuse r less u b =
+          nets-then r (lines-refuse bs (λ i. nets-check (lines bs) i) (k-of (lines bs) + 2) (k-of (lines bs)) c _ q m (nets-next less) _ r u _ _ b)
+
+      pub nets-end : p .stack .count ≤ c → All-nets-taken bs q
+      nets-end past =
+          let k = k-of (lines bs) in
+          let all : k ≤ c = omega (arith, nets-go-on .count) in
+          let e : c ≡ k = omega (arith, m .below) in
+          let channels = filled-whole k (λ j. pairs-of (supplied (lines bs) (k + 2 + j) .numbers)) [] in
+          nets-then q (rw (stack-by-lines bs, ← channels) (rw e at (lines-end bs (λ i. nets-check (lines bs) i) (k + 2) k c _ q m all)))
 
 -- THE END
 module _ (bs : List ℕ) (n : Progress) (t : All-nets-taken bs n) where
   pub end-stays : is-accepted (n .outcome) ≡ false → End-taken bs n
-  end-stays a = stays-refused bs (k-of (lines bs)) (upto-nets bs) _ _ n t _ _ _ a
+  end-stays a = stays-refused bs (upto-nets bs) _ _ n t _ _ _ a
 
   module _ (a : is-accepted (n .outcome) ≡ true) where
-    pub end-going : Going bs (k-of (lines bs) + 2 + k-of (lines bs)) (k-of (lines bs)) (stack-in bs) n
-    end-going = goes-on bs (k-of (lines bs)) (upto-nets bs) _ _ n t a
+    pub end-going : Going bs (k-of (lines bs) + 2 + k-of (lines bs)) (stack-in bs) n
+    end-going = goes-on bs (upto-nets bs) _ _ n t a
 
     -- the lines behind the last NETS line
-    lines-left : length (lines (drop (n .at) bs)) ≡ length (lines bs) - (k-of (lines bs) + 2 + k-of (lines bs))
-    lines-left = rw (end-going .rest) (length-drop (k-of (lines bs) + 2 + k-of (lines bs)) (lines bs))
+    lines-left : length (lines (drop (n .at) bs)) ≡ length (lines bs) - tail-at (lines bs)
+    unfolding tail-at
+    lines-left =
+        let k = k-of (lines bs) in
+        let last : k + 2 + k ≡ 2 * k + 2 = omega arith in
+        rw (end-going .rest, ← last) (length-drop (k + 2 + k) (lines bs))
 
     pub end-extra : (o : Outcome) (l : ℕ) (s : Stack-struct) → n .at < length bs → l ≡ 2 * n .stack .count + 3 → o ≡ refused why.Layout l 0 →
         End-taken bs (record { outcome = o; at = n .at; stack = s })
-    unfolding extra-refusal refusal
+    unfolding in-turn tabulate tail-check check tail-at or-else fine refusal
     end-extra o l s more i e =
-        let k = k-of (lines bs) in
+        let ls = lines bs in
+        let left = length ls - tail-at ls in
         let some = lines-some (drop (n .at) bs) (omega (arith, length-drop (n .at) bs)) in
-        let past : 2 * k + 2 < length (lines bs) = omega (arith, lines-left) in
-        let says : extra-refusal k (lines bs) ≡ refusal 2 (2 * k + 3) 0 = rw (lt-ltb (2 * k + 2) (length (lines bs)) past) in
-        then-read bs k (upto-nets bs) _ _ n t a (extra-refusal k (lines bs)) _ _ _
-        (record { outcome = rw (e, i, end-going .count, says); going = λ z. let two : 2 ≡ 0 = rw says at z in absurd (omega arith) })
+        let one : left ≡ suc (left - 1) = omega (arith, lines-left) in
+        let place : l ≡ suc (tail-at ls + 0) = omega (arith, end-going .count) in
+        let says : in-turn (tabulate left 0 (λ g. tail-check ls g)) ≡ refusal 2 l 0 = rw (one, place) in
+        then-read bs (upto-nets bs) _ _ n t a (in-turn (tabulate left 0 (λ g. tail-check ls g))) _ _ _
+        (record { outcome = rw (e, says); going = λ z. let two : 2 ≡ 0 = rw says at z in absurd (omega arith) })
 
     pub end-there : length bs ≤ n .at → End-taken bs n
-    unfolding extra-refusal lines
+    unfolding in-turn tabulate lines
     end-there all =
-        let k = k-of (lines bs) in
+        let ls = lines bs in
         let none : drop (n .at) bs ≡ [] = drop-of-length-le bs {i = n .at} all in
-        let left : length (lines (drop (n .at) bs)) ≡ 0 = rw none in
-        let last : length (lines bs) ≤ 2 * k + 2 = omega (arith, lines-left) in
-        let says : extra-refusal k (lines bs) ≡ fine = rw (le-ltb (2 * k + 2) (length (lines bs)) last) in
-        then-read bs k (upto-nets bs) _ _ n t a (extra-refusal k (lines bs)) _ _ n
-        (record { outcome = end-going .accepted ∙ sym says; going = λ z. end-going })
+        let left : length ls - tail-at ls ≡ 0 = sym lines-left ∙ rw none in
+        then-read bs (upto-nets bs) _ _ n t a (in-turn (tabulate (length ls - tail-at ls) 0 (λ g. tail-check ls g))) _ _ n
+        (record { outcome = end-going .accepted ∙ rw left; going = λ z. end-going })
 
 -- THE READING: on a refusal a stack of one channel
 pub one-channel : (r : StackMade) → Stack-made 1 r → stack-of (r .stack) ≡ bare 1
@@ -123,36 +180,16 @@ overlong-read bs o r long e m =
     let is : r .outcome ≡ refused why.Overlong 0 0 = m .0 ∙ e in
     refused-read bs r (rw (is, lt-ltb 8192 (length bs) long)) (rw is) (m .1)
 
-or-else-assoc : (a b c : Refusal) → or-else a (or-else b c) ≡ or-else (or-else a b) c
-unfolding or-else
-or-else-assoc a b c = go (eqb (a .number) 0) refl
-  where
-    go : (v : Bool) → eqb (a .number) 0 ≡ v →
-        cond v (cond (eqb (b .number) 0) c b) a ≡ cond (eqb ((cond v b a) .number) 0) c (cond v b a)
-    go true e = refl
-    go false e = rw e
-
--- the refusals of the stages, first come first
-text-by-stages : (bs : List ℕ) → length bs ≤ 8192 → text-refusal bs ≡ upto-end bs
-unfolding text-refusal extra-refusal
-text-by-stages bs short =
-    let ls = lines bs in
-    let k = k-of ls in
-    let parts = parts-refusal (suc k) 1 ls in
-    let nets = all-nets-refusal k 0 (k + 2) ls in
-    rw (le-ltb 8192 (length bs) short)
-    (or-else-assoc (head-refusal ls) parts (or-else nets (extra-refusal k ls)) ∙ or-else-assoc (or-else (head-refusal ls) parts) nets (extra-refusal k ls))
-
 pub whole-read : (bs : List ℕ) (p : Progress) (r : Reading) → length bs ≤ 8192 → End-taken bs p → Reading-of p r → Stack-read bs r
-unfolding fine refusal
+unfolding fine refusal text-refusal
 whole-read bs p r short t m = go (is-accepted (p .outcome)) refl
   where
     says : refusal-of (r .outcome) ≡ text-refusal bs
-    says = rw (m .outcome) (t .outcome ∙ sym (text-by-stages bs short))
+    says = rw (m .outcome, le-ltb 8192 (length bs) short) (t .outcome ∙ sym (checks-in-turn bs))
 
     go : (v : Bool) → is-accepted (p .outcome) ≡ v → Stack-read bs r
     go false a = refused-read bs r says (rw (m .outcome) a) (m .bare a)
     go true a =
         let none : text-refusal bs ≡ fine = sym says ∙ rw (m .outcome) (accepted-fine (p .outcome) a) in
-        let same : stack-of (r .stack) ≡ stack-in bs = rw (m .stack a) (goes-on bs (k-of (lines bs)) (upto-end bs) _ _ p t a .stands) in
+        let same : stack-of (r .stack) ≡ stack-in bs = rw (m .stack a) (goes-on bs (upto-end bs) _ _ p t a .stands) in
         record { outcome = says; stack = λ z. same; within = rw same (accepted-within bs (rw none)) }

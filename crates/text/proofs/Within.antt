@@ -1,76 +1,28 @@
 -- A text that is not refused has a stack within document 01's limits: each test that refuses is a limit. By induction on the terminals of a line and on the
 -- lines of a kind. Assumes nothing.
-use mathlib.Core.Path.{_≡_, refl, ap}
-use mathlib.Core.Bool.{Bool, true, false, _&&_, not, cond}
-use mathlib.Core.List.{List, [], _∷_}
-use Prim.Native.Nat.{ℕ, zero, suc, _+_, _*_, _%_, _≤_}
+use mathlib.Core.Path.{_≡_, refl, ap, _∙_}
+use mathlib.Core.Bool.{Bool, true, false, _&&_, not}
+use mathlib.Core.List.{List, [], _∷_, _++_, map}
+use Prim.Native.Nat.{ℕ, zero, suc, _+_, _-_, _≤_}
 use native.Mathlib.Omega.{arith}
-use lib.Dec.{ltb, leb, eqb}
+use lib.Dec.{ltb, leb}
 use lib.ListN.{length, getD}
-use borrow.Author.Tests.{leb-false, ltb-false, eqb-true, eqb-false, le-leb, lt-ltb}
-use Rattle.numbers.proofs.Bools.{ands}
+use borrow.Author.Tests.{leb-false, ltb-false, le-leb, lt-ltb}
+use Rattle.numbers.specs.Lists.{tabulate}
+use Rattle.numbers.proofs.Lists.{length-tabulate}
+use Rattle.lines.specs.Lines.{Line, lines, line-at}
 use Rattle.stack.specs.Stack.{pair, stack}
 use Rattle.stack.specs.Limits.{rises-above, rising, on-strips, channel-within, channels-within, strips-within, within-limits}
-use Rattle.text.specs.Text.{Refusal, refusal, fine, or-else, Line, lines, line-at, shape, stack-word, part-word, nets-word, numbers-of, head-refusal, k-of, part-refusal, parts-refusal, terminals-refusal, length-at, nets-refusal, all-nets-refusal, text-refusal, strips-in, pairs-of, channels-in, stack-in}
+use Rattle.text.specs.Text.{fine, or-else, stack-kind, layout, Entry, first-of, fault-at, supplied, part-content, terminals-refusal, nets-content, Check, check, k-of, head-refusal, head-check, part-check, length-at, nets-check, tail-at, tail-check, checks, in-turn, text-refusal, file, file-in, pairs-of, stack-in-file, stack-in}
+use Rattle.text.specs.Driver.{line-refusal, upto-head, upto-parts, upto-nets, upto-end}
+use Rattle.text.proofs.Refusals.{or-else-fine, when-fine, only-fine, or-else-assoc, in-turn-append}
 use Rattle.text.proofs.Nets.{pairs-length}
 
--- NOTHING IS REFUSED if no test refuses
-pub or-else-fine : (a b : Refusal) → or-else a b .number ≡ 0 → (a .number ≡ 0) × (b .number ≡ 0)
-unfolding or-else
-or-else-fine a b h = go (eqb (a .number) 0) refl h
-  where
-    go : (v : Bool) → eqb (a .number) 0 ≡ v → cond v b a .number ≡ 0 → (a .number ≡ 0) × (b .number ≡ 0)
-    go true e h = (eqb-true (a .number) 0 e, h)
-    go false e h = absurd (eqb-false (a .number) 0 e h)
+-- CONTENTS
+strip-within : (e : Entry) → part-content e .number ≡ 0 → (leb 1 (first-of e) && leb (first-of e) 1000) ≡ true
+unfolding part-content fault-at
+strip-within e h = only-fine (leb 1 (first-of e) && leb (first-of e) 1000) 3 (e .origin) (e .shift + 2) h
 
-pub when-fine : (v : Bool) (n l f : ℕ) (r : Refusal) → cond v (refusal (suc n) l f) r .number ≡ 0 → (v ≡ false) × (r .number ≡ 0)
-unfolding refusal
-when-fine true n l f r h = absurd (omega arith)
-when-fine false n l f r h = (refl, h)
-
-pub unless-fine : (v : Bool) (n l f : ℕ) (r : Refusal) → cond (not v) (refusal (suc n) l f) r .number ≡ 0 → (v ≡ true) × (r .number ≡ 0)
-unfolding refusal
-unless-fine true n l f r h = (refl, h)
-unless-fine false n l f r h = absurd (omega arith)
-
-pub only-fine : (v : Bool) (n l f : ℕ) → cond v fine (refusal (suc n) l f) .number ≡ 0 → v ≡ true
-unfolding refusal
-only-fine true n l f h = refl
-only-fine false n l f h = absurd (omega arith)
-
--- STACK and PART
-pub record Head-says (ls : List Line) : Type 0 where
-  pub layout : shape (line-at ls 0) stack-word (λ n. eqb n 1) ≡ true
-  pub from : leb 1 (k-of ls) ≡ true
-  pub upto : leb (k-of ls) 8 ≡ true
-
-pub head-says : (ls : List Line) → head-refusal ls .number ≡ 0 → Head-says ls
-unfolding head-refusal k-of
-head-says ls h =
-    let k = k-of ls in
-    let u = unless-fine (shape (line-at ls 0) stack-word (λ n. eqb n 1)) 1 1 0 (cond (leb 1 k && leb k 8) fine (refusal 3 1 2)) h in
-    let v : (leb 1 k && leb k 8) ≡ true = only-fine (leb 1 k && leb k 8) 2 1 2 (u .1) in
-    record { layout = u .0; from = search ands; upto = search ands }
-
-pub record Part-says (l : Line) : Type 0 where
-  pub layout : shape l part-word (λ n. eqb n 1) ≡ true
-  pub within : (leb 1 (getD (numbers-of l) 0 0) && leb (getD (numbers-of l) 0 0) 1000) ≡ true
-
-pub part-says : (i : ℕ) (l : Line) → part-refusal i l .number ≡ 0 → Part-says l
-unfolding part-refusal
-part-says i l h =
-    let n = getD (numbers-of l) 0 0 in
-    let u = unless-fine (shape l part-word (λ n. eqb n 1)) 1 (suc i) 0 (cond (leb 1 n && leb n 1000) fine (refusal 4 (suc i) 2)) h in
-    record { layout = u .0; within = only-fine (leb 1 n && leb n 1000) 3 (suc i) 2 (u .1) }
-
-strips-fine : (n i : ℕ) (ls : List Line) → parts-refusal n (suc i) ls .number ≡ 0 → strips-within (strips-in n i ls) ≡ true
-unfolding parts-refusal strips-in strips-within length-at
-strips-fine zero i ls h = refl
-strips-fine (suc n) i ls h =
-    let u = or-else-fine (part-refusal (suc i) (line-at ls (suc i))) (parts-refusal n (suc (suc i)) ls) h in
-    rw (part-says (suc i) (line-at ls (suc i)) (u .0) .within) (strips-fine n (suc i) ls (u .1))
-
--- NETS
 module _ (lo hi n : ℕ) where
   -- the tests of one pair, and the pairs behind it
   record Pair-says (f : ℕ) (b : Bool) (u v x y : ℕ) (vs : List ℕ) : Type 0 where
@@ -112,57 +64,94 @@ module _ (lo hi n : ℕ) where
       let r = rises-fine (f + 2) x y vs (s .rest) in
       (rw (le-leb x lo (s .p-on), le-leb y hi (s .q-on)) (r .0), r .1)
 
-pub record Nets-says (ls : List Line) (c i : ℕ) : Type 0 where
-  pub layout : shape (line-at ls i) nets-word (λ n. eqb (n % 2) 0) ≡ true
-  pub within : channel-within (length-at ls c) (length-at ls (suc c)) (pairs-of (numbers-of (line-at ls i))) ≡ true
+pairs-within : (lo hi : ℕ) (e : Entry) → nets-content lo hi e .number ≡ 0 → channel-within lo hi (pairs-of (e .numbers)) ≡ true
+unfolding nets-content fault-at channel-within
+pairs-within lo hi e h =
+    let vs = e .numbers in
+    let u = when-fine (ltb 64 (length vs)) 2 (e .origin) (e .shift + 66) _ h in
+    let few : length (pairs-of vs) ≤ 32 = omega (arith, pairs-length vs, ltb-false 64 (length vs) (u .0)) in
+    let t = terminals-fine lo hi (e .origin) (e .shift + 2) 0 0 vs (u .1) in
+    rw (le-leb (length (pairs-of vs)) 32 few, t .1) (t .0)
 
-pub nets-says : (ls : List Line) (c i : ℕ) → nets-refusal ls c i .number ≡ 0 → Nets-says ls c i
-unfolding nets-refusal channel-within
-nets-says ls c i h =
-    let vs = numbers-of (line-at ls i) in
-    let u = unless-fine (shape (line-at ls i) nets-word (λ n. eqb (n % 2) 0)) 1 (suc i) 0 _ h in
-    let w = when-fine (ltb 64 (length vs)) 2 (suc i) 66 _ (u .1) in
-    let few : length (pairs-of vs) ≤ 32 = omega (arith, pairs-length vs, ltb-false 64 (length vs) (w .0)) in
-    let t = terminals-fine (length-at ls c) (length-at ls (suc c)) (suc i) 2 0 0 vs (w .1) in
-    record { layout = u .0; within = rw (le-leb (length (pairs-of vs)) 32 few, t .1) (t .0) }
+-- LINES of a kind
+content-fine : (n i : ℕ) (f : ℕ → Check) → in-turn (tabulate (suc n) i f) .number ≡ 0 → (f i .content .number ≡ 0) × (in-turn (tabulate n (suc i) f) .number ≡ 0)
+unfolding in-turn tabulate
+content-fine n i f h =
+    let u = or-else-fine (line-refusal (f i)) (in-turn (tabulate n (suc i) f)) h in
+    (or-else-fine (f i .form) (f i .content) (u .0) .1, u .1)
 
-channels-fine : (n c i : ℕ) (ls : List Line) → all-nets-refusal n c i ls .number ≡ 0 → channels-within (strips-in (suc n) c ls) (channels-in n i ls) ≡ true
-unfolding all-nets-refusal channels-within strips-in channels-in
-channels-fine zero c i ls h = refl
-channels-fine (suc n) c i ls h =
-    let u = or-else-fine (nets-refusal ls c i) (all-nets-refusal n (suc c) (suc i) ls) h in
-    rw (nets-says ls c i (u .0) .within) (channels-fine n (suc c) (suc i) ls (u .1))
+strips-fine : (n i : ℕ) (ls : List Line) → in-turn (tabulate n i (λ j. part-check ls j)) .number ≡ 0 → strips-within (tabulate n i (λ j. length-at ls j)) ≡ true
+unfolding tabulate strips-within part-check check length-at
+strips-fine zero i ls h = refl
+strips-fine (suc n) i ls h =
+    let u = content-fine n i (λ j. part-check ls j) h in
+    rw (strip-within (supplied ls (suc i)) (u .0)) (strips-fine n (suc i) ls (u .1))
 
-channels-length : (n i : ℕ) (ls : List Line) → length (channels-in n i ls) ≡ n
-unfolding channels-in
-channels-length zero i ls = refl
-channels-length (suc n) i ls = ap suc (channels-length n (suc i) ls)
+channels-fine : (n c : ℕ) (ls : List Line) → in-turn (tabulate n c (λ j. nets-check ls j)) .number ≡ 0 →
+    channels-within (tabulate (suc n) c (λ j. length-at ls j)) (tabulate n c (λ j. pairs-of (supplied ls (k-of ls + 2 + j) .numbers))) ≡ true
+unfolding tabulate channels-within nets-check check
+channels-fine zero c ls h = refl
+channels-fine (suc n) c ls h =
+    let u = content-fine n c (λ j. nets-check ls j) h in
+    rw (pairs-within (length-at ls c) (length-at ls (suc c)) (supplied ls (k-of ls + 2 + c)) (u .0)) (channels-fine n (suc c) ls (u .1))
 
--- THE TEXT
-pub record Text-says (bs : List ℕ) : Type 0 where
-  pub head : head-refusal (lines bs) .number ≡ 0
-  pub parts : parts-refusal (suc (k-of (lines bs))) 1 (lines bs) .number ≡ 0
-  pub nets : all-nets-refusal (k-of (lines bs)) 0 (k-of (lines bs) + 2) (lines bs) .number ≡ 0
+-- STACK
+pub record Head-says (ls : List Line) : Type 0 where
+  pub layout : layout stack-kind 1 (line-at ls 0) .number ≡ 0
+  pub within : (leb 1 (k-of ls) && leb (k-of ls) 8) ≡ true
 
-text-says : (bs : List ℕ) → text-refusal bs .number ≡ 0 → Text-says bs
-unfolding text-refusal
-text-says bs h =
+pub head-says : (ls : List Line) → head-refusal ls .number ≡ 0 → Head-says ls
+unfolding head-refusal
+head-says ls h =
+    let u = or-else-fine (layout stack-kind 1 (line-at ls 0)) _ h in
+    record { layout = u .0; within = only-fine (leb 1 (k-of ls) && leb (k-of ls) 8) 2 1 2 (u .1) }
+
+-- THE TEXT: what is refused of its lines, kind by kind
+pub checks-in-turn : (bs : List ℕ) → in-turn (checks (lines bs)) ≡ upto-end bs
+unfolding checks in-turn
+checks-in-turn bs =
+    let ls = lines bs in
+    let parts = tabulate (suc (k-of ls)) 0 (λ j. part-check ls j) in
+    let nets = tabulate (k-of ls) 0 (λ c. nets-check ls c) in
+    let tail = tabulate (length ls - tail-at ls) 0 (λ g. tail-check ls g) in
+    ap (λ r. or-else (upto-head bs) r) (in-turn-append parts (nets ++ tail) ∙ ap (λ r. or-else (in-turn parts) r) (in-turn-append nets tail))
+    ∙ (or-else-assoc (upto-head bs) (in-turn parts) (or-else (in-turn nets) (in-turn tail)) ∙ or-else-assoc (upto-parts bs) (in-turn nets) (in-turn tail))
+
+-- a map of a list by a rule, which begins at another place
+map-tabulate : {A B : Type 0} (g : A → B) (f : ℕ → A) (h : ℕ → B) (s : ℕ) → ((j : ℕ) → g (f (s + j)) ≡ h j) → (n m i : ℕ) → m ≡ s + i →
+    map g (tabulate n m f) ≡ tabulate n i h
+unfolding tabulate
+map-tabulate g f h s same zero m i e = refl
+map-tabulate g f h s same (suc n) m i e =
+    let next : suc m ≡ s + suc i = omega arith in
+    rw (map-tabulate g f h s same n (suc m) (suc i) next, e, same i)
+
+strips-by-lines : (ls : List Line) (n : ℕ) → map (λ ns. getD ns 0 0) (tabulate n 1 (λ i. supplied ls i .numbers)) ≡ tabulate n 0 (λ j. length-at ls j)
+unfolding length-at first-of
+strips-by-lines ls n =
+    let numbers : ℕ → List ℕ = λ i. supplied ls i .numbers in
+    map-tabulate (λ ns. getD ns 0 0) numbers (λ j. length-at ls j) 1 (λ j. let e : 1 + j ≡ suc j = omega arith in rw e) n 1 0 (omega arith)
+
+-- the stack in a text, line by line
+pub stack-by-lines : (bs : List ℕ) →
+    let ls = lines bs in
+    stack-in bs ≡ stack (tabulate (suc (k-of ls)) 0 (λ j. length-at ls j)) (tabulate (k-of ls) 0 (λ c. pairs-of (supplied ls (k-of ls + 2 + c) .numbers)))
+unfolding stack-in stack-in-file file-in file
+stack-by-lines bs =
     let ls = lines bs in
     let k = k-of ls in
-    let extra = cond (ltb (2 * k + 2) (length ls)) (refusal 2 (2 * k + 3) 0) fine in
-    let nets = or-else (all-nets-refusal k 0 (k + 2) ls) extra in
-    let parts = or-else (parts-refusal (suc k) 1 ls) nets in
-    let a = when-fine (ltb 8192 (length bs)) 0 0 0 (or-else (head-refusal ls) parts) h in
-    let b = or-else-fine (head-refusal ls) parts (a .1) in
-    let c = or-else-fine (parts-refusal (suc k) 1 ls) nets (b .1) in
-    let d = or-else-fine (all-nets-refusal k 0 (k + 2) ls) extra (c .1) in
-    record { head = b .0; parts = c .0; nets = d .0 }
+    let numbers : ℕ → List ℕ = λ i. supplied ls i .numbers in
+    let channels = map-tabulate (λ ns. pairs-of ns) numbers (λ c. pairs-of (numbers (k + 2 + c))) (k + 2) (λ j. refl) k (k + 2) 0 (omega arith) in
+    rw (strips-by-lines ls (suc k), channels)
 
 pub accepted-within : (bs : List ℕ) → text-refusal bs .number ≡ 0 → within-limits (stack-in bs) ≡ true
-unfolding within-limits stack-in stack
+unfolding within-limits stack text-refusal head-check check
 accepted-within bs h =
     let ls = lines bs in
     let k = k-of ls in
-    let t = text-says bs h in
-    let s = head-says ls (t .head) in
-    rw (channels-length k (k + 2) ls, s .from, s .upto, strips-fine (suc k) 0 ls (t .parts)) (channels-fine k 0 (k + 2) ls (t .nets))
+    let a = when-fine (ltb 8192 (length bs)) 0 0 0 (in-turn (checks ls)) h .1 in
+    let t = or-else-fine (upto-nets bs) _ (rw (checks-in-turn bs) at a) in
+    let n = or-else-fine (upto-parts bs) _ (t .0) in
+    let p = or-else-fine (upto-head bs) _ (n .0) in
+    let few = head-says ls (or-else-fine (head-refusal ls) fine (p .0) .0) .within in
+    rw (stack-by-lines bs, length-tabulate k 0 (λ c. pairs-of (supplied ls (k + 2 + c) .numbers)), few, strips-fine (suc k) 0 ls (p .1)) (channels-fine k 0 ls (n .1))

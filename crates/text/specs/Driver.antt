@@ -1,117 +1,90 @@
 -- How far a text has been read: what holds after its first lines, and what reading the next line, or all lines of a kind, adds.
 -- Assumes nothing: these are definitions.
 use mathlib.Core.Path.{_≡_}
-use mathlib.Core.Bool.{true, false, cond}
+use mathlib.Core.Bool.{true, false}
 use mathlib.Core.List.{List, []}
-use Prim.Native.Nat.{ℕ, suc, _+_, _*_, _-_, _≤_}
-use lib.Dec.{ltb}
-use lib.ListN.{length, getD, drop, replicate}
-use Rattle.numbers.specs.Lists.{filled}
-use Rattle.stack.specs.Stack.{Pair, Stack, stack}
+use Prim.Native.Nat.{ℕ, suc, _+_, _-_, _≤_}
+use lib.ListN.{length, drop, replicate}
+use Rattle.numbers.specs.Lists.{tabulate, filled}
+use Rattle.lines.specs.Lines.{Line, lines}
+use Rattle.stack.specs.Stack.{Stack, stack}
 use Rattle.stack.specs.Limits.{within-limits}
 use Rattle.stack.specs.Value.{stack-of}
-use Rattle.stack.specs.Made.{bare, Strip-set, Channel-set}
-use Rattle.text.specs.Text.{Refusal, refusal, fine, or-else, Line, lines, line-at, numbers-of, head-refusal, k-of, part-refusal, parts-refusal, length-at, all-nets-refusal, text-refusal, strips-in, pairs-of, stack-in}
+use Rattle.stack.specs.Made.{bare}
+use Rattle.text.specs.Text.{Refusal, fine, or-else, supplied, Check, k-of, head-check, part-check, length-at, nets-check, tail-at, tail-check, in-turn, text-refusal, pairs-of, stack-in}
 use Rattle.text.specs.Outcome.{refusal-of, is-accepted}
-use Rattle.text.specs.Cut.{run}
-use Rattle.text.specs.Kinds.{channel-refusal}
-use Rattle.text.specs.declared.LineEnd.{LineEnd}
 use Rattle.text.specs.declared.Progress.{Progress}
 use Rattle.text.specs.declared.Reading.{Reading}
 
--- the end of the line that begins at a place
-pub record Line-from (bs : List ℕ) (at : ℕ) (r : LineEnd) : Type 0 where
-  pub end : r .end ≡ at + run 10 (drop at bs)
-  pub within : r .end ≤ length bs
-  pub ended : r .ended ≡ ltb (r .end) (length bs)
-
--- the line that begins at a place
-abbrev pub line-from : List ℕ → (at : ℕ) → Line
-line-from bs at = line-at (lines (drop at bs)) 0
-
--- the next line begins at a place
-pub record Next (bs : List ℕ) (at next : ℕ) : Type 0 where
-  pub within : next ≤ length bs
-  pub rest : lines (drop next bs) ≡ drop 1 (lines (drop at bs))
-
--- the first i lines are read, nothing is refused, and this stack of n channels stands
-pub record Going (bs : List ℕ) (i n : ℕ) (k : Stack) (p : Progress) : Type 0 where
+-- the first i lines are read, nothing is refused, and this stack stands
+pub record Going (bs : List ℕ) (i : ℕ) (k : Stack) (p : Progress) : Type 0 where
   pub accepted : refusal-of (p .outcome) ≡ fine
   pub within : p .at ≤ length bs
   pub rest : lines (drop (p .at) bs) ≡ drop i (lines bs)
-  pub few : n ≤ 8
-  pub count : p .stack .count ≡ n
+  pub few : k-of (lines bs) ≤ 8
+  pub count : p .stack .count ≡ k-of (lines bs)
   pub stands : stack-of (p .stack) ≡ k
 
 -- f is refused of the first i lines; where that is nothing, they are read
-pub record Read-to (bs : List ℕ) (n : ℕ) (f : Refusal) (i : ℕ) (k : Stack) (p : Progress) : Type 0 where
+pub record Read-to (bs : List ℕ) (f : Refusal) (i : ℕ) (k : Stack) (p : Progress) : Type 0 where
   pub outcome : refusal-of (p .outcome) ≡ f
-  pub going : f .number ≡ 0 → Going bs i n k p
+  pub going : f .number ≡ 0 → Going bs i k p
 
--- what is refused of the lines up to the last of a kind, and up to the text's end
+-- what is refused of a line
+abbrev pub line-refusal : Check → Refusal
+line-refusal c = or-else (c .form) (c .content)
+
+-- while n lines of a kind are read behind the first i: the first j of them are read
+pub record Reading-lines (bs : List ℕ) (kind : ℕ → Check) (i n j : ℕ) (k : Stack) (p : Progress) : Type 0 where
+  pub below : j ≤ n
+  pub going : Going bs (i + j) k p
+  pub rest : in-turn (tabulate n 0 kind) ≡ in-turn (tabulate (n - j) j kind)
+
+-- STACK is read
 abbrev pub upto-head : List ℕ → Refusal
-upto-head bs = head-refusal (lines bs)
+upto-head bs = line-refusal (head-check (lines bs))
+
+abbrev pub Head-taken : List ℕ → Progress → Type 0
+Head-taken bs r = Read-to bs (upto-head bs) 1 (bare (k-of (lines bs))) r
+
+-- PART lines: the first j strips stand
+abbrev pub parts-read : List Line → (j : ℕ) → Stack
+parts-read ls j = stack (filled (suc (k-of ls)) j (λ i. length-at ls i) 1) (replicate (k-of ls) [])
+
+abbrev pub Parting : List ℕ → (j : ℕ) → Progress → Type 0
+Parting bs j p = Reading-lines bs (λ i. part-check (lines bs) i) 1 (suc (k-of (lines bs))) j (parts-read (lines bs) j) p
+
+abbrev pub Part-taken : List ℕ → (j : ℕ) → Progress → Type 0
+Part-taken bs j r = Read-to bs (line-refusal (part-check (lines bs) j)) (suc (1 + j)) (parts-read (lines bs) (j + 1)) r
 
 abbrev pub upto-parts : List ℕ → Refusal
-upto-parts bs = or-else (upto-head bs) (parts-refusal (suc (k-of (lines bs))) 1 (lines bs))
+upto-parts bs = or-else (upto-head bs) (in-turn (tabulate (suc (k-of (lines bs))) 0 (λ i. part-check (lines bs) i)))
 
-abbrev pub upto-nets : List ℕ → Refusal
-upto-nets bs = or-else (upto-parts bs) (all-nets-refusal (k-of (lines bs)) 0 (k-of (lines bs) + 2) (lines bs))
-
-unfoldable pub extra-refusal : (k : ℕ) → List Line → Refusal
-extra-refusal k ls = cond (ltb (2 * k + 2) (length ls)) (refusal 2 (2 * k + 3) 0) fine
-
-abbrev pub upto-end : List ℕ → Refusal
-upto-end bs = or-else (upto-nets bs) (extra-refusal (k-of (lines bs)) (lines bs))
-
--- STACK is read; then all PART lines; then all NETS lines; then the text's end is tested
-abbrev pub Head-taken : List ℕ → Progress → Type 0
-Head-taken bs r = Read-to bs (k-of (lines bs)) (upto-head bs) 1 (bare (k-of (lines bs))) r
-
-abbrev pub parts-stack : (n : ℕ) → List Line → Stack
-parts-stack n ls = stack (strips-in (suc n) 0 ls) (replicate n [])
+-- NETS lines: the first c channels stand
+abbrev pub nets-read : List Line → (c : ℕ) → Stack
+nets-read ls c = stack (tabulate (suc (k-of ls)) 0 (λ i. length-at ls i)) (filled (k-of ls) c (λ j. pairs-of (supplied ls (k-of ls + 2 + j) .numbers)) [])
 
 abbrev pub Parts-taken : List ℕ → Progress → Type 0
-Parts-taken bs r = Read-to bs (k-of (lines bs)) (upto-parts bs) (k-of (lines bs) + 2) (parts-stack (k-of (lines bs)) (lines bs)) r
+Parts-taken bs r = Read-to bs (upto-parts bs) (k-of (lines bs) + 2) (nets-read (lines bs) 0) r
+
+abbrev pub Wiring : List ℕ → (c : ℕ) → Progress → Type 0
+Wiring bs c p = Reading-lines bs (λ i. nets-check (lines bs) i) (k-of (lines bs) + 2) (k-of (lines bs)) c (nets-read (lines bs) c) p
+
+abbrev pub Nets-taken : List ℕ → (c : ℕ) → Progress → Type 0
+Nets-taken bs c r = Read-to bs (line-refusal (nets-check (lines bs) c)) (suc (k-of (lines bs) + 2 + c)) (nets-read (lines bs) (c + 1)) r
+
+abbrev pub upto-nets : List ℕ → Refusal
+upto-nets bs = or-else (upto-parts bs) (in-turn (tabulate (k-of (lines bs)) 0 (λ i. nets-check (lines bs) i)))
 
 abbrev pub All-nets-taken : List ℕ → Progress → Type 0
-All-nets-taken bs r = Read-to bs (k-of (lines bs)) (upto-nets bs) (k-of (lines bs) + 2 + k-of (lines bs)) (stack-in bs) r
+All-nets-taken bs r = Read-to bs (upto-nets bs) (k-of (lines bs) + 2 + k-of (lines bs)) (stack-in bs) r
+
+-- the text's end is tested
+abbrev pub upto-end : List ℕ → Refusal
+upto-end bs = or-else (upto-nets bs) (in-turn (tabulate (length (lines bs) - tail-at (lines bs)) 0 (λ g. tail-check (lines bs) g)))
 
 abbrev pub End-taken : List ℕ → Progress → Type 0
-End-taken bs r = Read-to bs (k-of (lines bs)) (upto-end bs) (k-of (lines bs) + 2 + k-of (lines bs)) (stack-in bs) r
-
--- one PART line: strip i
-pub record Part-taken (bs : List ℕ) (p : Progress) (i : ℕ) (r : Progress) : Type 0 where
-  pub outcome : refusal-of (r .outcome) ≡ part-refusal (suc i) (line-from bs (p .at))
-  pub next : refusal-of (r .outcome) .number ≡ 0 → Next bs (p .at) (r .at)
-  pub strip : refusal-of (r .outcome) .number ≡ 0 → Strip-set (p .stack) i (getD (numbers-of (line-from bs (p .at))) 0 0) (r .stack)
-
--- the strips' lengths, the first j read
-abbrev pub strips-read : List Line → (n j : ℕ) → List ℕ
-strips-read ls n j = filled (suc n) j (λ i. length-at ls i) 1
-
--- while PART lines are read: the first j strips stand
-pub record Parting (bs : List ℕ) (n j : ℕ) (p : Progress) : Type 0 where
-  pub below : j ≤ suc n
-  pub going : Going bs (suc j) n (stack (strips-read (lines bs) n j) (replicate n [])) p
-  pub rest : parts-refusal (suc n) 1 (lines bs) ≡ parts-refusal (suc n - j) (suc j) (lines bs)
-
--- one NETS line: the channel between strips c and c + 1
-pub record Nets-taken (bs : List ℕ) (p : Progress) (c : ℕ) (r : Progress) : Type 0 where
-  pub outcome : refusal-of (r .outcome)
-      ≡ channel-refusal (getD (stack-of (p .stack) .strips) c 0) (getD (stack-of (p .stack) .strips) (suc c) 0) (p .stack .count + 2 + c) (line-from bs (p .at))
-  pub next : refusal-of (r .outcome) .number ≡ 0 → Next bs (p .at) (r .at)
-  pub channel : refusal-of (r .outcome) .number ≡ 0 → Channel-set (p .stack) c (pairs-of (numbers-of (line-from bs (p .at)))) (r .stack)
-
--- the channels' pairs, the first c read
-abbrev pub channels-read : List Line → (n c : ℕ) → List (List Pair)
-channels-read ls n c = filled n c (λ j. pairs-of (numbers-of (line-at ls (n + 2 + j)))) []
-
--- while NETS lines are read: the first c channels stand
-pub record Wiring (bs : List ℕ) (n c : ℕ) (p : Progress) : Type 0 where
-  pub below : c ≤ n
-  pub going : Going bs (n + 2 + c) n (stack (strips-in (suc n) 0 (lines bs)) (channels-read (lines bs) n c)) p
-  pub rest : all-nets-refusal n 0 (n + 2) (lines bs) ≡ all-nets-refusal (n - c) c (n + 2 + c) (lines bs)
+End-taken bs r = Read-to bs (upto-end bs) (k-of (lines bs) + 2 + k-of (lines bs)) (stack-in bs) r
 
 -- the reading that ends: the stack read, or that of one channel without pairs
 pub record Reading-of (p : Progress) (r : Reading) : Type 0 where

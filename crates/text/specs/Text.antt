@@ -1,10 +1,12 @@
--- TRUSTED. The stack's text: its lines, fields and numbers, the refusals 1 to 6 at their lines and fields, and the stack in a text.
+-- TRUSTED. The stack's text: its kinds of line, the refusals 1 to 6 at their lines and fields, and the stack in a text.
 -- Document 01, "Lines and tabs" and "Sent back at the counter". Assumes nothing: these are definitions.
-use mathlib.Core.Bool.{Bool, true, false, _&&_, _||_, not, cond}
-use mathlib.Core.List.{List, [], _∷_}
-use Prim.Native.Nat.{ℕ, zero, suc, _+_, _*_, _-_, _%_}
+use mathlib.Core.Bool.{Bool, true, false, _&&_, not, cond}
+use mathlib.Core.List.{List, [], _∷_, _++_, map}
+use Prim.Native.Nat.{ℕ, suc, _+_, _*_, _-_, _%_}
 use lib.Dec.{ltb, leb, eqb}
-use lib.ListN.{length, getD, drop}
+use lib.ListN.{length, getD}
+use Rattle.numbers.specs.Lists.{tabulate}
+use Rattle.lines.specs.Lines.{Line, lines, line-at, number-fields, has-word, ill-formed, numbers-of}
 use Rattle.stack.specs.Stack.{Stack, stack, Pair, pair}
 
 -- a REFUSAL carries its number, line and field; number 0 is none
@@ -23,64 +25,6 @@ fine = refusal 0 0 0
 unfoldable pub or-else : Refusal → Refusal → Refusal
 or-else a b = cond (eqb (a .number) 0) b a
 
--- LINES, each ended by a line feed, byte 10; what is behind the last is an unended line
-pub record Line : Type 0 where
-  pub bytes : List ℕ
-  pub ended : Bool
-
-unfoldable pub line : List ℕ → (ended : Bool) → Line
-line b e = record { bytes = b; ended = e }
-
-unfoldable pub to-front : ℕ → List Line → List Line
-to-front x [] = line (x ∷ []) false ∷ []
-to-front x (l ∷ ls) = line (x ∷ l .bytes) (l .ended) ∷ ls
-
-unfoldable pub lines : List ℕ → List Line
-lines [] = []
-lines (x ∷ xs) = cond (eqb x 10) (line [] true ∷ lines xs) (to-front x (lines xs))
-
--- FIELDS parted by one tab, byte 9
-unfoldable pub into-field : ℕ → List (List ℕ) → List (List ℕ)
-into-field x [] = (x ∷ []) ∷ []
-into-field x (f ∷ fs) = (x ∷ f) ∷ fs
-
-unfoldable pub fields : List ℕ → List (List ℕ)
-fields [] = [] ∷ []
-fields (x ∷ xs) = cond (eqb x 9) ([] ∷ fields xs) (into-field x (fields xs))
-
--- a NUMBER: 1 to 4 decimal digits without a leading zero, save 0 itself
-unfoldable pub is-digit : ℕ → Bool
-is-digit x = leb 48 x && leb x 57
-
-unfoldable pub all-digits : List ℕ → Bool
-all-digits [] = true
-all-digits (x ∷ xs) = is-digit x && all-digits xs
-
-unfoldable pub is-number : List ℕ → Bool
-is-number xs =
-    all-digits xs && ((leb 1 (length xs) && leb (length xs) 4) && (eqb (length xs) 1 || not (eqb (getD xs 0 48) 48)))
-
-unfoldable pub value-of : (so-far : ℕ) → List ℕ → ℕ
-value-of v [] = v
-value-of v (x ∷ xs) = value-of (10 * v + (x - 48)) xs
-
-unfoldable pub value : List ℕ → ℕ
-value xs = value-of 0 xs
-
-unfoldable pub all-numbers : List (List ℕ) → Bool
-all-numbers [] = true
-all-numbers (f ∷ fs) = is-number f && all-numbers fs
-
-unfoldable pub values : List (List ℕ) → List ℕ
-values [] = []
-values (f ∷ fs) = value f ∷ values fs
-
-unfoldable pub same-bytes : (a b : List ℕ) → Bool
-same-bytes [] [] = true
-same-bytes [] (y ∷ ys) = false
-same-bytes (x ∷ xs) [] = false
-same-bytes (x ∷ xs) (y ∷ ys) = eqb x y && same-bytes xs ys
-
 -- the words STACK, PART and NETS
 unfoldable pub stack-word : List ℕ
 stack-word = 83 ∷ 84 ∷ 65 ∷ 67 ∷ 75 ∷ []
@@ -91,40 +35,58 @@ part-word = 80 ∷ 65 ∷ 82 ∷ 84 ∷ []
 unfoldable pub nets-word : List ℕ
 nets-word = 78 ∷ 69 ∷ 84 ∷ 83 ∷ []
 
--- a line's LAYOUT: that it is there and ended, its word, its numbers and how many; a missing line is no line
-unfoldable pub no-line : Line
-no-line = line [] false
+-- a KIND of line: its word, and the field at which a count of numbers is at fault, the first missing or the first extra; 0 where the count is good
+pub record Kind : Type 0 where
+  pub word : List ℕ
+  pub fault : (count : ℕ) → ℕ
 
-unfoldable pub line-at : List Line → (i : ℕ) → Line
-line-at ls i = getD ls i no-line
+unfoldable pub kind : List ℕ → (ℕ → ℕ) → Kind
+kind w f = record { word = w; fault = f }
 
-unfoldable pub shape : Line → (w : List ℕ) → (count-good : ℕ → Bool) → Bool
-shape l w f =
-    let fs = fields (l .bytes) in
-    l .ended && (same-bytes (getD fs 0 []) w && (all-numbers (drop 1 fs) && f (length fs - 1)))
+unfoldable pub exactly : (due count : ℕ) → ℕ
+exactly m n = cond (ltb n m) (n + 2) (cond (ltb m n) (m + 2) 0)
 
-unfoldable pub numbers-of : Line → List ℕ
-numbers-of l = values (drop 1 (fields (l .bytes)))
+unfoldable pub in-pairs : (count : ℕ) → ℕ
+in-pairs n = cond (eqb (n % 2) 0) 0 (n + 2)
 
--- STACK at line 1: layout, 2, then crowd, 3, at field 2
-unfoldable pub head-refusal : List Line → Refusal
-head-refusal ls =
-    let l = line-at ls 0 in
-    cond (not (shape l stack-word (λ n. eqb n 1))) (refusal 2 1 0)
-    (cond (leb 1 (getD (numbers-of l) 0 0) && leb (getD (numbers-of l) 0 0) 8) fine (refusal 3 1 2))
+unfoldable pub stack-kind : Kind
+stack-kind = kind stack-word (λ n. exactly 1 n)
 
-unfoldable pub k-of : List Line → ℕ
-k-of ls = getD (numbers-of (line-at ls 0)) 0 0
+unfoldable pub part-kind : Kind
+part-kind = kind part-word (λ n. exactly 1 n)
 
--- PART at line i + 1: layout, 2, then length, 4, at field 2
-unfoldable pub part-refusal : (i : ℕ) → Line → Refusal
-part-refusal i l =
-    cond (not (shape l part-word (λ n. eqb n 1))) (refusal 2 (suc i) 0)
-    (cond (leb 1 (getD (numbers-of l) 0 0) && leb (getD (numbers-of l) 0 0) 1000) fine (refusal 4 (suc i) 2))
+unfoldable pub nets-kind : Kind
+nets-kind = kind nets-word (λ n. in-pairs n)
 
-unfoldable pub parts-refusal : (left i : ℕ) → List Line → Refusal
-parts-refusal zero i ls = fine
-parts-refusal (suc k) i ls = or-else (part-refusal i (line-at ls i)) (parts-refusal k (suc i) ls)
+-- the LAYOUT of line n as a line of a kind, 2: that it is there and ended, its word, the count of its numbers, and each of them
+unfoldable pub layout : Kind → (n : ℕ) → Line → Refusal
+layout K n l =
+    let fs = number-fields l in
+    cond (has-word l (K .word) && (eqb (K .fault (length fs)) 0 && eqb (ill-formed 2 fs) 0)) fine (refusal 2 n 0)
+
+-- an ENTRY: the numbers of a line, the line that supplies them, and by how many fields they are moved there
+pub record Entry : Type 0 where
+  pub origin : ℕ
+  pub shift : ℕ
+  pub numbers : List ℕ
+
+unfoldable pub entry : (origin shift : ℕ) → List ℕ → Entry
+entry n s xs = record { origin = n; shift = s; numbers = xs }
+
+unfoldable pub first-of : Entry → ℕ
+first-of e = getD (e .numbers) 0 0
+
+-- a fault at a field of an entry, where that field was supplied
+unfoldable pub fault-at : Entry → (number field : ℕ) → Refusal
+fault-at e m f = refusal m (e .origin) (e .shift + f)
+
+-- what supplies line i + 1: the line itself
+unfoldable pub supplied : List Line → (i : ℕ) → Entry
+supplied ls i = entry (suc i) 0 (numbers-of (line-at ls i))
+
+-- PART: length, 4, at field 2
+unfoldable pub part-content : Entry → Refusal
+part-content e = cond (leb 1 (first-of e) && leb (first-of e) 1000) fine (fault-at e 4 2)
 
 -- the fields of NETS from left to right, each for overhang, 5, and then crossing, 6
 unfoldable pub terminals-refusal : (at : ℕ) → (first : Bool) → (before-p before-q lower upper : ℕ) → (lines-number : ℕ) → List ℕ → Refusal
@@ -136,46 +98,87 @@ terminals-refusal f b u v lo hi n (x ∷ y ∷ xs) =
     (cond (ltb hi y) (refusal 5 n (suc f))
     (cond (not b && leb y v) (refusal 6 n (suc f)) (terminals-refusal (f + 2) false x y lo hi n xs))))
 
+-- NETS between strips of these lengths: crowd, 3, at field 66, then the terminals
+unfoldable pub nets-content : (lower upper : ℕ) → Entry → Refusal
+nets-content lo hi e =
+    cond (ltb 64 (length (e .numbers))) (fault-at e 3 66)
+    (terminals-refusal (e .shift + 2) true 0 0 lo hi (e .origin) (e .numbers))
+
+-- THE CHECKS of a text, a pair for each line: its form and its content; a missing line has them too
+pub record Check : Type 0 where
+  pub form : Refusal
+  pub content : Refusal
+
+unfoldable pub check : (form content : Refusal) → Check
+check a b = record { form = a; content = b }
+
+-- STACK at line 1: layout, then crowd, 3, at field 2; both are its form
+unfoldable pub k-of : List Line → ℕ
+k-of ls = getD (numbers-of (line-at ls 0)) 0 0
+
+unfoldable pub head-refusal : List Line → Refusal
+head-refusal ls = or-else (layout stack-kind 1 (line-at ls 0)) (cond (leb 1 (k-of ls) && leb (k-of ls) 8) fine (refusal 3 1 2))
+
+unfoldable pub head-check : List Line → Check
+head-check ls = check (head-refusal ls) fine
+
+-- PART of a strip at line i + 1
+unfoldable pub part-check : List Line → (strip : ℕ) → Check
+part-check ls j =
+    let i = suc j in check (layout part-kind (suc i) (line-at ls i)) (part-content (supplied ls i))
+
+-- NETS of a channel at line i + 1
 unfoldable pub length-at : List Line → (strip : ℕ) → ℕ
-length-at ls i = getD (numbers-of (line-at ls (suc i))) 0 0
+length-at ls j = first-of (supplied ls (suc j))
 
--- NETS at line i + 1: layout, 2, then crowd, 3, at field 66, then the terminals
-unfoldable pub nets-refusal : List Line → (channel i : ℕ) → Refusal
-nets-refusal ls c i =
-    let l = line-at ls i in
-    cond (not (shape l nets-word (λ n. eqb (n % 2) 0))) (refusal 2 (suc i) 0)
-    (cond (ltb 64 (length (numbers-of l))) (refusal 3 (suc i) 66)
-    (terminals-refusal 2 true 0 0 (length-at ls c) (length-at ls (suc c)) (suc i) (numbers-of l)))
+unfoldable pub nets-check : List Line → (channel : ℕ) → Check
+nets-check ls c =
+    let i = k-of ls + 2 + c in
+    check (layout nets-kind (suc i) (line-at ls i)) (nets-content (length-at ls c) (length-at ls (suc c)) (supplied ls i))
 
-unfoldable pub all-nets-refusal : (left c i : ℕ) → List Line → Refusal
-all-nets-refusal zero c i ls = fine
-all-nets-refusal (suc k) c i ls = or-else (nets-refusal ls c i) (all-nets-refusal k (suc c) (suc i) ls)
+-- line g behind the last NETS: an extra line, 2
+unfoldable pub tail-at : List Line → ℕ
+tail-at ls = 2 * k-of ls + 2
 
--- THE TEXT: overlong, 1; lines from the top; then an extra line, 2
+unfoldable pub tail-check : List Line → (g : ℕ) → Check
+tail-check ls g = check (refusal 2 (suc (tail-at ls + g)) 0) fine
+
+unfoldable pub checks : List Line → List Check
+checks ls =
+    head-check ls
+    ∷ (tabulate (suc (k-of ls)) 0 (λ j. part-check ls j)
+    ++ (tabulate (k-of ls) 0 (λ c. nets-check ls c) ++ tabulate (length ls - tail-at ls) 0 (λ g. tail-check ls g)))
+
+-- line by line from the top
+unfoldable pub in-turn : List Check → Refusal
+in-turn [] = fine
+in-turn (c ∷ cs) = or-else (or-else (c .form) (c .content)) (in-turn cs)
+
+-- THE TEXT: overlong, 1; then its lines
 unfoldable pub text-refusal : List ℕ → Refusal
-text-refusal bs =
+text-refusal bs = cond (ltb 8192 (length bs)) (refusal 1 0 0) (in-turn (checks (lines bs)))
+
+-- THE FILE in a text that is not refused: the numbers of its PART and NETS lines
+pub record File : Type 0 where
+  pub parts : List (List ℕ)
+  pub nets : List (List ℕ)
+
+unfoldable pub file : (parts nets : List (List ℕ)) → File
+file a b = record { parts = a; nets = b }
+
+unfoldable pub file-in : List ℕ → File
+file-in bs =
     let ls = lines bs in
-    let k = k-of ls in
-    cond (ltb 8192 (length bs)) (refusal 1 0 0)
-    (or-else (head-refusal ls)
-    (or-else (parts-refusal (suc k) 1 ls)
-    (or-else (all-nets-refusal k 0 (k + 2) ls) (cond (ltb (2 * k + 2) (length ls)) (refusal 2 (2 * k + 3) 0) fine))))
+    file (tabulate (suc (k-of ls)) 1 (λ i. supplied ls i .numbers)) (tabulate (k-of ls) (k-of ls + 2) (λ i. supplied ls i .numbers))
 
--- THE STACK in a text that is not refused
-unfoldable pub strips-in : (left i : ℕ) → List Line → List ℕ
-strips-in zero i ls = []
-strips-in (suc k) i ls = length-at ls i ∷ strips-in k (suc i) ls
-
+-- THE STACK in a file, and in a text that is not refused
 unfoldable pub pairs-of : List ℕ → List Pair
 pairs-of [] = []
 pairs-of (x ∷ []) = []
 pairs-of (x ∷ y ∷ xs) = pair x y ∷ pairs-of xs
 
-unfoldable pub channels-in : (left i : ℕ) → List Line → List (List Pair)
-channels-in zero i ls = []
-channels-in (suc k) i ls = pairs-of (numbers-of (line-at ls i)) ∷ channels-in k (suc i) ls
+unfoldable pub stack-in-file : File → Stack
+stack-in-file f = stack (map (λ ns. getD ns 0 0) (f .parts)) (map (λ ns. pairs-of ns) (f .nets))
 
 unfoldable pub stack-in : List ℕ → Stack
-stack-in bs =
-    let ls = lines bs in
-    let k = k-of ls in stack (strips-in (suc k) 0 ls) (channels-in k (k + 2) ls)
+stack-in bs = stack-in-file (file-in bs)

@@ -1,35 +1,34 @@
-// Reading a stack's text: its lines, fields and numbers, and document 01's refusals 1 to 6.
+// Reading a stack's text: its lines by their kinds, and document 01's refusals 1 to 6.
 ghost use mathlib.Core.Path.{_≡_};
-ghost use mathlib.Core.List.{[]};
-ghost use Prim.Native.Nat.{suc, _+_, _*_, _^_, _≤_, _<_};
-ghost use lib.ListN.{length, set};
+ghost use Prim.Native.Nat.{_+_, _*_, _^_, _≤_, _<_};
+ghost use Rattle.lines.specs.Lines.{line};
 ghost use Rattle.stack.specs.Value.{stack-of};
 ghost use Rattle.stack.specs.Made.{bare};
-ghost use Rattle.text.specs.Text.{line, is-digit, same-bytes};
+ghost use Rattle.text.specs.Text.{exactly, in-pairs};
 ghost use Rattle.text.specs.Outcome.{number-of, refusal-of, is-accepted, refused};
-ghost use Rattle.text.specs.Cut.{run};
-ghost use Rattle.text.specs.Numbers.{
-  sized,
-  Digits-read,
-  Field-read,
-  Numbers-read,
-  Field-added,
-  fields-from,
-  Line-read,
-  Single-read,
+ghost use Rattle.text.specs.Kinds.{
+  layout-found,
+  Head-read,
+  Part-content,
+  Part-read,
+  place,
+  found-refusal,
+  Nets-read,
 };
-ghost use Rattle.text.specs.Kinds.{Head-read, Part-read, place, found-refusal, Nets-read};
 ghost use Rattle.text.specs.Driver.{
-  Line-from,
   Head-taken,
+  Parting,
   Part-taken,
   Parts-taken,
+  Wiring,
   Nets-taken,
   All-nets-taken,
   End-taken,
   Reading-of,
   Stack-read,
 };
+use lines::line_end;
+use lines::read_line;
 use stack::Columns;
 use stack::Stack;
 use stack::StackFound;
@@ -102,221 +101,60 @@ pub struct Reading {
     pub stack: Stack,
 }
 
-const TAB: u8 = 9;
-
-const LINE_FEED: u8 = 10;
-
-// How many bytes stand before the first b; all, where there is none.
-fn run(bytes: &[u8], b: u8) -> usize
-    ensures { λ r. ⌜ r ≡ run b (now (bytes .entry)) ⌝ }
+// The field at which a count of numbers is at fault where so many are due: the first missing or the first extra; 0 where the count is good.
+fn exactly(due: usize, count: usize) -> usize
+    requires { ⌜ (due < 2 ^ 63) × (count < 2 ^ 63) ⌝ }
+    ensures { λ r. ⌜ r ≡ exactly due count ⌝ }
 {
-    for i in 0..bytes.len() {
-        if bytes[i] == b {
-            return i;
-        }
+    if count < due {
+        return count + 2;
     }
-    bytes.len()
+    if due < count {
+        return due + 2;
+    }
+    0
 }
 
-// Whether two byte strings are the same.
-pub fn is_word(field: &[u8], word: &[u8]) -> bool
-    ensures { λ r. ⌜ r ≡ same-bytes (now (field .entry)) (now (word .entry)) ⌝ }
+// The same where numbers come in pairs.
+fn in_pairs(count: usize) -> usize
+    requires { ⌜ count < 2 ^ 63 ⌝ }
+    ensures { λ r. ⌜ r ≡ in-pairs count ⌝ }
 {
-    if field.len() != word.len() {
-        return false;
+    if count % 2 == 0 {
+        return 0;
     }
-    for i in 0..field.len() {
-        if field[i] != word[i] {
-            return false;
-        }
-    }
-    true
+    count + 2
 }
 
-const ZERO: u8 = 48;
-
-const NINE: u8 = 57;
-
-const MAX_DIGITS: usize = 4;
-
-// Whether a byte is a decimal digit.
-pub fn is_digit(x: u8) -> bool
-    ensures { λ r. ⌜ r ≡ is-digit x ⌝ }
+// The layout of line n: whether it has its word, the field at which its count of numbers is at fault, and the first that is no number.
+fn layout_outcome(worded: bool, fault: usize, ill: usize, n: u32) -> Outcome
+    ensures { λ r. ⌜ refusal-of r ≡ layout-found worded fault ill n ⌝ }
 {
-    if x < ZERO {
-        return false;
+    if !worded {
+        return Outcome::refused(Refusal::Layout, n, 0);
     }
-    x <= NINE
-}
-
-// A number's count of digits and its first digit: 1 to 4, and no leading zero save 0 itself.
-fn is_sized(field: &[u8]) -> bool
-    ensures { λ r. ⌜ r ≡ sized (now (field .entry)) ⌝ }
-{
-    let digits = field.len();
-    if digits < 1 {
-        return false;
+    if fault != 0 {
+        return Outcome::refused(Refusal::Layout, n, 0);
     }
-    if MAX_DIGITS < digits {
-        return false;
+    if ill != 0 {
+        return Outcome::refused(Refusal::Layout, n, 0);
     }
-    if digits == 1 {
-        return true;
-    }
-    field[0] != ZERO
-}
-
-// Whether a field is a number, and which; 0 where it is none.
-struct FieldRead {
-    good: bool,
-    value: u32,
-}
-
-fn read_digits(field: &[u8]) -> FieldRead
-    requires { ⌜ length (now field) ≤ 4 ⌝ }
-    ensures { λ r. ⌜ Digits-read (now (field .entry)) r ⌝ }
-{
-    let mut value: u32 = 0;
-    for i in 0..field.len() {
-        let x = field[i];
-        if !is_digit(x) {
-            return FieldRead {
-                good: false,
-                value: 0,
-            };
-        }
-        value = 10 * value + (x as u32 - ZERO as u32);
-    }
-    FieldRead { good: true, value }
-}
-
-fn read_field(field: &[u8]) -> FieldRead
-    ensures { λ r. ⌜ Field-read (now (field .entry)) r ⌝ }
-{
-    if !is_sized(field) {
-        return FieldRead {
-            good: false,
-            value: 0,
-        };
-    }
-    read_digits(field)
-}
-
-// As many numbers of a line are kept as there may be terminals in a channel.
-const KEPT: usize = 2 * Terminals::MAX_PAIRS;
-
-// Whether fields are all numbers, how many they are, and the first of them.
-struct Numbers {
-    good: bool,
-    count: usize,
-    values: [u32; KEPT],
-}
-
-// The number in its place, where there is one.
-fn number_stored(mut values: [u32; KEPT], i: usize, x: u32) -> [u32; KEPT]
-    ensures { λ r. ⌜ r ≡ set values i x ⌝ }
-{
-    if i < KEPT {
-        values[i] = x;
-    }
-    values
-}
-
-impl Numbers {
-    fn none() -> Numbers
-        ensures { λ r. ⌜ Numbers-read [] r ⌝ }
-    {
-        Numbers {
-            good: true,
-            count: 0,
-            values: [0u32; KEPT],
-        }
-    }
-
-    fn with_field(self, field: &[u8]) -> Numbers
-        requires { ⌜ self .count < 2 ^ 63 ⌝ }
-        ensures { λ r. ⌜ Field-added self (now (field .entry)) r ⌝ }
-    {
-        let read = read_field(field);
-        let old = self.values;
-        let values = number_stored(old, self.count, read.value);
-        Numbers {
-            good: self.good && read.good,
-            count: self.count + 1,
-            values,
-        }
-    }
-}
-
-// The numbers of a line's fields from a place on.
-fn numbers_from(line: &[u8], from: usize) -> Numbers
-    requires { ⌜ from ≤ suc (length (now line)) ⌝ }
-    ensures { λ r. ⌜ Numbers-read (fields-from from (now (line .entry))) r ⌝ }
-{
-    let mut numbers = Numbers::none();
-    let mut at = from;
-    while at <= line.len() {
-        let end = at + run(&line[at..], TAB);
-        numbers = numbers.with_field(&line[at..end]);
-        at = end + 1;
-    }
-    numbers
-}
-
-// The numbers of a line that begins with a word.
-fn read_line(bytes: &[u8], ended: bool, word: &[u8]) -> Numbers
-    ensures { λ r. ⌜ Line-read (line (now (bytes .entry)) ended) (now (word .entry)) r ⌝ }
-{
-    let end = run(bytes, TAB);
-    let mut numbers = numbers_from(bytes, end + 1);
-    if !ended {
-        numbers.good = false;
-        return numbers;
-    }
-    if !is_word(&bytes[..end], word) {
-        numbers.good = false;
-        return numbers;
-    }
-    numbers
-}
-
-// The number of a line of a word and one number.
-fn read_single(bytes: &[u8], ended: bool, word: &[u8]) -> FieldRead
-    ensures { λ r. ⌜ Single-read (line (now (bytes .entry)) ended) (now (word .entry)) r ⌝ }
-{
-    let numbers = read_line(bytes, ended, word);
-    let values = numbers.values;
-    if !numbers.good {
-        return FieldRead {
-            good: false,
-            value: 0,
-        };
-    }
-    if numbers.count != 1 {
-        return FieldRead {
-            good: false,
-            value: 0,
-        };
-    }
-    FieldRead {
-        good: true,
-        value: values[0],
-    }
+    Outcome::Accepted
 }
 
 // STACK: k channels without pairs, or why not.
 fn read_head(bytes: &[u8], ended: bool) -> Reading
     ensures { λ r. ⌜ Head-read (line (now (bytes .entry)) ended) r ⌝ }
 {
-    let number = read_single(bytes, ended, b"STACK");
-    let k = number.value as usize;
-    let made = Stack::new(k);
+    let line = read_line(bytes, ended, b"STACK");
+    let layout = layout_outcome(line.worded, exactly(1, line.count), line.ill, 1);
+    if !layout.is_accepted() {
+        return Reading::refused(layout);
+    }
+    let values = line.values;
+    let made = Stack::new(values[0] as usize);
     let found = made.found;
     let stack = made.stack;
-    if !number.good {
-        let outcome = Outcome::refused(Refusal::Layout, 1, 0);
-        return Reading { outcome, stack };
-    }
     match found {
         StackFound::Sized => Reading {
             outcome: Outcome::Accepted,
@@ -335,35 +173,41 @@ struct PartRead {
     strip: Strip,
 }
 
-// PART behind i other lines: its strip, or why not.
-fn read_part(bytes: &[u8], ended: bool, i: u32) -> PartRead
-    requires { ⌜ i < 100 ⌝ }
-    ensures { λ r. ⌜ Part-read i (line (now (bytes .entry)) ended) r ⌝ }
-{
-    let number = read_single(bytes, ended, b"PART");
-    let shortest = Strip {
-        length: Columns(Strip::MIN_LENGTH),
-    };
-    if !number.good {
-        let outcome = Outcome::refused(Refusal::Layout, i + 1, 0);
-        return PartRead {
-            outcome,
-            strip: shortest,
+impl PartRead {
+    fn refused(outcome: Outcome) -> PartRead
+        ensures { λ r. ⌜ r .outcome ≡ outcome ⌝ }
+    {
+        let strip = Strip {
+            length: Columns(Strip::MIN_LENGTH),
         };
+        PartRead { outcome, strip }
     }
-    match Strip::new(number.value) {
+}
+
+// The strip of a length that line n supplies, or why not.
+fn part_content(length: u32, n: u32) -> PartRead
+    ensures { λ r. ⌜ Part-content length n r ⌝ }
+{
+    match Strip::new(length) {
         StripMade::Made(strip) => PartRead {
             outcome: Outcome::Accepted,
             strip,
         },
-        StripMade::Length => {
-            let outcome = Outcome::refused(Refusal::Length, i + 1, 2);
-            PartRead {
-                outcome,
-                strip: shortest,
-            }
-        }
+        StripMade::Length => PartRead::refused(Outcome::refused(Refusal::Length, n, 2)),
     }
+}
+
+// PART at line n: its strip, or why not.
+fn read_part(bytes: &[u8], ended: bool, n: u32) -> PartRead
+    ensures { λ r. ⌜ Part-read n (line (now (bytes .entry)) ended) r ⌝ }
+{
+    let line = read_line(bytes, ended, b"PART");
+    let layout = layout_outcome(line.worded, exactly(1, line.count), line.ill, n);
+    if !layout.is_accepted() {
+        return PartRead::refused(layout);
+    }
+    let values = line.values;
+    part_content(values[0], n)
 }
 
 // What a NETS line is found to be, and its channel's terminals; on a refusal none.
@@ -372,65 +216,38 @@ struct NetsRead {
     terminals: Terminals,
 }
 
-// The refusal for a fault of terminals on a line behind i others: place n in p(0), q(0), p(1), q(1) and so on is field n + 2.
-fn found_outcome(found: TerminalsFound, i: u32) -> Outcome
-    requires { ⌜ (place found < 64) × (i < 100) ⌝ }
-    ensures { λ r. ⌜ refusal-of r ≡ found-refusal i found ⌝ }
+// The refusal for a fault of terminals that line n supplies: place i in p(0), q(0), p(1), q(1) and so on is field i + 2.
+fn found_outcome(found: TerminalsFound, n: u32) -> Outcome
+    requires { ⌜ place found < 64 ⌝ }
+    ensures { λ r. ⌜ refusal-of r ≡ found-refusal n found ⌝ }
 {
     match found {
         TerminalsFound::Good => Outcome::Accepted,
-        TerminalsFound::Crowd => Outcome::refused(Refusal::Crowd, i + 1, 66),
-        TerminalsFound::Overhang(n) => Outcome::refused(Refusal::Overhang, i + 1, n as u32 + 2),
-        TerminalsFound::Crossing(n) => Outcome::refused(Refusal::Crossing, i + 1, n as u32 + 2),
+        TerminalsFound::Crowd => Outcome::refused(Refusal::Crowd, n, 66),
+        TerminalsFound::Overhang(i) => Outcome::refused(Refusal::Overhang, n, i as u32 + 2),
+        TerminalsFound::Crossing(i) => Outcome::refused(Refusal::Crossing, n, i as u32 + 2),
     }
 }
 
-// NETS behind i other lines, between two strips: the channel's terminals, or why not.
-fn read_nets(bytes: &[u8], ended: bool, i: u32, lower: Strip, upper: Strip) -> NetsRead
-    requires { ⌜ i < 100 ⌝ }
-    ensures { λ r. ⌜ Nets-read (lower .length .0) (upper .length .0) i (line (now (bytes .entry)) ended) r ⌝ }
+// NETS at line n between two strips: the channel's terminals, or why not.
+fn read_nets(bytes: &[u8], ended: bool, n: u32, lower: Strip, upper: Strip) -> NetsRead
+    ensures { λ r. ⌜ Nets-read (lower .length .0) (upper .length .0) n (line (now (bytes .entry)) ended) r ⌝ }
 {
-    let numbers = read_line(bytes, ended, b"NETS");
-    let none = Terminals::none();
-    let count = numbers.count;
-    if !numbers.good {
-        let outcome = Outcome::refused(Refusal::Layout, i + 1, 0);
+    let line = read_line(bytes, ended, b"NETS");
+    let count = line.count;
+    let layout = layout_outcome(line.worded, in_pairs(count), line.ill, n);
+    if !layout.is_accepted() {
         return NetsRead {
-            outcome,
-            terminals: none,
+            outcome: layout,
+            terminals: Terminals::none(),
         };
     }
-    if count % 2 != 0 {
-        let outcome = Outcome::refused(Refusal::Layout, i + 1, 0);
-        return NetsRead {
-            outcome,
-            terminals: none,
-        };
-    }
-    let values = numbers.values;
+    let values = line.values;
     let made = Terminals::new(&values, count / 2, lower, upper);
     let found = made.found;
     let terminals = made.terminals;
-    let outcome = found_outcome(found, i);
+    let outcome = found_outcome(found, n);
     NetsRead { outcome, terminals }
-}
-
-// Where a line ends, and whether by a line feed.
-struct LineEnd {
-    end: usize,
-    ended: bool,
-}
-
-// The end of the line that begins at a place.
-fn line_end(text: &[u8], at: usize) -> LineEnd
-    requires { ⌜ at ≤ length (now text) ⌝ }
-    ensures { λ r. ⌜ Line-from (now (text .entry)) at r ⌝ }
-{
-    let end = at + run(&text[at..], LINE_FEED);
-    LineEnd {
-        end,
-        ended: end < text.len(),
-    }
 }
 
 // How far a text has been read: what was found, where the next line begins, and the stack so far.
@@ -458,13 +275,13 @@ fn take_head(text: &[u8]) -> Progress
 
 // The PART line of strip i.
 fn take_part(text: &[u8], p: Progress, i: usize) -> Progress
-    requires { ⌜ (p .at ≤ length (now text)) × (i ≤ p .stack .count) × (p .stack .count ≤ 8) ⌝ }
-    ensures { λ r. ⌜ Part-taken (now (text .entry)) p i r ⌝ }
+    requires { ⌜ Parting (now text) i p × (i ≤ p .stack .count) ⌝ }
+    ensures { λ r. ⌜ Part-taken (now (text .entry)) i r ⌝ }
 {
     let at = p.at;
     let line = line_end(text, at);
     let end = line.end;
-    let part = read_part(&text[at..end], line.ended, i as u32 + 1);
+    let part = read_part(&text[at..end], line.ended, i as u32 + 2);
     let outcome = part.outcome;
     let strip = part.strip;
     let old = p.stack;
@@ -499,17 +316,17 @@ fn take_parts(text: &[u8], head: Progress) -> Progress
 
 // The NETS line of the channel between strips c and c + 1.
 fn take_nets(text: &[u8], p: Progress, c: usize) -> Progress
-    requires { ⌜ (p .at ≤ length (now text)) × (c < p .stack .count) × (p .stack .count ≤ 8) ⌝ }
-    ensures { λ r. ⌜ Nets-taken (now (text .entry)) p c r ⌝ }
+    requires { ⌜ Wiring (now text) c p × (c < p .stack .count) ⌝ }
+    ensures { λ r. ⌜ Nets-taken (now (text .entry)) c r ⌝ }
 {
     let at = p.at;
     let line = line_end(text, at);
     let end = line.end;
     let old = p.stack;
-    let i = old.count + 2 + c;
+    let n = (old.count + c) as u32 + 3;
     let lower = old.strips[c];
     let upper = old.strips[c + 1];
-    let nets = read_nets(&text[at..end], line.ended, i as u32, lower, upper);
+    let nets = read_nets(&text[at..end], line.ended, n, lower, upper);
     let outcome = nets.outcome;
     let terminals = nets.terminals;
     let stack = old.with_channel(c, terminals);

@@ -12,10 +12,10 @@ use Rattle.answer.proofs.fill_limits.Statement.{statement}
 use Rattle.answer.proofs.fill_limits.Tie as tie
 
 abbrev Inv-loop : tie.InvT-loop
-Inv-loop low₀ high₀ counts₀ stack channels i₀ low high counts i = (i ≤ channels) × Limits-in (stack-of stack) i low high counts
+Inv-loop limits₀ lasts₀ stack channels i₀ limits lasts i = (i ≤ channels) × Limits-in (stack-of stack) i limits lasts
 
 abbrev μ-loop : tie.MeasureT-loop
-μ-loop low₀ high₀ counts₀ stack channels i₀ low high counts i = channels - i
+μ-loop limits₀ lasts₀ stack channels i₀ limits lasts i = channels - i
 
 loop-holds : tie.Need-loop-holds Inv-loop μ-loop
 loop-holds c = (omega arith, c .pre .1)
@@ -30,31 +30,55 @@ channel-limits-requires : tie.Need-channel-limits-requires Inv-loop μ-loop
 channel-limits-requires c κs = few-pairs (c .before .before .before .args .t1) (c .before .before .before .pre .0) (c .before .before .loop .i) (c .before .loop-test .taken)
 
 mul-lows : tie.Need-mul-lows Inv-loop μ-loop
-mul-lows c = omega (arith, few-channels (c .before .before .before .before .before .before .args .t1) (c .before .before .before .before .before .before .pre .0))
+mul-lows c =
+    let a = c .before .before .before .before .before .before in
+    omega (arith, few-channels (a .args .t1) (a .pre .0))
 
-element-set-from-lows : tie.Need-element-set-from-lows Inv-loop μ-loop
-element-set-from-lows c = omega (arith, few-channels (c .before .before .before .before .before .before .args .t1) (c .before .before .before .before .before .before .pre .0))
+index-1-lows : tie.Need-index-1-lows Inv-loop μ-loop
+index-1-lows c =
+    let a = c .before .before .before .before .before .before in
+    omega (arith, few-channels (a .args .t1) (a .pre .0))
+
+index-2-lows : tie.Need-index-2-lows Inv-loop μ-loop
+index-2-lows c = search needs
 
 mul-highs : tie.Need-mul-highs Inv-loop μ-loop
-mul-highs c = omega (arith, few-channels (c .before .before .before .before .before .before .args .t1) (c .before .before .before .before .before .before .pre .0))
+mul-highs c =
+    let a = c .before .before .before .before .before .before in
+    omega (arith, few-channels (a .args .t1) (a .pre .0))
 
-element-set-from-highs : tie.Need-element-set-from-highs Inv-loop μ-loop
-element-set-from-highs c = omega (arith, few-channels (c .before .before .before .before .before .before .args .t1) (c .before .before .before .before .before .before .pre .0))
+index-1-highs : tie.Need-index-1-highs Inv-loop μ-loop
+index-1-highs c =
+    let a = c .before .before .before .before .before .before in
+    omega (arith, few-channels (a .args .t1) (a .pre .0))
 
-mul-counts : tie.Need-mul-counts Inv-loop μ-loop
-mul-counts c = omega (arith, few-channels (c .before .before .before .before .before .before .args .t1) (c .before .before .before .before .before .before .pre .0))
+index-2-highs : tie.Need-index-2-highs Inv-loop μ-loop
+index-2-highs c = search needs
 
-element-write-counts : tie.Need-element-write-counts Inv-loop μ-loop
-element-write-counts c = omega (arith, few-channels (c .before .before .before .before .before .before .args .t1) (c .before .before .before .before .before .before .pre .0))
+last-use-requires : tie.Need-last-use-requires Inv-loop μ-loop
+last-use-requires c κs = search needs
+
+mul-lasts : tie.Need-mul-lasts Inv-loop μ-loop
+mul-lasts c =
+    let a = c .before .before .before .before .before .before .before in
+    omega (arith, few-channels (a .args .t1) (a .pre .0))
+
+element-write-lasts : tie.Need-element-write-lasts Inv-loop μ-loop
+element-write-lasts c =
+    let a = c .before .before .before .before .before .before .before in
+    omega (arith, few-channels (a .args .t1) (a .pre .0))
 
 add-i : tie.Need-add-i Inv-loop μ-loop
 add-i c = search needs
 
 loop-less : tie.Need-loop-less Inv-loop μ-loop
-loop-less c = falls _ _ (c .before .before .before .before .loop-test .taken)
+loop-less c = falls _ _ (c .before .before .before .before .before .loop-test .taken)
 
 loop-again : tie.Need-loop-again Inv-loop μ-loop
-loop-again c = (omega arith, limits-step (c .before .before .before .before .before .before .args .t1) (c .before .before .before .before .before .loop .i) _ _ _ (c .before .before .channel-limits .result) (c .before .before .before .before .loop-test .taken) (few-channels (c .before .before .before .before .before .before .args .t1) (c .before .before .before .before .before .before .pre .0)) (c .before .before .before .before .before .loop .inv .1) (c .before .before .channel-limits .ensures))
+loop-again c =
+    let b = c .before .before .before .before .before .before in
+    let a = b .before in
+    (omega arith, limits-step (a .args .t1) (b .loop .i) _ _ _ (c .before .before .before .channel-limits .result) (c .before .before .before .before .before .loop-test .taken) (few-channels (a .args .t1) (a .pre .0)) (b .loop .inv .1) (c .before .before .before .channel-limits .ensures) (c .last-use .ensures))
 
 returns : tie.Need-returns Inv-loop μ-loop
 returns c = let z : c .before .loop .i ≡ c .before .before .args .t1 .count = omega arith in rw z at (c .before .loop .inv .1)
@@ -70,11 +94,14 @@ fill-limits-spec =
     element-copy-out-terminals
     channel-limits-requires
     mul-lows
-    element-set-from-lows
+    index-1-lows
+    index-2-lows
     mul-highs
-    element-set-from-highs
-    mul-counts
-    element-write-counts
+    index-1-highs
+    index-2-highs
+    last-use-requires
+    mul-lasts
+    element-write-lasts
     add-i
     loop-less
     loop-again

@@ -12,10 +12,10 @@ use Rattle.answer.proofs.fill_windows.Statement.{statement}
 use Rattle.answer.proofs.fill_windows.Tie as tie
 
 abbrev Inv-loop : tie.InvT-loop
-Inv-loop spread upto₀ stack strips i₀ upto i = (i ≤ strips) × Windows-in (stack-of stack) i spread upto
+Inv-loop spread windows₀ stack strips i₀ windows i = (i ≤ strips) × Windows-in (stack-of stack) i spread windows
 
 abbrev μ-loop : tie.MeasureT-loop
-μ-loop spread upto₀ stack strips i₀ upto i = strips - i
+μ-loop spread windows₀ stack strips i₀ windows i = strips - i
 
 add-strips : tie.Need-add-strips Inv-loop μ-loop
 add-strips c = omega (arith, few-channels (c .args .t1) (c .pre .0))
@@ -38,11 +38,15 @@ wide-requires c κs = search needs
 difference-requires : tie.Need-difference-requires Inv-loop μ-loop
 difference-requires c κs = search needs
 
-mul-upto : tie.Need-mul-upto Inv-loop μ-loop
-mul-upto c = omega (arith, few-channels (c .before .before .before .before .before .args .t1) (c .before .before .before .before .before .pre .0))
+mul-t10 : tie.Need-mul-t10 Inv-loop μ-loop
+mul-t10 c =
+    let a = c .before .before .before .before .before in
+    omega (arith, few-channels (a .args .t1) (a .pre .0))
 
-element-write-upto : tie.Need-element-write-upto Inv-loop μ-loop
-element-write-upto c = omega (arith, few-channels (c .before .before .before .before .before .args .t1) (c .before .before .before .before .before .pre .0))
+element-set-from-windows : tie.Need-element-set-from-windows Inv-loop μ-loop
+element-set-from-windows c =
+    let a = c .before .before .before .before .before in
+    omega (arith, few-channels (a .args .t1) (a .pre .0))
 
 add-i : tie.Need-add-i Inv-loop μ-loop
 add-i c = omega (arith, few-channels (c .before .before .before .before .before .args .t1) (c .before .before .before .before .before .pre .0))
@@ -51,7 +55,10 @@ loop-less : tie.Need-loop-less Inv-loop μ-loop
 loop-less c = falls _ _ (c .before .before .before .loop-test .taken)
 
 loop-again : tie.Need-loop-again Inv-loop μ-loop
-loop-again c = (omega arith, windows-step (c .before .before .before .before .before .args .t1) (c .before .before .before .before .loop .i) (c .before .before .before .before .before .args .spread) (c .difference .result) _ (omega arith) (few-channels (c .before .before .before .before .before .args .t1) (c .before .before .before .before .before .pre .0)) (c .before .before .before .before .loop .inv .1) (omega (arith, c .difference .ensures, c .before .wide .ensures)))
+loop-again c =
+    let b = c .before .before .before .before in
+    let a = b .before in
+    (omega arith, windows-step (a .args .t1) (b .loop .i) (a .args .spread) (c .difference .result) _ (omega arith) (few-channels (a .args .t1) (a .pre .0)) (b .loop .inv .1) (omega (arith, c .difference .ensures, c .before .wide .ensures)))
 
 returns : tie.Need-returns Inv-loop μ-loop
 returns c = let z : c .before .loop .i ≡ suc (c .before .before .args .t1 .count) = omega arith in rw z at (c .before .loop .inv .1)
@@ -69,8 +76,8 @@ fill-windows-spec =
     add-difference
     wide-requires
     difference-requires
-    mul-upto
-    element-write-upto
+    mul-t10
+    element-set-from-windows
     add-i
     loop-less
     loop-again

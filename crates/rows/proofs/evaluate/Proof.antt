@@ -9,10 +9,12 @@ fill-windows-requires : tie.Need-fill-windows-requires
 fill-windows-requires c κs = (c .before .pre .held .good, windows-start (stack-of (c .before .args .stack)) (c .before .args .spread) _ (c .before .pre .sized-windows))
 
 scan-totals-requires : tie.Need-scan-totals-requires
-scan-totals-requires c κs = evaluate-scan-asks (c .before .before .before .before .before .before .args .stack) (c .before .before .before .before .before .before .args .spread) _ _ _ _ (c .before .before .before .before .before .before .fits .spread .fits) (c .before .before .before .before .before .before .pre .wide) (c .before .before .before .before .before .before .pre .held) (c .before .before .before .before .fill-windows .ensures) (c .before .before .before .before .before .before .args .cap) _ _ _ (c .before .before .before .before .before .before .pre)
+scan-totals-requires c κs =
+    let a = c .before .before .before .before in
+    evaluate-scan-asks (a .args .stack) (a .args .spread) _ _ _ (a .fits .spread .fits) (a .pre .wide) (a .pre .held) (c .before .before .fill-windows .ensures) (a .args .cap) _ _ (a .pre)
 
 returns : tie.Need-returns
-returns c = record { windows = c .before .before .before .before .before .fill-windows .ensures; scanned = c .scan-totals .ensures }
+returns c = record { spread-windows = c .before .before .before .fill-windows .ensures; scanned = c .scan-totals .ensures }
 
 pub evaluate-spec : {M : Type 1} → statement M
 evaluate-spec = tie.close (tie.spec fill-windows-requires scan-totals-requires returns)

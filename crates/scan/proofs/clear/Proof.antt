@@ -9,13 +9,13 @@ use Rattle.scan.proofs.clear.Statement.{statement}
 use Rattle.scan.proofs.clear.Tie as tie
 
 abbrev Inv-loop : tie.InvT-loop
-Inv-loop from upto k cap froms₀ uptos₀ i₀ froms uptos i = (i ≤ k) × Cleared from upto i 0 cap froms uptos
+Inv-loop windows k cap table₀ i₀ table i = (i ≤ k) × Cleared windows i 0 cap table
 
 abbrev μ-loop : tie.MeasureT-loop
-μ-loop from upto k cap froms₀ uptos₀ i₀ froms uptos i = k - i
+μ-loop windows k cap table₀ i₀ table i = k - i
 
 loop-holds : tie.Need-loop-holds Inv-loop μ-loop
-loop-holds c = (omega arith, clear-start _ _ _ _ _ (c .pre .2) (c .pre .3))
+loop-holds c = (omega arith, clear-start _ _ _ (c .pre .2))
 
 mul-clear-row : tie.Need-mul-clear-row Inv-loop μ-loop
 mul-clear-row c = search needs
@@ -23,29 +23,31 @@ mul-clear-row c = search needs
 index-1-clear-row : tie.Need-index-1-clear-row Inv-loop μ-loop
 index-1-clear-row c = search needs
 
-mul-clear-row-2 : tie.Need-mul-clear-row-2 Inv-loop μ-loop
-mul-clear-row-2 c = search needs
-
-index-1-clear-row-2 : tie.Need-index-1-clear-row-2 Inv-loop μ-loop
-index-1-clear-row-2 c = search needs
-
 mul-greater : tie.Need-mul-greater Inv-loop μ-loop
 mul-greater c = search needs
 
-element-copy-out-greater : tie.Need-element-copy-out-greater Inv-loop μ-loop
-element-copy-out-greater c = search needs
+index-1-greater : tie.Need-index-1-greater Inv-loop μ-loop
+index-1-greater c = search needs
+
+index-2-greater : tie.Need-index-2-greater Inv-loop μ-loop
+index-2-greater c = search needs
 
 mul-greater-2 : tie.Need-mul-greater-2 Inv-loop μ-loop
 mul-greater-2 c = search needs
 
-element-copy-out-greater-2 : tie.Need-element-copy-out-greater-2 Inv-loop μ-loop
-element-copy-out-greater-2 c = search needs
+index-1-greater-2 : tie.Need-index-1-greater-2 Inv-loop μ-loop
+index-1-greater-2 c = search needs
+
+index-2-greater-2 : tie.Need-index-2-greater-2 Inv-loop μ-loop
+index-2-greater-2 c = search needs
 
 greater-requires : tie.Need-greater-requires Inv-loop μ-loop
 greater-requires c κs = search needs
 
 clear-row-requires : tie.Need-clear-row-requires Inv-loop μ-loop
-clear-row-requires c κs = (c .before .before .before .before .before .before .before .pre .1, c .before .before .before .before .before .before .loop .inv .1 .sized-froms .cells (c .before .before .before .before .before .before .loop .i) (omega arith), c .before .before .before .before .before .before .loop .inv .1 .sized-uptos .cells (c .before .before .before .before .before .before .loop .i) (omega arith))
+clear-row-requires c κs =
+    let b = c .before .before .before .before .before in
+    (b .before .pre .1, b .loop .inv .1 .sized .rows (b .loop .i) (omega arith))
 
 add-i : tie.Need-add-i Inv-loop μ-loop
 add-i c = search needs
@@ -54,7 +56,9 @@ loop-less : tie.Need-loop-less Inv-loop μ-loop
 loop-less c = search needs
 
 loop-again : tie.Need-loop-again Inv-loop μ-loop
-loop-again c = (omega arith, clear-step _ _ (c .before .before .before .before .before .before .before .loop .i) (c .before .before .before .before .before .before .before .before .args .cap) (c .before .greater .result) _ _ _ _ (omega arith) (c .before .before .before .before .before .before .before .loop .inv .1) (c .before .greater .ensures) (c .clear-row .ensures .0) (c .clear-row .ensures .1))
+loop-again c =
+    let b = c .before .before .before .before .before .before in
+    (omega arith, clear-step _ (b .loop .i) (b .before .args .cap) (c .before .greater .result) _ _ (omega arith) (b .loop .inv .1) (c .before .greater .ensures) (c .clear-row .ensures))
 
 returns : tie.Need-returns Inv-loop μ-loop
 returns c = let z : c .before .loop .i ≡ c .before .before .args .k = omega arith in rw z at (c .before .loop .inv .1)
@@ -68,12 +72,12 @@ clear-spec =
     loop-holds
     mul-clear-row
     index-1-clear-row
-    mul-clear-row-2
-    index-1-clear-row-2
     mul-greater
-    element-copy-out-greater
+    index-1-greater
+    index-2-greater
     mul-greater-2
-    element-copy-out-greater-2
+    index-1-greater-2
+    index-2-greater-2
     greater-requires
     clear-row-requires
     add-i

@@ -9,13 +9,13 @@ use Rattle.scan.proofs.least_opens.Statement.{statement}
 use Rattle.scan.proofs.least_opens.Tie as tie
 
 abbrev Inv-loop : tie.InvT-loop
-Inv-loop low high counts k leasts₀ i₀ leasts i = (i ≤ k) × Leasts-are low high counts i leasts
+Inv-loop limits lasts k leasts₀ i₀ leasts i = (i ≤ k) × Leasts-are limits lasts i leasts
 
 abbrev μ-loop : tie.MeasureT-loop
-μ-loop low high counts k leasts₀ i₀ leasts i = k - i
+μ-loop limits lasts k leasts₀ i₀ leasts i = k - i
 
 loop-holds : tie.Need-loop-holds Inv-loop μ-loop
-loop-holds c = (omega arith, leasts-start (c .args .low .now) (c .args .high .now) (c .args .counts .now))
+loop-holds c = (omega arith, leasts-start _ _)
 
 mul-least-open : tie.Need-mul-least-open Inv-loop μ-loop
 mul-least-open c = search needs
@@ -26,17 +26,11 @@ index-1-least-open c = search needs
 mul-least-open-2 : tie.Need-mul-least-open-2 Inv-loop μ-loop
 mul-least-open-2 c = search needs
 
-index-1-least-open-2 : tie.Need-index-1-least-open-2 Inv-loop μ-loop
-index-1-least-open-2 c = search needs
-
-mul-least-open-3 : tie.Need-mul-least-open-3 Inv-loop μ-loop
-mul-least-open-3 c = search needs
-
 element-copy-out-least-open : tie.Need-element-copy-out-least-open Inv-loop μ-loop
 element-copy-out-least-open c = search needs
 
 least-open-requires : tie.Need-least-open-requires Inv-loop μ-loop
-least-open-requires c κs = c .before .before .before .before .before .pre .listed (c .before .before .before .before .loop .i) (c .before .before .before .loop-test .taken)
+least-open-requires c κs = c .before .before .before .before .pre .listed (c .before .before .before .loop .i) (c .before .before .loop-test .taken)
 
 mul-leasts : tie.Need-mul-leasts Inv-loop μ-loop
 mul-leasts c = search needs
@@ -51,7 +45,10 @@ loop-less : tie.Need-loop-less Inv-loop μ-loop
 loop-less c = search needs
 
 loop-again : tie.Need-loop-again Inv-loop μ-loop
-loop-again c = (omega arith, leasts-step (c .before .before .before .before .before .before .args .low .now) (c .before .before .before .before .before .before .args .high .now) (c .before .before .before .before .before .before .args .counts .now) (c .before .before .before .before .before .loop .i) (c .least-open .result) (c .before .before .before .before .before .loop .leasts) (omega (arith, c .before .before .before .before .before .before .pre .channels)) (c .before .before .before .before .before .loop .inv .1) (c .least-open .ensures))
+loop-again c =
+    let b = c .before .before .before .before in
+    let a = b .before in
+    (omega arith, leasts-step _ _ (b .loop .i) (c .least-open .result) (b .loop .leasts) (omega (arith, a .pre .channels)) (b .loop .inv .1) (c .least-open .ensures))
 
 returns : tie.Need-returns Inv-loop μ-loop
 returns c = let z : c .before .loop .i ≡ c .before .before .args .k = omega arith in rw z at (c .before .loop .inv .1)
@@ -66,8 +63,6 @@ least-opens-spec =
     mul-least-open
     index-1-least-open
     mul-least-open-2
-    index-1-least-open-2
-    mul-least-open-3
     element-copy-out-least-open
     least-open-requires
     mul-leasts

@@ -10,13 +10,13 @@ use Rattle.scan.proofs.scan_total.Statement.{statement}
 use Rattle.scan.proofs.scan_total.Tie as tie
 
 abbrev Inv-loop : tie.InvT-loop
-Inv-loop low high counts from upto leasts sums k v before empties₀ froms₀ uptos₀ jump₀ i₀ empties froms uptos jump i = (i ≤ k) × Scanning (given low high counts from upto) k v i froms uptos jump × Empties-are k v i froms uptos empties × Only-at v i froms₀ uptos₀ froms uptos
+Inv-loop limits lasts windows plan empties₀ table₀ v jump₀ i₀ empties table jump i = (i ≤ i₀) × Scanning (given limits lasts windows) i₀ v i table jump × Empties-are i₀ v i table empties × Only-at v i table₀ table
 
 abbrev μ-loop : tie.MeasureT-loop
-μ-loop low high counts from upto leasts sums k v before empties₀ froms₀ uptos₀ jump₀ i₀ empties froms uptos jump i = i
+μ-loop limits lasts windows plan empties₀ table₀ v jump₀ i₀ empties table jump i = i
 
 loop-holds : tie.Need-loop-holds Inv-loop μ-loop
-loop-holds c = (omega arith, c .pre .tables, c .pre .empties, only-start _ _ _ _)
+loop-holds c = (omega arith, c .pre .tables, c .pre .empties, only-start _ _ _)
 
 sub-i : tie.Need-sub-i Inv-loop μ-loop
 sub-i c = search needs
@@ -24,8 +24,11 @@ sub-i c = search needs
 mul-bound : tie.Need-mul-bound Inv-loop μ-loop
 mul-bound c = search needs
 
-element-copy-out-bound : tie.Need-element-copy-out-bound Inv-loop μ-loop
-element-copy-out-bound c = search needs
+index-1-bound : tie.Need-index-1-bound Inv-loop μ-loop
+index-1-bound c = search needs
+
+index-2-bound : tie.Need-index-2-bound Inv-loop μ-loop
+index-2-bound c = search needs
 
 add-bound : tie.Need-add-bound Inv-loop μ-loop
 add-bound c = search needs
@@ -33,20 +36,81 @@ add-bound c = search needs
 mul-bound-2 : tie.Need-mul-bound-2 Inv-loop μ-loop
 mul-bound-2 c = search needs
 
-element-copy-out-bound-2 : tie.Need-element-copy-out-bound-2 Inv-loop μ-loop
-element-copy-out-bound-2 c = search needs
+element-copy-out-bound : tie.Need-element-copy-out-bound Inv-loop μ-loop
+element-copy-out-bound c = search needs
 
 add-bound-2 : tie.Need-add-bound-2 Inv-loop μ-loop
-add-bound-2 c = omega (arith, bound-room (given (c .before .before .before .before .args .low .now) (c .before .before .before .before .args .high .now) (c .before .before .before .before .args .counts .now) (c .before .before .before .before .args .from .now) (c .before .before .before .before .args .upto .now)) (c .before .before .before .before .args .k) (c .before .before .before .before .args .v) _ _ _ _ _ _ (c .before .before .before .before .pre) (c .before .before .before .loop .i) _ _ _ _ (c .before .before .loop-test .taken) (c .before .before .before .loop .inv .0) (c .before .before .before .loop .inv .1) (c .before .before .before .loop .inv .2) (c .before .before .before .loop .inv .3))
+add-bound-2 c =
+    let b = c .before .before .before in
+    omega (arith, bound-room _ _ _ _ _ _ _ (b .before .pre) (b .loop .i) _ _ _ (c .before .before .loop-test .taken) (b .loop .inv .0) (b .loop .inv .1) (b .loop .inv .2) (b .loop .inv .3))
 
 returns : tie.Need-returns Inv-loop μ-loop
-returns c = total-none (given (c .before .before .before .before .before .args .low .now) (c .before .before .before .before .before .args .high .now) (c .before .before .before .before .before .args .counts .now) (c .before .before .before .before .before .args .from .now) (c .before .before .before .before .before .args .upto .now)) (c .before .before .before .before .before .args .k) (c .before .before .before .before .before .args .v) _ _ _ _ _ _ (c .before .before .before .before .before .pre) (c .before .before .before .before .loop .i) _ _ _ _ (c .before .before .before .loop-test .taken) (c .before .before .before .before .loop .inv .0) (c .before .before .before .before .loop .inv .1) (c .before .before .before .before .loop .inv .2) (c .before .before .before .before .loop .inv .3) (c .if1 .taken)
+returns c =
+    let b = c .before .before .before .before in
+    total-none _ _ _ _ _ _ _ (b .before .pre) (b .loop .i) _ _ _ (c .before .before .before .loop-test .taken) (b .loop .inv .0) (b .loop .inv .1) (b .loop .inv .2) (b .loop .inv .3) (c .if1 .taken)
 
 mul-if2 : tie.Need-mul-if2 Inv-loop μ-loop
 mul-if2 c = search needs
 
-element-copy-out-if2 : tie.Need-element-copy-out-if2 Inv-loop μ-loop
-element-copy-out-if2 c = search needs
+index-1-if2 : tie.Need-index-1-if2 Inv-loop μ-loop
+index-1-if2 c = search needs
+
+index-2-if2 : tie.Need-index-2-if2 Inv-loop μ-loop
+index-2-if2 c = search needs
+
+mul-empties : tie.Need-mul-empties Inv-loop μ-loop
+mul-empties c = search needs
+
+index-1-empties : tie.Need-index-1-empties Inv-loop μ-loop
+index-1-empties c = search needs
+
+index-2-empties : tie.Need-index-2-empties Inv-loop μ-loop
+index-2-empties c = search needs
+
+mul-t36 : tie.Need-mul-t36 Inv-loop μ-loop
+mul-t36 c = search needs
+
+element-copy-out-t39 : tie.Need-element-copy-out-t39 Inv-loop μ-loop
+element-copy-out-t39 c = search needs
+
+add-t40 : tie.Need-add-t40 Inv-loop μ-loop
+add-t40 c = search needs
+
+mul-t43 : tie.Need-mul-t43 Inv-loop μ-loop
+mul-t43 c = search needs
+
+index-1-t46 : tie.Need-index-1-t46 Inv-loop μ-loop
+index-1-t46 c = search needs
+
+index-2-t46 : tie.Need-index-2-t46 Inv-loop μ-loop
+index-2-t46 c = search needs
+
+add-t47 : tie.Need-add-t47 Inv-loop μ-loop
+add-t47 c = search needs
+
+mul-t48 : tie.Need-mul-t48 Inv-loop μ-loop
+mul-t48 c = search needs
+
+element-copy-out-t51 : tie.Need-element-copy-out-t51 Inv-loop μ-loop
+element-copy-out-t51 c = search needs
+
+mul-t52 : tie.Need-mul-t52 Inv-loop μ-loop
+mul-t52 c = search needs
+
+index-1-t57 : tie.Need-index-1-t57 Inv-loop μ-loop
+index-1-t57 c = search needs
+
+index-2-t57 : tie.Need-index-2-t57 Inv-loop μ-loop
+index-2-t57 c = search needs
+
+mul-t58 : tie.Need-mul-t58 Inv-loop μ-loop
+mul-t58 c = search needs
+
+index-1-t63 : tie.Need-index-1-t63 Inv-loop μ-loop
+index-1-t63 c = search needs
+
+index-2-t63 : tie.Need-index-2-t63 Inv-loop μ-loop
+index-2-t63 c = search needs
 
 mul-scan-strip : tie.Need-mul-scan-strip Inv-loop μ-loop
 mul-scan-strip c = search needs
@@ -54,56 +118,10 @@ mul-scan-strip c = search needs
 index-1-scan-strip : tie.Need-index-1-scan-strip Inv-loop μ-loop
 index-1-scan-strip c = search needs
 
-mul-scan-strip-2 : tie.Need-mul-scan-strip-2 Inv-loop μ-loop
-mul-scan-strip-2 c = search needs
-
-index-1-scan-strip-2 : tie.Need-index-1-scan-strip-2 Inv-loop μ-loop
-index-1-scan-strip-2 c = search needs
-
-mul-scan-strip-3 : tie.Need-mul-scan-strip-3 Inv-loop μ-loop
-mul-scan-strip-3 c = search needs
-
-element-copy-out-scan-strip : tie.Need-element-copy-out-scan-strip Inv-loop μ-loop
-element-copy-out-scan-strip c = search needs
-
-mul-scan-strip-4 : tie.Need-mul-scan-strip-4 Inv-loop μ-loop
-mul-scan-strip-4 c = search needs
-
-element-copy-out-scan-strip-2 : tie.Need-element-copy-out-scan-strip-2 Inv-loop μ-loop
-element-copy-out-scan-strip-2 c = search needs
-
-add-scan-strip : tie.Need-add-scan-strip Inv-loop μ-loop
-add-scan-strip c = search needs
-
-mul-scan-strip-5 : tie.Need-mul-scan-strip-5 Inv-loop μ-loop
-mul-scan-strip-5 c = search needs
-
-element-copy-out-scan-strip-3 : tie.Need-element-copy-out-scan-strip-3 Inv-loop μ-loop
-element-copy-out-scan-strip-3 c = search needs
-
-add-scan-strip-2 : tie.Need-add-scan-strip-2 Inv-loop μ-loop
-add-scan-strip-2 c = search needs
-
-mul-scan-strip-6 : tie.Need-mul-scan-strip-6 Inv-loop μ-loop
-mul-scan-strip-6 c = search needs
-
-element-copy-out-scan-strip-4 : tie.Need-element-copy-out-scan-strip-4 Inv-loop μ-loop
-element-copy-out-scan-strip-4 c = search needs
-
-mul-scan-strip-7 : tie.Need-mul-scan-strip-7 Inv-loop μ-loop
-mul-scan-strip-7 c = search needs
-
-element-copy-out-scan-strip-5 : tie.Need-element-copy-out-scan-strip-5 Inv-loop μ-loop
-element-copy-out-scan-strip-5 c = search needs
-
-mul-scan-strip-8 : tie.Need-mul-scan-strip-8 Inv-loop μ-loop
-mul-scan-strip-8 c = search needs
-
-element-copy-out-scan-strip-6 : tie.Need-element-copy-out-scan-strip-6 Inv-loop μ-loop
-element-copy-out-scan-strip-6 c = search needs
-
 scan-strip-requires : tie.Need-scan-strip-requires Inv-loop μ-loop
-scan-strip-requires c κs = total-strip-asks (given (c .before .before .before .before .before .before .before .before .before .before .before .before .before .before .before .before .before .args .low .now) (c .before .before .before .before .before .before .before .before .before .before .before .before .before .before .before .before .before .args .high .now) (c .before .before .before .before .before .before .before .before .before .before .before .before .before .before .before .before .before .args .counts .now) (c .before .before .before .before .before .before .before .before .before .before .before .before .before .before .before .before .before .args .from .now) (c .before .before .before .before .before .before .before .before .before .before .before .before .before .before .before .before .before .args .upto .now)) (c .before .before .before .before .before .before .before .before .before .before .before .before .before .before .before .before .before .args .k) (c .before .before .before .before .before .before .before .before .before .before .before .before .before .before .before .before .before .args .v) _ _ _ _ _ _ (c .before .before .before .before .before .before .before .before .before .before .before .before .before .before .before .before .before .pre) (c .before .before .before .before .before .before .before .before .before .before .before .before .before .before .before .before .loop .i) _ _ _ _ (c .before .before .before .before .before .before .before .before .before .before .before .before .before .before .before .loop-test .taken) (c .before .before .before .before .before .before .before .before .before .before .before .before .before .before .before .before .loop .inv .0) (c .before .before .before .before .before .before .before .before .before .before .before .before .before .before .before .before .loop .inv .1) (c .before .before .before .before .before .before .before .before .before .before .before .before .before .before .before .before .loop .inv .2) (c .before .before .before .before .before .before .before .before .before .before .before .before .before .before .before .before .loop .inv .3) (c .before .before .before .before .before .before .before .before .before .before .if2 .taken)
+scan-strip-requires c κs =
+    let b = c .before .before .before .before .before .before .before .before .before .before .before .before .before .before in
+    total-strip-asks _ _ _ _ _ _ _ (b .before .pre) (b .loop .i) _ _ _ (c .before .before .before .before .before .before .before .before .before .before .before .before .before .loop-test .taken) (b .loop .inv .0) (b .loop .inv .1) (b .loop .inv .2) (b .loop .inv .3) (c .before .before .before .before .before .before .before .before .if2 .taken)
 
 mul-count-empty : tie.Need-mul-count-empty Inv-loop μ-loop
 mul-count-empty c = search needs
@@ -114,8 +132,8 @@ element-copy-out-count-empty c = search needs
 count-empty-requires : tie.Need-count-empty-requires Inv-loop μ-loop
 count-empty-requires c κs = search needs
 
-mul-empties : tie.Need-mul-empties Inv-loop μ-loop
-mul-empties c = search needs
+mul-empties-2 : tie.Need-mul-empties-2 Inv-loop μ-loop
+mul-empties-2 c = search needs
 
 element-write-empties : tie.Need-element-write-empties Inv-loop μ-loop
 element-write-empties c = search needs
@@ -127,14 +145,19 @@ loop-less : tie.Need-loop-less Inv-loop μ-loop
 loop-less c = search needs
 
 loop-again : tie.Need-loop-again Inv-loop μ-loop
-loop-again c = let p = total-strip (given (c .before .before .before .before .before .before .before .before .before .before .before .before .before .before .before .before .before .before .before .before .before .args .low .now) (c .before .before .before .before .before .before .before .before .before .before .before .before .before .before .before .before .before .before .before .before .before .args .high .now) (c .before .before .before .before .before .before .before .before .before .before .before .before .before .before .before .before .before .before .before .before .before .args .counts .now) (c .before .before .before .before .before .before .before .before .before .before .before .before .before .before .before .before .before .before .before .before .before .args .from .now) (c .before .before .before .before .before .before .before .before .before .before .before .before .before .before .before .before .before .before .before .before .before .args .upto .now)) (c .before .before .before .before .before .before .before .before .before .before .before .before .before .before .before .before .before .before .before .before .before .args .k) (c .before .before .before .before .before .before .before .before .before .before .before .before .before .before .before .before .before .before .before .before .before .args .v) _ _ _ _ _ _ (c .before .before .before .before .before .before .before .before .before .before .before .before .before .before .before .before .before .before .before .before .before .pre) (c .before .before .before .before .before .before .before .before .before .before .before .before .before .before .before .before .before .before .before .before .loop .i) _ _ _ _ (c .before .before .before .before .before .before .before .before .before .before .before .before .before .before .before .before .before .before .before .loop-test .taken) (c .before .before .before .before .before .before .before .before .before .before .before .before .before .before .before .before .before .before .before .before .loop .inv .0) (c .before .before .before .before .before .before .before .before .before .before .before .before .before .before .before .before .before .before .before .before .loop .inv .1) (c .before .before .before .before .before .before .before .before .before .before .before .before .before .before .before .before .before .before .before .before .loop .inv .2) (c .before .before .before .before .before .before .before .before .before .before .before .before .before .before .before .before .before .before .before .before .loop .inv .3) (c .before .before .before .before .before .before .before .before .before .before .before .before .before .before .if2 .taken) (c .before .before .before .before .before .before .before .before .before .before .before .before .before .before .before .before .if1 .left) _ _ (c .before .before .before .scan-strip .result) (c .shorter .result) (c .before .count-empty .result) (c .before .before .before .scan-strip .ensures) (c .before .count-empty .ensures) (c .shorter .ensures) in
+loop-again c =
+    let b = c .before .before .before .before .before .before .before .before .before .before .before .before .before .before .before .before .before .before in
+    let p = total-strip _ _ _ _ _ _ _ (b .before .pre) (b .loop .i) _ _ _ (c .before .before .before .before .before .before .before .before .before .before .before .before .before .before .before .before .before .loop-test .taken) (b .loop .inv .0) (b .loop .inv .1) (b .loop .inv .2) (b .loop .inv .3) (c .before .before .before .before .before .before .before .before .before .before .before .before .if2 .taken) (c .before .before .before .before .before .before .before .before .before .before .before .before .before .before .if1 .left) _ (c .before .before .before .scan-strip .result) (c .shorter .result) (c .before .count-empty .result) (c .before .before .before .scan-strip .ensures) (c .before .count-empty .ensures) (c .shorter .ensures) in
     (omega arith, p .0, p .1, p .2)
 
 loop-less-2 : tie.Need-loop-less-2 Inv-loop μ-loop
 loop-less-2 c = search needs
 
 loop-again-2 : tie.Need-loop-again-2 Inv-loop μ-loop
-loop-again-2 c = let p = total-skip (given (c .before .before .before .before .before .before .before .args .low .now) (c .before .before .before .before .before .before .before .args .high .now) (c .before .before .before .before .before .before .before .args .counts .now) (c .before .before .before .before .before .before .before .args .from .now) (c .before .before .before .before .before .before .before .args .upto .now)) (c .before .before .before .before .before .before .before .args .k) (c .before .before .before .before .before .before .before .args .v) _ _ _ _ _ _ (c .before .before .before .before .before .before .before .pre) (c .before .before .before .before .before .before .loop .i) _ _ _ _ (c .before .before .before .before .before .loop-test .taken) (c .before .before .before .before .before .before .loop .inv .0) (c .before .before .before .before .before .before .loop .inv .1) (c .before .before .before .before .before .before .loop .inv .2) (c .before .before .before .before .before .before .loop .inv .3) (c .if2 .left) in (omega arith, p .0, p .1, p .2)
+loop-again-2 c =
+    let b = c .before .before .before .before .before .before in
+    let p = total-skip _ _ _ _ _ _ _ (b .before .pre) (b .loop .i) _ _ _ (c .before .before .before .before .before .loop-test .taken) (b .loop .inv .0) (b .loop .inv .1) (b .loop .inv .2) (b .loop .inv .3) (c .if2 .left) in
+    (omega arith, p .0, p .1, p .2)
 
 returns-2 : tie.Need-returns-2 Inv-loop μ-loop
 returns-2 c = let z : c .before .loop .i ≡ 0 = omega arith in (rw z at (c .before .loop .inv .1), rw z at (c .before .loop .inv .2), rw z at (c .before .loop .inv .3))
@@ -148,37 +171,41 @@ scan-total-spec =
     loop-holds
     sub-i
     mul-bound
-    element-copy-out-bound
+    index-1-bound
+    index-2-bound
     add-bound
     mul-bound-2
-    element-copy-out-bound-2
+    element-copy-out-bound
     add-bound-2
     returns
     mul-if2
-    element-copy-out-if2
+    index-1-if2
+    index-2-if2
+    mul-empties
+    index-1-empties
+    index-2-empties
+    mul-t36
+    element-copy-out-t39
+    add-t40
+    mul-t43
+    index-1-t46
+    index-2-t46
+    add-t47
+    mul-t48
+    element-copy-out-t51
+    mul-t52
+    index-1-t57
+    index-2-t57
+    mul-t58
+    index-1-t63
+    index-2-t63
     mul-scan-strip
     index-1-scan-strip
-    mul-scan-strip-2
-    index-1-scan-strip-2
-    mul-scan-strip-3
-    element-copy-out-scan-strip
-    mul-scan-strip-4
-    element-copy-out-scan-strip-2
-    add-scan-strip
-    mul-scan-strip-5
-    element-copy-out-scan-strip-3
-    add-scan-strip-2
-    mul-scan-strip-6
-    element-copy-out-scan-strip-4
-    mul-scan-strip-7
-    element-copy-out-scan-strip-5
-    mul-scan-strip-8
-    element-copy-out-scan-strip-6
     scan-strip-requires
     mul-count-empty
     element-copy-out-count-empty
     count-empty-requires
-    mul-empties
+    mul-empties-2
     element-write-empties
     shorter-requires
     loop-less

@@ -9,13 +9,13 @@ use Rattle.scan.proofs.sums_above.Statement.{statement}
 use Rattle.scan.proofs.sums_above.Tie as tie
 
 abbrev Inv-loop : tie.InvT-loop
-Inv-loop counts k sums₀ i₀ sums i = (i ≤ k) × Sums-are counts k i sums
+Inv-loop lasts k sums₀ i₀ sums i = (i ≤ k) × Sums-are lasts k i sums
 
 abbrev μ-loop : tie.MeasureT-loop
-μ-loop counts k sums₀ i₀ sums i = i
+μ-loop lasts k sums₀ i₀ sums i = i
 
 loop-holds : tie.Need-loop-holds Inv-loop μ-loop
-loop-holds c = (omega arith, sums-start (c .args .counts .now) (c .args .k) (c .pre))
+loop-holds c = (omega arith, sums-start (c .args .lasts .now) (c .args .k) (c .pre))
 
 sub-i : tie.Need-sub-i Inv-loop μ-loop
 sub-i c = search needs
@@ -36,7 +36,7 @@ array-read-sums : tie.Need-array-read-sums Inv-loop μ-loop
 array-read-sums c = omega (arith, c .before .before .before .pre .channels)
 
 add-sums-2 : tie.Need-add-sums-2 Inv-loop μ-loop
-add-sums-2 c = let room = sums-room (c .before .before .before .args .counts .now) (c .before .before .before .args .k) (c .before .before .loop .i) (c .before .before .loop .i - 1) (c .before .before .loop .sums) (c .before .before .before .pre) (c .before .before .loop .inv .1) (omega arith) (c .before .before .loop .inv .0) in omega arith
+add-sums-2 c = let room = sums-room (c .before .before .before .args .lasts .now) (c .before .before .before .args .k) (c .before .before .loop .i) (c .before .before .loop .i - 1) (c .before .before .loop .sums) (c .before .before .before .pre) (c .before .before .loop .inv .1) (omega arith) (c .before .before .loop .inv .0) in omega arith
 
 mul-sums-3 : tie.Need-mul-sums-3 Inv-loop μ-loop
 mul-sums-3 c = omega (arith, c .before .before .before .pre .channels)
@@ -48,7 +48,7 @@ loop-less : tie.Need-loop-less Inv-loop μ-loop
 loop-less c = search needs
 
 loop-again : tie.Need-loop-again Inv-loop μ-loop
-loop-again c = (omega arith, sums-step (c .before .before .before .args .counts .now) (c .before .before .before .args .k) (c .before .before .loop .i) (c .before .before .loop .i - 1) (c .before .before .loop .sums) (c .before .before .before .pre) (c .before .before .loop .inv .1) (omega arith) (c .before .before .loop .inv .0))
+loop-again c = (omega arith, sums-step (c .before .before .before .args .lasts .now) (c .before .before .before .args .k) (c .before .before .loop .i) (c .before .before .loop .i - 1) (c .before .before .loop .sums) (c .before .before .before .pre) (c .before .before .loop .inv .1) (omega arith) (c .before .before .loop .inv .0))
 
 returns : tie.Need-returns Inv-loop μ-loop
 returns c = let z : c .before .loop .i ≡ 0 = omega arith in rw z at (c .before .loop .inv .1)

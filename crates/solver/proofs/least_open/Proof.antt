@@ -2,7 +2,7 @@
 use Prim.Native.Nat.{suc, _-_}
 use native.Mathlib.Omega.{arith}
 use borrow.Author.Tests.{le-leb, lt-leb}
-use Rattle.solver.specs.Arrays.{entry}
+use Rattle.solver.specs.Arrays.{low-in, high-in}
 use Rattle.spans.specs.Solver.{opens, first-open}
 use Rattle.solver.specs.Loops.{Searching}
 use Rattle.solver.proofs.Loops.{opening-start, searching-hit, searching-miss, searching-end}
@@ -11,10 +11,10 @@ use Rattle.solver.proofs.least_open.Statement.{statement}
 use Rattle.solver.proofs.least_open.Tie as tie
 
 abbrev Inv-loop : tie.InvT-loop
-Inv-loop low high last q₀ q = Searching (opens (entry low) (entry high)) (suc last) q (first-open (entry low) (entry high) last)
+Inv-loop limits last q₀ q = Searching (opens (low-in limits) (high-in limits)) (suc last) q (first-open (low-in limits) (high-in limits) last)
 
 abbrev μ-loop : tie.MeasureT-loop
-μ-loop low high last q₀ q = suc last - q
+μ-loop limits last q₀ q = suc last - q
 
 loop-holds : tie.Need-loop-holds Inv-loop μ-loop
 loop-holds c = opening-start _ _ _
@@ -22,14 +22,20 @@ loop-holds c = opening-start _ _ _
 mul-if1 : tie.Need-mul-if1 Inv-loop μ-loop
 mul-if1 c = search needs
 
-element-copy-out-if1 : tie.Need-element-copy-out-if1 Inv-loop μ-loop
-element-copy-out-if1 c = search needs
+index-1-if1 : tie.Need-index-1-if1 Inv-loop μ-loop
+index-1-if1 c = search needs
+
+index-2-if1 : tie.Need-index-2-if1 Inv-loop μ-loop
+index-2-if1 c = search needs
 
 mul-if1-2 : tie.Need-mul-if1-2 Inv-loop μ-loop
 mul-if1-2 c = search needs
 
-element-copy-out-if1-2 : tie.Need-element-copy-out-if1-2 Inv-loop μ-loop
-element-copy-out-if1-2 c = search needs
+index-1-if1-2 : tie.Need-index-1-if1-2 Inv-loop μ-loop
+index-1-if1-2 c = search needs
+
+index-2-if1-2 : tie.Need-index-2-if1-2 Inv-loop μ-loop
+index-2-if1-2 c = search needs
 
 returns : tie.Need-returns Inv-loop μ-loop
 returns c = searching-hit _ _ _ _ (c .before .before .before .before .loop .inv) (omega arith) (le-leb _ _ (c .if1 .taken))
@@ -54,9 +60,11 @@ least-open-spec =
     μ-loop
     loop-holds
     mul-if1
-    element-copy-out-if1
+    index-1-if1
+    index-2-if1
     mul-if1-2
-    element-copy-out-if1-2
+    index-1-if1-2
+    index-2-if1-2
     returns
     add-q
     loop-less

@@ -12,10 +12,10 @@ use Rattle.solver.proofs.positions_for.Statement.{statement}
 use Rattle.solver.proofs.positions_for.Tie as tie
 
 abbrev Inv-loop : tie.InvT-loop
-Inv-loop low high counts from upto k ts starts xs₀ x₀ i₀ xs x i = Positioning (given low high counts from upto) k (tracks-of ts) i x (columns-of xs)
+Inv-loop limits lasts windows k ts starts xs₀ x₀ i₀ xs x i = Positioning (given limits lasts windows) k (tracks-of ts) i x (columns-of xs)
 
 abbrev μ-loop : tie.MeasureT-loop
-μ-loop low high counts from upto k ts starts xs₀ x₀ i₀ xs x i = k - i
+μ-loop limits lasts windows k ts starts xs₀ x₀ i₀ xs x i = k - i
 
 starts-for-requires : tie.Need-starts-for-requires Inv-loop μ-loop
 starts-for-requires c κs = search needs
@@ -23,8 +23,8 @@ starts-for-requires c κs = search needs
 array-read-x : tie.Need-array-read-x Inv-loop μ-loop
 array-read-x c = search needs
 
-cast-t20 : tie.Need-cast-t20 Inv-loop μ-loop
-cast-t20 c = omega (arith, position-small _ _ _ (c .before .pre) _ (c .starts-for .ensures) _ _ _ (positioning-start _ _ _ (c .before .pre) _ (c .starts-for .ensures)))
+cast-t18 : tie.Need-cast-t18 Inv-loop μ-loop
+cast-t18 c = omega (arith, position-small _ _ _ (c .before .pre) _ (c .starts-for .ensures) _ _ _ (positioning-start _ _ _ (c .before .pre) _ (c .starts-for .ensures)))
 
 array-set-from-xs : tie.Need-array-set-from-xs Inv-loop μ-loop
 array-set-from-xs c = search needs
@@ -43,6 +43,9 @@ mul-next c = search needs
 
 index-1-next : tie.Need-index-1-next Inv-loop μ-loop
 index-1-next c = search needs
+
+index-2-next : tie.Need-index-2-next Inv-loop μ-loop
+index-2-next c = search needs
 
 mul-next-2 : tie.Need-mul-next-2 Inv-loop μ-loop
 mul-next-2 c = search needs
@@ -73,7 +76,7 @@ cast-t39 c =
     omega (
       arith,
       position-small _ _ _ (a .before .before .pre) _ (a .before .starts-for .ensures) _ _ _
-          (positioning-step _ _ _ (a .before .before .pre) _ (a .before .starts-for .ensures) _ _ _ (a .loop .inv) (omega arith) _ _ (track-at (a .before .before .args .t7) (a .loop .i)) (c .next .ensures)),
+          (positioning-step _ _ _ (a .before .before .pre) _ (a .before .starts-for .ensures) _ _ _ (a .loop .inv) (omega arith) _ _ (track-at (a .before .before .args .t5) (a .loop .i)) (c .next .ensures)),
     )
 
 mul-xs : tie.Need-mul-xs Inv-loop μ-loop
@@ -89,7 +92,7 @@ loop-again : tie.Need-loop-again Inv-loop μ-loop
 loop-again c =
     let a = c .before .before .before .before in
     rw map-set
-    (positioning-step _ _ _ (a .before .before .pre) _ (a .before .starts-for .ensures) _ _ _ (a .loop .inv) (omega arith) _ _ (track-at (a .before .before .args .t7) (a .loop .i)) (c .next .ensures))
+    (positioning-step _ _ _ (a .before .before .pre) _ (a .before .starts-for .ensures) _ _ _ (a .loop .inv) (omega arith) _ _ (track-at (a .before .before .args .t5) (a .loop .i)) (c .next .ensures))
 
 returns : tie.Need-returns Inv-loop μ-loop
 returns c =
@@ -103,13 +106,14 @@ positions-for-spec =
     μ-loop
     starts-for-requires
     array-read-x
-    cast-t20
+    cast-t18
     array-set-from-xs
     loop-holds
     mul-q
     element-copy-out-q
     mul-next
     index-1-next
+    index-2-next
     mul-next-2
     element-copy-out-next
     add-next

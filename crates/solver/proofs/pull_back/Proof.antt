@@ -9,11 +9,23 @@ lesser-requires c κs = search needs
 mul-backward : tie.Need-mul-backward
 mul-backward c = search needs
 
-element-copy-out-backward : tie.Need-element-copy-out-backward
-element-copy-out-backward c = search needs
+index-1-backward : tie.Need-index-1-backward
+index-1-backward c = search needs
+
+index-2-backward : tie.Need-index-2-backward
+index-2-backward c = search needs
 
 mul-backward-2 : tie.Need-mul-backward-2
 mul-backward-2 c = search needs
+
+index-1-backward-2 : tie.Need-index-1-backward-2
+index-1-backward-2 c = search needs
+
+index-2-backward-2 : tie.Need-index-2-backward-2
+index-2-backward-2 c = search needs
+
+element-copy-out-backward : tie.Need-element-copy-out-backward
+element-copy-out-backward c = search needs
 
 element-copy-out-backward-2 : tie.Need-element-copy-out-backward-2
 element-copy-out-backward-2 c = search needs
@@ -22,7 +34,7 @@ backward-requires : tie.Need-backward-requires
 backward-requires c κs = search needs
 
 returns : tie.Need-returns
-returns c = rw (← (c .before .before .before .lesser .ensures)) (c .backward .ensures)
+returns c = rw (← (c .before .before .before .before .before .lesser .ensures)) (c .backward .ensures)
 
 pub pull-back-spec : {M : Type 1} → statement M
 pull-back-spec =
@@ -30,8 +42,12 @@ pull-back-spec =
     (tie.spec
     lesser-requires
     mul-backward
-    element-copy-out-backward
+    index-1-backward
+    index-2-backward
     mul-backward-2
+    index-1-backward-2
+    index-2-backward-2
+    element-copy-out-backward
     element-copy-out-backward-2
     backward-requires
     returns)

@@ -12,19 +12,25 @@ use Rattle.solver.proofs.separations_for.Statement.{statement}
 use Rattle.solver.proofs.separations_for.Tie as tie
 
 abbrev Inv-loop : tie.InvT-loop
-Inv-loop low high counts from upto k total first froms uptos ts₀ s₀ v₀ above₀ i₀ ts s v above i = Separating (given low high counts from upto) k total i v above (span (s .from) (s .upto)) (tracks-of ts)
+Inv-loop limits lasts windows table k ts₀ s₀ v₀ above₀ i₀ ts s v above i = Separating (given limits lasts windows) k v₀ i v above (span (s .from) (s .upto)) (tracks-of ts)
 
 abbrev μ-loop : tie.MeasureT-loop
-μ-loop low high counts from upto k total first froms uptos ts₀ s₀ v₀ above₀ i₀ ts s v above i = k - i
+μ-loop limits lasts windows table k ts₀ s₀ v₀ above₀ i₀ ts s v above i = k - i
 
-element-copy-out-t22 : tie.Need-element-copy-out-t22 Inv-loop μ-loop
-element-copy-out-t22 c = search needs
+index-1-t20 : tie.Need-index-1-t20 Inv-loop μ-loop
+index-1-t20 c = search needs
 
-element-copy-out-t25 : tie.Need-element-copy-out-t25 Inv-loop μ-loop
-element-copy-out-t25 c = search needs
+index-2-t20 : tie.Need-index-2-t20 Inv-loop μ-loop
+index-2-t20 c = search needs
+
+index-1-t25 : tie.Need-index-1-t25 Inv-loop μ-loop
+index-1-t25 c = search needs
+
+index-2-t25 : tie.Need-index-2-t25 Inv-loop μ-loop
+index-2-t25 c = search needs
 
 loop-holds : tie.Need-loop-holds Inv-loop μ-loop
-loop-holds c = separating-start _ _ _ _ _ _ (c .before .before .pre)
+loop-holds c = separating-start _ _ _ _ _ (c .before .before .pre)
 
 add-loop : tie.Need-add-loop Inv-loop μ-loop
 add-loop c = search needs
@@ -41,39 +47,24 @@ mul-serving c = search needs
 index-1-serving : tie.Need-index-1-serving Inv-loop μ-loop
 index-1-serving c = search needs
 
+add-serving : tie.Need-add-serving Inv-loop μ-loop
+add-serving c = search needs
+
 mul-serving-2 : tie.Need-mul-serving-2 Inv-loop μ-loop
 mul-serving-2 c = search needs
 
 index-1-serving-2 : tie.Need-index-1-serving-2 Inv-loop μ-loop
 index-1-serving-2 c = search needs
 
-add-serving : tie.Need-add-serving Inv-loop μ-loop
-add-serving c = search needs
-
-mul-serving-3 : tie.Need-mul-serving-3 Inv-loop μ-loop
-mul-serving-3 c = search needs
-
-index-1-serving-3 : tie.Need-index-1-serving-3 Inv-loop μ-loop
-index-1-serving-3 c = search needs
-
-add-serving-2 : tie.Need-add-serving-2 Inv-loop μ-loop
-add-serving-2 c = search needs
-
-mul-serving-4 : tie.Need-mul-serving-4 Inv-loop μ-loop
-mul-serving-4 c = search needs
-
-index-1-serving-4 : tie.Need-index-1-serving-4 Inv-loop μ-loop
-index-1-serving-4 c = search needs
-
 serving-requires : tie.Need-serving-requires Inv-loop μ-loop
 serving-requires c κs =
-    let a = c .before .before .before .before .before .before in
-    separating-asks _ _ _ _ _ _ _ _ _ _ _ (a .before .before .before .pre) (a .loop .inv) (omega arith)
+    let a = c .before .before .before .before in
+    separating-asks _ _ _ _ _ _ _ _ _ _ (a .before .before .before .pre) (a .loop .inv) (omega arith)
 
-cast-t47 : tie.Need-cast-t47 Inv-loop μ-loop
-cast-t47 c =
-    let a = c .before .before .before .before .before .before .before in
-    omega (arith, separation-small _ _ _ _ _ _ _ _ _ _ _ (a .before .before .before .pre) (a .loop .inv) (omega arith) _ (c .serving .ensures))
+cast-t38 : tie.Need-cast-t38 Inv-loop μ-loop
+cast-t38 c =
+    let a = c .before .before .before .before .before in
+    omega (arith, separation-small _ _ _ _ _ _ _ _ _ _ (a .before .before .before .pre) (a .loop .inv) (omega arith) _ (c .serving .ensures))
 
 mul-ts : tie.Need-mul-ts Inv-loop μ-loop
 mul-ts c = search needs
@@ -87,34 +78,19 @@ mul-pass-on c = search needs
 index-1-pass-on : tie.Need-index-1-pass-on Inv-loop μ-loop
 index-1-pass-on c = search needs
 
+add-pass-on : tie.Need-add-pass-on Inv-loop μ-loop
+add-pass-on c = search needs
+
 mul-pass-on-2 : tie.Need-mul-pass-on-2 Inv-loop μ-loop
 mul-pass-on-2 c = search needs
 
 index-1-pass-on-2 : tie.Need-index-1-pass-on-2 Inv-loop μ-loop
 index-1-pass-on-2 c = search needs
 
-add-pass-on : tie.Need-add-pass-on Inv-loop μ-loop
-add-pass-on c = search needs
-
-mul-pass-on-3 : tie.Need-mul-pass-on-3 Inv-loop μ-loop
-mul-pass-on-3 c = search needs
-
-element-copy-out-pass-on : tie.Need-element-copy-out-pass-on Inv-loop μ-loop
-element-copy-out-pass-on c = search needs
-
-add-pass-on-2 : tie.Need-add-pass-on-2 Inv-loop μ-loop
-add-pass-on-2 c = search needs
-
-mul-pass-on-4 : tie.Need-mul-pass-on-4 Inv-loop μ-loop
-mul-pass-on-4 c = search needs
-
-element-copy-out-pass-on-2 : tie.Need-element-copy-out-pass-on-2 Inv-loop μ-loop
-element-copy-out-pass-on-2 c = search needs
-
 pass-on-requires : tie.Need-pass-on-requires Inv-loop μ-loop
 pass-on-requires c κs =
-    let a = c .before .before .before .before .before .before .before .before .before .before .before in
-    pass-on-asks _ _ _ _ _ _ (separating-asks _ _ _ _ _ _ _ _ _ _ _ (a .before .before .before .pre) (a .loop .inv) (omega arith))
+    let a = c .before .before .before .before .before .before .before in
+    pass-on-asks _ _ _ _ _ (separating-asks _ _ _ _ _ _ _ _ _ _ (a .before .before .before .pre) (a .loop .inv) (omega arith))
 
 difference-requires : tie.Need-difference-requires Inv-loop μ-loop
 difference-requires c κs = search needs
@@ -130,20 +106,20 @@ element-copy-out-above c = search needs
 
 sub-above : tie.Need-sub-above Inv-loop μ-loop
 sub-above c =
-    let a = c .before .before .before .before .before .before .before .before .before .before .before .before .before .before in
-    above-holds _ _ _ _ _ _ _ _ _ _ _ (a .before .before .before .pre) (a .loop .inv) (omega arith)
+    let a = c .before .before .before .before .before .before .before .before .before .before in
+    above-holds _ _ _ _ _ _ _ _ _ _ (a .before .before .before .pre) (a .loop .inv) (omega arith)
 
 loop-less : tie.Need-loop-less Inv-loop μ-loop
 loop-less c = search needs
 
 loop-again : tie.Need-loop-again Inv-loop μ-loop
 loop-again c =
-    let a = c .before .before .before .before .before .before .before .before .before .before .before .before .before .before in
+    let a = c .before .before .before .before .before .before .before .before .before .before in
     rw map-set
-    (separating-step _ _ _ _ _ _ _ _ _ _ _ (a .before .before .before .pre) (a .loop .inv) (omega arith) _ _ _ (c .before .before .before .before .before .before .before .serving .ensures) (c .before .before .pass-on .ensures) (c .before .difference .ensures))
+    (separating-step _ _ _ _ _ _ _ _ _ _ (a .before .before .before .pre) (a .loop .inv) (omega arith) _ _ _ (c .before .before .before .before .before .serving .ensures) (c .before .before .pass-on .ensures) (c .before .difference .ensures))
 
-cast-t66 : tie.Need-cast-t66 Inv-loop μ-loop
-cast-t66 c = search needs
+cast-t53 : tie.Need-cast-t53 Inv-loop μ-loop
+cast-t53 c = search needs
 
 mul-ts-2 : tie.Need-mul-ts-2 Inv-loop μ-loop
 mul-ts-2 c = search needs
@@ -160,36 +136,28 @@ separations-for-spec =
     (tie.spec
     Inv-loop
     μ-loop
-    element-copy-out-t22
-    element-copy-out-t25
+    index-1-t20
+    index-2-t20
+    index-1-t25
+    index-2-t25
     loop-holds
     add-loop
     mul-last
     element-copy-out-last
     mul-serving
     index-1-serving
+    add-serving
     mul-serving-2
     index-1-serving-2
-    add-serving
-    mul-serving-3
-    index-1-serving-3
-    add-serving-2
-    mul-serving-4
-    index-1-serving-4
     serving-requires
-    cast-t47
+    cast-t38
     mul-ts
     array-set-from-ts
     mul-pass-on
     index-1-pass-on
+    add-pass-on
     mul-pass-on-2
     index-1-pass-on-2
-    add-pass-on
-    mul-pass-on-3
-    element-copy-out-pass-on
-    add-pass-on-2
-    mul-pass-on-4
-    element-copy-out-pass-on-2
     pass-on-requires
     difference-requires
     add-i
@@ -198,7 +166,7 @@ separations-for-spec =
     sub-above
     loop-less
     loop-again
-    cast-t66
+    cast-t53
     mul-ts-2
     array-set-from-ts-2
     returns)

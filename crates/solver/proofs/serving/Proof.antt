@@ -3,7 +3,7 @@ use Prim.Native.Nat.{_-_, _≤_}
 use native.Mathlib.Omega.{arith}
 use Rattle.spans.specs.Spans.{span}
 use Rattle.spans.specs.Solver.{first-open, stop, serves, first-serving}
-use Rattle.solver.specs.Arrays.{bias, entry, spans-of}
+use Rattle.solver.specs.Arrays.{bias, low-in, high-in, span-at}
 use Rattle.solver.specs.Loops.{Searching}
 use Rattle.solver.proofs.Loops.{serving-start, serves-full, serves-empty, searching-hit, searching-miss, searching-end}
 use borrow.Author.Needs.{needs}
@@ -11,10 +11,10 @@ use Rattle.solver.proofs.serving.Statement.{statement}
 use Rattle.solver.proofs.serving.Tie as tie
 
 abbrev Inv-loop : tie.InvT-loop
-Inv-loop low high froms uptos last above s v end q₀ q = Searching (serves bias (entry low) (entry high) above (spans-of froms uptos) (span (s .from) (s .upto)) v) (stop last v) q (first-serving bias (entry low) (entry high) (first-open (entry low) (entry high) last) last above (spans-of froms uptos) (span (s .from) (s .upto)) v)
+Inv-loop limits spans last above s v end q₀ q = Searching (serves bias (low-in limits) (high-in limits) above (span-at spans) (span (s .from) (s .upto)) v) (stop last v) q (first-serving bias (low-in limits) (high-in limits) (first-open (low-in limits) (high-in limits) last) last above (span-at spans) (span (s .from) (s .upto)) v)
 
 abbrev μ-loop : tie.MeasureT-loop
-μ-loop low high froms uptos last above s v end q₀ q = end - q
+μ-loop limits spans last above s v end q₀ q = end - q
 
 stop-requires : tie.Need-stop-requires Inv-loop μ-loop
 stop-requires c κs = c .pre .listed
@@ -34,26 +34,38 @@ lesser-requires c κs = search needs
 mul-forward : tie.Need-mul-forward Inv-loop μ-loop
 mul-forward c = search needs
 
-element-copy-out-forward : tie.Need-element-copy-out-forward Inv-loop μ-loop
-element-copy-out-forward c = search needs
+index-1-forward : tie.Need-index-1-forward Inv-loop μ-loop
+index-1-forward c = search needs
+
+index-2-forward : tie.Need-index-2-forward Inv-loop μ-loop
+index-2-forward c = search needs
 
 mul-forward-2 : tie.Need-mul-forward-2 Inv-loop μ-loop
 mul-forward-2 c = search needs
 
-element-copy-out-forward-2 : tie.Need-element-copy-out-forward-2 Inv-loop μ-loop
-element-copy-out-forward-2 c = search needs
+index-1-forward-2 : tie.Need-index-1-forward-2 Inv-loop μ-loop
+index-1-forward-2 c = search needs
+
+index-2-forward-2 : tie.Need-index-2-forward-2 Inv-loop μ-loop
+index-2-forward-2 c = search needs
 
 mul-forward-3 : tie.Need-mul-forward-3 Inv-loop μ-loop
 mul-forward-3 c = search needs
 
-element-copy-out-forward-3 : tie.Need-element-copy-out-forward-3 Inv-loop μ-loop
-element-copy-out-forward-3 c = search needs
+index-1-forward-3 : tie.Need-index-1-forward-3 Inv-loop μ-loop
+index-1-forward-3 c = search needs
+
+index-2-forward-3 : tie.Need-index-2-forward-3 Inv-loop μ-loop
+index-2-forward-3 c = search needs
 
 mul-forward-4 : tie.Need-mul-forward-4 Inv-loop μ-loop
 mul-forward-4 c = search needs
 
-element-copy-out-forward-4 : tie.Need-element-copy-out-forward-4 Inv-loop μ-loop
-element-copy-out-forward-4 c = search needs
+index-1-forward-4 : tie.Need-index-1-forward-4 Inv-loop μ-loop
+index-1-forward-4 c = search needs
+
+index-2-forward-4 : tie.Need-index-2-forward-4 Inv-loop μ-loop
+index-2-forward-4 c = search needs
 
 forward-requires : tie.Need-forward-requires Inv-loop μ-loop
 forward-requires c κs =
@@ -96,13 +108,17 @@ serving-spec =
     sub-lesser
     lesser-requires
     mul-forward
-    element-copy-out-forward
+    index-1-forward
+    index-2-forward
     mul-forward-2
-    element-copy-out-forward-2
+    index-1-forward-2
+    index-2-forward-2
     mul-forward-3
-    element-copy-out-forward-3
+    index-1-forward-3
+    index-2-forward-3
     mul-forward-4
-    element-copy-out-forward-4
+    index-1-forward-4
+    index-2-forward-4
     forward-requires
     returns
     add-q

@@ -4,8 +4,9 @@ use Prim.Native.Nat.{_-_}
 use native.Mathlib.Omega.{arith}
 use lib.ListN.{replicate}
 use Rattle.stack.specs.Value.{tracks-of}
+use Rattle.stack.specs.Sizes.{strips-held}
 use Rattle.spans.specs.Spans.{span}
-use Rattle.solver.specs.Arrays.{strips-held, given}
+use Rattle.solver.specs.Arrays.{given}
 use Rattle.solver.specs.Loops.{Fixing}
 use Rattle.solver.proofs.Fixing.{track-at, fixing-start, fixing-asks, fixing-step, fixing-end}
 use borrow.Author.Needs.{needs}
@@ -13,22 +14,28 @@ use Rattle.solver.proofs.starts_for.Statement.{statement}
 use Rattle.solver.proofs.starts_for.Tie as tie
 
 abbrev Inv-loop : tie.InvT-loop
-Inv-loop low high counts from upto k ts s₀ starts₀ i₀ s starts i = Fixing (given low high counts from upto) k (tracks-of ts) i (span (s .from) (s .upto)) starts
+Inv-loop limits lasts windows k ts s₀ starts₀ i₀ s starts i = Fixing (given limits lasts windows) k (tracks-of ts) i (span (s .from) (s .upto)) starts
 
 abbrev μ-loop : tie.MeasureT-loop
-μ-loop low high counts from upto k ts s₀ starts₀ i₀ s starts i = i
+μ-loop limits lasts windows k ts s₀ starts₀ i₀ s starts i = i
 
-mul-t14 : tie.Need-mul-t14 Inv-loop μ-loop
-mul-t14 c = search needs
+mul-t12 : tie.Need-mul-t12 Inv-loop μ-loop
+mul-t12 c = search needs
 
-element-copy-out-t17 : tie.Need-element-copy-out-t17 Inv-loop μ-loop
-element-copy-out-t17 c = search needs
+index-1-t17 : tie.Need-index-1-t17 Inv-loop μ-loop
+index-1-t17 c = search needs
+
+index-2-t17 : tie.Need-index-2-t17 Inv-loop μ-loop
+index-2-t17 c = search needs
 
 mul-t18 : tie.Need-mul-t18 Inv-loop μ-loop
 mul-t18 c = search needs
 
-element-copy-out-t21 : tie.Need-element-copy-out-t21 Inv-loop μ-loop
-element-copy-out-t21 c = search needs
+index-1-t23 : tie.Need-index-1-t23 Inv-loop μ-loop
+index-1-t23 c = search needs
+
+index-2-t23 : tie.Need-index-2-t23 Inv-loop μ-loop
+index-2-t23 c = search needs
 
 mul-starts : tie.Need-mul-starts Inv-loop μ-loop
 mul-starts c = search needs
@@ -57,30 +64,18 @@ index-1-pull-back c = search needs
 mul-pull-back-2 : tie.Need-mul-pull-back-2 Inv-loop μ-loop
 mul-pull-back-2 c = search needs
 
-index-1-pull-back-2 : tie.Need-index-1-pull-back-2 Inv-loop μ-loop
-index-1-pull-back-2 c = search needs
+element-copy-out-pull-back : tie.Need-element-copy-out-pull-back Inv-loop μ-loop
+element-copy-out-pull-back c = search needs
 
 mul-pull-back-3 : tie.Need-mul-pull-back-3 Inv-loop μ-loop
 mul-pull-back-3 c = search needs
 
-element-copy-out-pull-back : tie.Need-element-copy-out-pull-back Inv-loop μ-loop
-element-copy-out-pull-back c = search needs
-
-mul-pull-back-4 : tie.Need-mul-pull-back-4 Inv-loop μ-loop
-mul-pull-back-4 c = search needs
-
-element-copy-out-pull-back-2 : tie.Need-element-copy-out-pull-back-2 Inv-loop μ-loop
-element-copy-out-pull-back-2 c = search needs
-
-mul-pull-back-5 : tie.Need-mul-pull-back-5 Inv-loop μ-loop
-mul-pull-back-5 c = search needs
-
-element-copy-out-pull-back-3 : tie.Need-element-copy-out-pull-back-3 Inv-loop μ-loop
-element-copy-out-pull-back-3 c = search needs
+index-1-pull-back-2 : tie.Need-index-1-pull-back-2 Inv-loop μ-loop
+index-1-pull-back-2 c = search needs
 
 pull-back-requires : tie.Need-pull-back-requires Inv-loop μ-loop
 pull-back-requires c κs =
-    let a = c .before .before .before .before .before .before in
+    let a = c .before .before .before .before in
     fixing-asks _ _ _ (a .before .before .before .pre) _ _ _ _ (a .loop .inv) (omega arith)
 
 mul-starts-2 : tie.Need-mul-starts-2 Inv-loop μ-loop
@@ -94,8 +89,8 @@ loop-less c = search needs
 
 loop-again : tie.Need-loop-again Inv-loop μ-loop
 loop-again c =
-    let a = c .before .before .before .before .before .before .before in
-    fixing-step _ _ _ (a .before .before .before .pre) _ _ _ _ _ _ (a .loop .inv) (omega arith) (track-at (a .before .before .before .args .t7) (a .loop .i - 1)) (c .pull-back .ensures)
+    let a = c .before .before .before .before .before in
+    fixing-step _ _ _ (a .before .before .before .pre) _ _ _ _ _ _ (a .loop .inv) (omega arith) (track-at (a .before .before .before .args .t5) (a .loop .i - 1)) (c .pull-back .ensures)
 
 returns : tie.Need-returns Inv-loop μ-loop
 returns c = fixing-end _ _ _ (c .before .before .before .before .pre) _ _ _ (c .before .loop .inv) (omega arith)
@@ -106,10 +101,12 @@ starts-for-spec =
     (tie.spec
     Inv-loop
     μ-loop
-    mul-t14
-    element-copy-out-t17
+    mul-t12
+    index-1-t17
+    index-2-t17
     mul-t18
-    element-copy-out-t21
+    index-1-t23
+    index-2-t23
     mul-starts
     array-write-starts
     loop-holds
@@ -119,13 +116,9 @@ starts-for-spec =
     mul-pull-back
     index-1-pull-back
     mul-pull-back-2
-    index-1-pull-back-2
-    mul-pull-back-3
     element-copy-out-pull-back
-    mul-pull-back-4
-    element-copy-out-pull-back-2
-    mul-pull-back-5
-    element-copy-out-pull-back-3
+    mul-pull-back-3
+    index-1-pull-back-2
     pull-back-requires
     mul-starts-2
     array-write-starts-2

@@ -5,7 +5,7 @@ use Rattle.stack.specs.Value.{stack-of}
 use Rattle.stack.proofs.Within.{stack-channels}
 use native.Mathlib.Omega.{arith}
 use Rattle.stack.proofs.Within.{few-channels}
-use Rattle.table.proofs.Events.{held-counts, holds-on, event-stays, event-least, event-whole, event-place-asks}
+use Rattle.table.proofs.Events.{held-lasts, holds-on, event-stays, event-least, event-whole, event-place-asks}
 use Rattle.table.proofs.Walks.{begun-at}
 use borrow.Author.Needs.{needs}
 use Rattle.table.proofs.begin.Statement.{statement}
@@ -15,28 +15,46 @@ longest-requires : tie.Need-longest-requires
 longest-requires c κs = few-channels (c .before .args .stack) (c .before .pre .held .good)
 
 most-total-requires : tie.Need-most-total-requires
-most-total-requires c κs = held-counts (c .before .before .args .stack) _ _ _ (c .before .before .pre .held)
+most-total-requires c κs = held-lasts (c .before .before .args .stack) _ _ (c .before .before .pre .held)
 
 evaluate-requires : tie.Need-evaluate-requires
 evaluate-requires c κs = search needs
 
+place-row-requires : tie.Need-place-row-requires
+place-row-requires c κs =
+    let a = c .before .before .before .before .before .before .before .before in
+    let spread = c .before .before .before .before .before .before .longest in
+    let cap = c .before .before .before .before .before .most-total in
+    let found = c .before .before .evaluate in
+    let fits = spread-fits (stack-of (a .args .stack)) (spread .result) (a .pre .held .good) (spread .ensures) in
+    let whole = event-whole (a .args .stack) (spread .result) (cap .result) _ _ _ _ (found .result) fits (omega (arith, spread .ensures)) (a .pre .held) (found .ensures) (cap .ensures) in
+    event-place-asks (a .args .stack) (spread .result) (cap .result) _ _ _ _ (found .result) fits (omega (arith, spread .ensures)) (a .pre .held) (found .ensures) (omega (arith, cap .ensures)) whole
+
 put-head-requires : tie.Need-put-head-requires
-put-head-requires c κs = omega (arith, few-channels (c .before .before .before .before .before .before .before .before .args .stack) (c .before .before .before .before .before .before .before .before .pre .held .good))
+put-head-requires c κs = omega (arith, few-channels (c .before .before .before .before .before .before .before .before .before .before .args .stack) (c .before .before .before .before .before .before .before .before .before .before .pre .held .good))
 
 put-placed-requires : tie.Need-put-placed-requires
-put-placed-requires c κs = (omega (arith, c .before .before .before .before .before .before .put-head .ensures .few), event-place-asks (c .before .before .before .before .before .before .before .before .before .before .before .before .before .before .before .args .stack) (c .before .before .before .before .before .before .before .before .before .before .before .before .before .longest .result) (c .before .before .before .before .before .before .before .before .before .before .before .before .most-total .result) _ _ _ _ _ _ (c .before .before .before .before .before .before .before .before .evaluate .result) (spread-fits (stack-of (c .before .before .before .before .before .before .before .before .before .before .before .before .before .before .before .args .stack)) (c .before .before .before .before .before .before .before .before .before .before .before .before .before .longest .result) (c .before .before .before .before .before .before .before .before .before .before .before .before .before .before .before .pre .held .good) (c .before .before .before .before .before .before .before .before .before .before .before .before .before .longest .ensures)) (omega (arith, c .before .before .before .before .before .before .before .before .before .before .before .before .before .longest .ensures)) (c .before .before .before .before .before .before .before .before .before .before .before .before .before .before .before .pre .held) (c .before .before .before .before .before .before .before .before .evaluate .ensures) (omega (arith, c .before .before .before .before .before .before .before .before .before .before .before .before .most-total .ensures)) (event-whole (c .before .before .before .before .before .before .before .before .before .before .before .before .before .before .before .args .stack) (c .before .before .before .before .before .before .before .before .before .before .before .before .before .longest .result) (c .before .before .before .before .before .before .before .before .before .before .before .before .most-total .result) _ _ _ _ _ _ (c .before .before .before .before .before .before .before .before .evaluate .result) (spread-fits (stack-of (c .before .before .before .before .before .before .before .before .before .before .before .before .before .before .before .args .stack)) (c .before .before .before .before .before .before .before .before .before .before .before .before .before .longest .result) (c .before .before .before .before .before .before .before .before .before .before .before .before .before .before .before .pre .held .good) (c .before .before .before .before .before .before .before .before .before .before .before .before .before .longest .ensures)) (omega (arith, c .before .before .before .before .before .before .before .before .before .before .before .before .before .longest .ensures)) (c .before .before .before .before .before .before .before .before .before .before .before .before .before .before .before .pre .held) (c .before .before .before .before .before .before .before .before .evaluate .ensures) (c .before .before .before .before .before .before .before .before .before .before .before .before .most-total .ensures)))
+put-placed-requires c κs = (omega (arith, c .before .before .before .put-head .ensures .few), c .before .before .before .before .before .before .before .before .before .before .before .before .before .before .pre .held .good, omega (arith, c .before .before .before .before .before .before .before .before .before .before .before .before .longest .ensures), c .before .before .before .before .before .place-row .ensures)
 
 same-length : tie.Need-same-length
 same-length c = search needs
 
 returns : tie.Need-returns
-returns c = let found = event-whole (c .before .before .before .before .before .before .before .before .before .before .before .before .before .before .before .before .before .before .args .stack) (c .before .before .before .before .before .before .before .before .before .before .before .before .before .before .before .before .longest .result) (c .before .before .before .before .before .before .before .before .before .before .before .before .before .before .before .most-total .result) _ _ _ _ _ _ (c .before .before .before .before .before .before .before .before .before .before .before .evaluate .result) (spread-fits (stack-of (c .before .before .before .before .before .before .before .before .before .before .before .before .before .before .before .before .before .before .args .stack)) (c .before .before .before .before .before .before .before .before .before .before .before .before .before .before .before .before .longest .result) (c .before .before .before .before .before .before .before .before .before .before .before .before .before .before .before .before .before .before .pre .held .good) (c .before .before .before .before .before .before .before .before .before .before .before .before .before .before .before .before .longest .ensures)) (omega (arith, c .before .before .before .before .before .before .before .before .before .before .before .before .before .before .before .before .longest .ensures)) (c .before .before .before .before .before .before .before .before .before .before .before .before .before .before .before .before .before .before .pre .held) (c .before .before .before .before .before .before .before .before .before .before .before .evaluate .ensures) (c .before .before .before .before .before .before .before .before .before .before .before .before .before .before .before .most-total .ensures) in
-    let least = event-least (c .before .before .before .before .before .before .before .before .before .before .before .before .before .before .before .before .before .before .args .stack) (c .before .before .before .before .before .before .before .before .before .before .before .before .before .before .before .before .longest .result) (c .before .before .before .before .before .before .before .before .before .before .before .before .before .before .before .most-total .result) _ _ _ _ _ _ (c .before .before .before .before .before .before .before .before .before .before .before .evaluate .result) (spread-fits (stack-of (c .before .before .before .before .before .before .before .before .before .before .before .before .before .before .before .before .before .before .args .stack)) (c .before .before .before .before .before .before .before .before .before .before .before .before .before .before .before .before .longest .result) (c .before .before .before .before .before .before .before .before .before .before .before .before .before .before .before .before .before .before .pre .held .good) (c .before .before .before .before .before .before .before .before .before .before .before .before .before .before .before .before .longest .ensures)) (omega (arith, c .before .before .before .before .before .before .before .before .before .before .before .before .before .before .before .before .longest .ensures)) (c .before .before .before .before .before .before .before .before .before .before .before .before .before .before .before .before .before .before .pre .held) (c .before .before .before .before .before .before .before .before .before .before .before .evaluate .ensures) (omega (arith, c .before .before .before .before .before .before .before .before .before .before .before .before .before .before .before .most-total .ensures)) found in
+returns c =
+    let a = c .before .before .before .before .before .before .before .before .before .before .before .before .before .before .before .before .before in
+    let spread = c .before .before .before .before .before .before .before .before .before .before .before .before .before .before .before .longest in
+    let cap = c .before .before .before .before .before .before .before .before .before .before .before .before .before .before .most-total in
+    let found = c .before .before .before .before .before .before .before .before .before .before .before .evaluate in
+    let fits = spread-fits (stack-of (a .args .stack)) (spread .result) (a .pre .held .good) (spread .ensures) in
+    let whole = event-whole (a .args .stack) (spread .result) (cap .result) _ _ _ _ (found .result) fits (omega (arith, spread .ensures)) (a .pre .held) (found .ensures) (cap .ensures) in
+    let least = event-least (a .args .stack) (spread .result) (cap .result) _ _ _ _ (found .result) fits (omega (arith, spread .ensures)) (a .pre .held) (found .ensures) (omega (arith, cap .ensures)) whole in
+    let first = c .before .before .before .before .before .before .put-head in
+    let row = c .before .before .put-placed in
     record {
-      walking = begun-at (stack-of (c .before .before .before .before .before .before .before .before .before .before .before .before .before .before .before .before .before .before .args .stack)) (c .before .before .before .before .before .before .before .before .before .before .before .before .before .before .before .before .before .before .pre .held .good) (c .before .before .before .before .before .before .before .before .before .before .before .before .before .before .before .before .before .before .args .stack .count) (c .before .before .before .before .before .before .before .before .before .before .before .before .before .before .before .before .longest .result) (sym (stack-channels (c .before .before .before .before .before .before .before .before .before .before .before .before .before .before .before .before .before .before .args .stack))) (c .before .before .before .before .before .before .before .before .before .before .before .before .before .before .before .before .longest .ensures) (c .before .before .before .before .before .before .before .before .before .before .before .evaluate .result .total) (c .before .before .before .before .before .before .before .before .before .before .before .evaluate .result .jump) (c .before .before .before .before .before .before .before .before .before .put-head .result) (c .before .before .put-placed .result) _ _ _
-          (sym least) (c .before .before .before .before .before .before .before .before .before .before .before .evaluate .ensures .scanned .jump-some) (event-stays (c .before .before .before .before .before .before .before .before .before .before .before .before .before .before .before .before .before .before .args .stack) (c .before .before .before .before .before .before .before .before .before .before .before .before .before .before .before .before .longest .result) (c .before .before .before .before .before .before .before .before .before .before .before .before .before .before .before .most-total .result) _ _ _ _ _ _ (c .before .before .before .before .before .before .before .before .before .before .before .evaluate .result) (spread-fits (stack-of (c .before .before .before .before .before .before .before .before .before .before .before .before .before .before .before .before .before .before .args .stack)) (c .before .before .before .before .before .before .before .before .before .before .before .before .before .before .before .before .longest .result) (c .before .before .before .before .before .before .before .before .before .before .before .before .before .before .before .before .before .before .pre .held .good) (c .before .before .before .before .before .before .before .before .before .before .before .before .before .before .before .before .longest .ensures)) (omega (arith, c .before .before .before .before .before .before .before .before .before .before .before .before .before .before .before .before .longest .ensures)) (c .before .before .before .before .before .before .before .before .before .before .before .before .before .before .before .before .before .before .pre .held) (c .before .before .before .before .before .before .before .before .before .before .before .evaluate .ensures) (sym least)) (c .before .before .before .before .before .before .before .before .before .put-head .ensures) (c .before .before .put-placed .ensures);
-      holding = holds-on (c .before .before .before .before .before .before .before .before .before .before .before .before .before .before .before .before .before .before .args .stack) (c .before .before .before .before .before .before .before .before .before .before .before .before .before .before .before .before .longest .result) (c .before .before .before .before .before .before .before .before .before .before .before .before .before .before .before .most-total .result) _ _ _ _ _ _ (c .before .before .before .before .before .before .before .before .before .before .before .evaluate .result) (spread-fits (stack-of (c .before .before .before .before .before .before .before .before .before .before .before .before .before .before .before .before .before .before .args .stack)) (c .before .before .before .before .before .before .before .before .before .before .before .before .before .before .before .before .longest .result) (c .before .before .before .before .before .before .before .before .before .before .before .before .before .before .before .before .before .before .pre .held .good) (c .before .before .before .before .before .before .before .before .before .before .before .before .before .before .before .before .longest .ensures)) (omega (arith, c .before .before .before .before .before .before .before .before .before .before .before .before .before .before .before .before .longest .ensures)) (c .before .before .before .before .before .before .before .before .before .before .before .before .before .before .before .before .before .before .pre .held) (c .before .before .before .before .before .before .before .before .before .before .before .evaluate .ensures);
-      capped = omega (arith, found, c .before .before .before .before .before .before .before .before .before .before .before .before .before .before .before .most-total .ensures);
+      walking = begun-at (stack-of (a .args .stack)) (a .pre .held .good) (a .args .stack .count) (spread .result) (sym (stack-channels (a .args .stack))) (spread .ensures) (found .result .total) (found .result .jump) (first .result) (row .result) _ _ _
+          (sym least) (found .ensures .scanned .jump-some) (event-stays (a .args .stack) (spread .result) (cap .result) _ _ _ _ (found .result) fits (omega (arith, spread .ensures)) (a .pre .held) (found .ensures) (sym least)) (first .ensures) (row .ensures);
+      holding = holds-on (a .args .stack) (spread .result) (cap .result) _ _ _ _ (found .result) fits (omega (arith, spread .ensures)) (a .pre .held) (found .ensures);
+      capped = omega (arith, whole, cap .ensures);
     }
 
 pub begin-spec : {M : Type 1} → statement M
@@ -46,6 +64,7 @@ begin-spec =
     longest-requires
     most-total-requires
     evaluate-requires
+    place-row-requires
     put-head-requires
     put-placed-requires
     same-length

@@ -1,6 +1,6 @@
 -- put_table meets its contract: the walk from event to event up to the sum of the lengths. Assumes nothing.
 use mathlib.Core.Path.{_≡_, _∙_}
-use Rattle.table.proofs.Events.{inside-sum, sum-widest}
+use Rattle.table.proofs.Events.{sum-widest}
 use Rattle.scan.proofs.Serving.{sized-zeros}
 use lib.ListN.{length}
 use mathlib.Core.Path.{refl}
@@ -16,19 +16,19 @@ use Rattle.table.proofs.put_table.Statement.{statement}
 use Rattle.table.proofs.put_table.Tie as tie
 
 abbrev Inv-loop : tie.InvT-loop
-Inv-loop stack out₀ low high counts upto₀ froms₀ uptos₀ widest w₀ out upto froms uptos w = Stepping stack low high counts upto froms uptos out w × (length out ≡ length out₀)
+Inv-loop stack out₀ limits lasts windows₀ table₀ widest w₀ out windows table w = Stepping stack limits lasts windows table out w × (length out ≡ length out₀)
 
 abbrev μ-loop : tie.MeasureT-loop
-μ-loop stack out₀ low high counts upto₀ froms₀ uptos₀ widest w₀ out upto froms uptos w = widest - w .spread
+μ-loop stack out₀ limits lasts windows₀ table₀ widest w₀ out windows table w = widest - w .spread
 
 fill-limits-requires : tie.Need-fill-limits-requires Inv-loop μ-loop
-fill-limits-requires c κs = (c .before .before .before .before .pre, limits-start (stack-of (c .before .before .before .before .args .stack)) _ _ _ refl refl refl)
+fill-limits-requires c κs = (c .before .before .before .pre, limits-start (stack-of (c .before .before .before .args .stack)))
 
 lengths-sum-requires : tie.Need-lengths-sum-requires Inv-loop μ-loop
-lengths-sum-requires c κs = few-channels (c .before .before .before .before .before .args .stack) (c .before .before .before .before .before .pre)
+lengths-sum-requires c κs = few-channels (c .before .before .before .before .args .stack) (c .before .before .before .before .pre)
 
 begin-requires : tie.Need-begin-requires Inv-loop μ-loop
-begin-requires c κs = record { held = record { good = c .before .before .before .before .before .before .before .before .before .before .before .before .before .pre; limits = c .before .before .before .before .before .before .before .before .fill-limits .ensures }; sized-windows = refl; sized-froms = sized-zeros; sized-ends = sized-zeros }
+begin-requires c κs = record { held = record { good = c .before .before .before .before .before .before .before .before .before .before .pre; filled = c .before .before .before .before .before .before .fill-limits .ensures }; sized-windows = refl; sized = sized-zeros }
 
 loop-holds : tie.Need-loop-holds Inv-loop μ-loop
 loop-holds c = (c .before .before .begin .ensures, search needs)
@@ -37,28 +37,21 @@ cast-further : tie.Need-cast-further Inv-loop μ-loop
 cast-further c = search needs
 
 sub-further : tie.Need-sub-further Inv-loop μ-loop
-sub-further c = omega (arith, c .before .before .before .loop .inv .0 .walking .upto, sum-widest (c .before .before .before .before .before .before .before .before .before .before .before .before .before .before .before .before .before .before .before .before .args .stack) (c .before .before .before .before .before .before .before .before .before .before .before .before .before .before .lengths-sum .result) (c .before .before .before .before .before .before .before .before .before .before .before .before .before .before .lengths-sum .ensures))
+sub-further c = omega (arith, c .before .before .before .loop .inv .0 .walking .upto, sum-widest (c .before .before .before .before .before .before .before .before .before .before .before .before .before .before .before .before .before .args .stack) (c .before .before .before .before .before .before .before .before .before .before .before .before .lengths-sum .result) (c .before .before .before .before .before .before .before .before .before .before .before .before .lengths-sum .ensures))
 
 same-length : tie.Need-same-length Inv-loop μ-loop
 same-length c = c .before .before .before .before .before .loop .inv .1 ∙ search needs
 
 returns : tie.Need-returns Inv-loop μ-loop
-returns c = ended-past (stack-of (c .before .before .before .before .before .before .before .before .before .before .before .before .before .before .before .before .before .before .before .before .before .before .args .stack)) (c .before .before .before .before .before .before .before .before .before .before .before .before .before .before .before .before .before .before .before .before .before .before .pre) _ _ (c .before .before .before .before .before .loop .inv .0 .walking) (omega (arith, sum-widest (c .before .before .before .before .before .before .before .before .before .before .before .before .before .before .before .before .before .before .before .before .before .before .args .stack) (c .before .before .before .before .before .before .before .before .before .before .before .before .before .before .before .before .lengths-sum .result) (c .before .before .before .before .before .before .before .before .before .before .before .before .before .before .before .before .lengths-sum .ensures), c .if2))
-
-cast-next : tie.Need-cast-next Inv-loop μ-loop
-cast-next c = search needs
-
-add-next : tie.Need-add-next Inv-loop μ-loop
-add-next c = omega (arith, inside-sum (c .before .before .before .before .before .before .before .before .before .before .before .before .before .before .before .before .before .before .before .before .before .before .before .before .args .stack) (c .before .before .before .before .before .before .before .before .before .before .before .before .before .before .before .before .before .before .lengths-sum .result) (c .before .before .before .before .before .before .before .before .before .before .before .before .before .before .before .before .before .before .before .before .before .before .before .before .pre) (c .before .before .before .before .before .before .before .before .before .before .before .before .before .before .before .before .before .before .lengths-sum .ensures), c .before .before .if2)
-
-cast-step : tie.Need-cast-step Inv-loop μ-loop
-cast-step c = omega (arith, inside-sum (c .before .before .before .before .before .before .before .before .before .before .before .before .before .before .before .before .before .before .before .before .before .before .before .before .args .stack) (c .before .before .before .before .before .before .before .before .before .before .before .before .before .before .before .before .before .before .lengths-sum .result) (c .before .before .before .before .before .before .before .before .before .before .before .before .before .before .before .before .before .before .before .before .before .before .before .before .pre) (c .before .before .before .before .before .before .before .before .before .before .before .before .before .before .before .before .before .before .lengths-sum .ensures), c .before .before .if2)
+returns c =
+    let a = c .before .before .before .before .before .before .before .before .before .before .before .before .before .before .before .before .before .before .before in
+    ended-past (stack-of (a .args .stack)) (a .pre) _ _ (c .before .before .before .before .before .loop .inv .0 .walking) (omega (arith, sum-widest (c .before .before .before .before .before .before .before .before .before .before .before .before .before .before .before .before .before .before .before .args .stack) (c .before .before .before .before .before .before .before .before .before .before .before .before .before .before .lengths-sum .result) (c .before .before .before .before .before .before .before .before .before .before .before .before .before .before .lengths-sum .ensures), c .if2))
 
 step-requires : tie.Need-step-requires Inv-loop μ-loop
-step-requires c κs = record { here = c .before .before .before .before .before .before .before .before .before .before .before .before .before .before .loop .inv .0; some = omega (arith, c .before .before .before .before .before .before .before .before .before .before .before .before .if1); jumped = refl; inside = omega (arith, sum-widest (c .before .before .before .before .before .before .before .before .before .before .before .before .before .before .before .before .before .before .before .before .before .before .before .before .before .before .before .before .before .before .before .args .stack) (c .before .before .before .before .before .before .before .before .before .before .before .before .before .before .before .before .before .before .before .before .before .before .before .before .before .lengths-sum .result) (c .before .before .before .before .before .before .before .before .before .before .before .before .before .before .before .before .before .before .before .before .before .before .before .before .before .lengths-sum .ensures), c .before .before .before .before .before .before .before .before .before .if2) }
+step-requires c κs = record { here = c .before .before .before .before .before .before .before .before .before .before .loop .inv .0; some = omega (arith, c .before .before .before .before .before .before .before .before .if1); inside = omega (arith, sum-widest (c .before .before .before .before .before .before .before .before .before .before .before .before .before .before .before .before .before .before .before .before .before .before .before .before .args .stack) (c .before .before .before .before .before .before .before .before .before .before .before .before .before .before .before .before .before .before .before .lengths-sum .result) (c .before .before .before .before .before .before .before .before .before .before .before .before .before .before .before .before .before .before .before .lengths-sum .ensures), c .before .before .before .before .before .if2) }
 
 loop-less : tie.Need-loop-less Inv-loop μ-loop
-loop-less c = omega (arith, c .before .before .step .ensures .1, c .before .before .before .before .before .before .before .before .before .before .before .before .before .before .before .before .before .loop .inv .0 .walking .jump-some, c .before .before .before .before .before .before .before .before .before .before .before .before .if2)
+loop-less c = omega (arith, c .before .before .step .ensures .1, c .before .before .before .before .before .before .before .before .before .before .before .before .before .loop .inv .0 .walking .jump-some, c .before .before .before .before .before .before .before .before .if2)
 
 loop-again : tie.Need-loop-again Inv-loop μ-loop
 loop-again c = (c .before .before .step .ensures .0, search needs)
@@ -67,7 +60,9 @@ same-length-2 : tie.Need-same-length-2 Inv-loop μ-loop
 same-length-2 c = c .before .before .loop .inv .1 ∙ search needs
 
 returns-2 : tie.Need-returns-2 Inv-loop μ-loop
-returns-2 c = ended-zero (stack-of (c .before .before .before .before .before .before .before .before .before .before .before .before .before .before .before .before .before .before .before .args .stack)) (c .before .before .before .before .before .before .before .before .before .before .before .before .before .before .before .before .before .before .before .pre) _ _ (c .before .before .loop .inv .0 .walking) (omega (arith, c .if1))
+returns-2 c =
+    let a = c .before .before .before .before .before .before .before .before .before .before .before .before .before .before .before .before in
+    ended-zero (stack-of (a .args .stack)) (a .pre) _ _ (c .before .before .loop .inv .0 .walking) (omega (arith, c .if1))
 
 pub put-table-spec : {M : Type 1} → statement M
 put-table-spec =
@@ -83,9 +78,6 @@ put-table-spec =
     sub-further
     same-length
     returns
-    cast-next
-    add-next
-    cast-step
     step-requires
     loop-less
     loop-again

@@ -1,7 +1,11 @@
 -- read_nets meets its contract. Assumes nothing.
+use mathlib.Core.Path.{sym, _∙_}
+use native.Mathlib.Omega.{arith}
 use borrow.Author.Tests.{not-true, not-false}
-use Rattle.text.specs.Text.{line, nets-word}
-use Rattle.text.proofs.Nets.{place-found, nets-ill, nets-odd, nets-found}
+use Rattle.lines.specs.Lines.{line}
+use Rattle.lines.proofs.Fields.{numbers-few}
+use Rattle.text.specs.Text.{nets-word}
+use Rattle.text.proofs.Nets.{place-found, nets-ill, nets-found}
 use borrow.Author.Needs.{needs}
 use Rattle.text.proofs.read_nets.Statement.{statement}
 use Rattle.text.proofs.read_nets.Tie as tie
@@ -12,58 +16,49 @@ slice-aggregate-read-line c = search needs
 read-line-requires : tie.Need-read-line-requires
 read-line-requires c κs = search needs
 
+in-pairs-requires : tie.Need-in-pairs-requires
+in-pairs-requires c κs =
+    let start = c .before .before .before in
+    omega (arith, c .read-line .ensures .count, numbers-few (start .args .bytes .now) (start .args .ended), start .good .0)
+
+layout-outcome-requires : tie.Need-layout-outcome-requires
+layout-outcome-requires c κs = search needs
+
+is-accepted-requires : tie.Need-is-accepted-requires
+is-accepted-requires c κs = search needs
+
 none-requires : tie.Need-none-requires
 none-requires c κs = search needs
-
-add-refused : tie.Need-add-refused
-add-refused c = search needs
-
-refused-requires : tie.Need-refused-requires
-refused-requires c κs = search needs
 
 returns : tie.Need-returns
 unfolding nets-word
 returns c =
-    let start = c .before .before .before .before .before .before .before in
-    let read-line = c .before .before .before .before .read-line in
-    let none = c .before .before .before .none in
-    let if1 = c .before .if1 in
-    let refused = c .refused in
-    nets-ill (start .args .lower .length .0) (start .args .upper .length .0) (start .args .i) (line (start .args .bytes .now) (start .args .ended)) (read-line .result) (read-line .ensures) (refused .result) (none .result) (not-true _ (if1 .taken)) (refused .ensures)
-
-add-refused-2 : tie.Need-add-refused-2
-add-refused-2 c = search needs
-
-refused-requires-2 : tie.Need-refused-requires-2
-refused-requires-2 c κs = search needs
-
-returns-2 : tie.Need-returns-2
-unfolding nets-word
-returns-2 c =
     let start = c .before .before .before .before .before .before .before .before in
     let read-line = c .before .before .before .before .before .read-line in
-    let none = c .before .before .before .before .none in
-    let if1 = c .before .before .if1 in
-    let if2 = c .before .if2 in
-    let refused2 = c .refused2 in
-    nets-odd (start .args .lower .length .0) (start .args .upper .length .0) (start .args .i) (line (start .args .bytes .now) (start .args .ended)) (read-line .result) (read-line .ensures) (refused2 .result) (none .result) (not-false _ (if1 .left)) (if2 .taken) (refused2 .ensures)
+    let in-pairs = c .before .before .before .before .in-pairs in
+    let layout-outcome = c .before .before .before .layout-outcome in
+    let is-accepted = c .before .before .is-accepted in
+    let if1 = c .before .if1 in
+    nets-ill (start .args .lower .length .0) (start .args .upper .length .0) (start .args .n) (line (start .args .bytes .now) (start .args .ended)) (read-line .result) (read-line .ensures) (in-pairs .result) (in-pairs .ensures) (layout-outcome .result) (layout-outcome .ensures) (c .none .result) (sym (is-accepted .ensures) ∙ not-true _ (if1 .taken))
 
 new-requires : tie.Need-new-requires
 new-requires c κs = search needs
 
 found-outcome-requires : tie.Need-found-outcome-requires
-found-outcome-requires c κs = (rw (c .before .new .ensures .found) (place-found _ _ _), c .before .before .before .before .before .before .before .before .before .before .before .pre)
+found-outcome-requires c κs = rw (c .before .new .ensures .found) (place-found _ _ _)
 
-returns-3 : tie.Need-returns-3
+returns-2 : tie.Need-returns-2
 unfolding nets-word
-returns-3 c =
+returns-2 c =
     let start = c .before .before .before .before .before .before .before .before .before .before .before .before in
     let read-line = c .before .before .before .before .before .before .before .before .before .read-line in
-    let if1 = c .before .before .before .before .before .before .if1 in
-    let if2 = c .before .before .before .before .before .if2 in
+    let in-pairs = c .before .before .before .before .before .before .before .before .in-pairs in
+    let layout-outcome = c .before .before .before .before .before .before .before .layout-outcome in
+    let is-accepted = c .before .before .before .before .before .before .is-accepted in
+    let if1 = c .before .before .before .before .before .if1 in
     let new = c .before .before .new in
     let found-outcome = c .found-outcome in
-    nets-found (start .args .lower .length .0) (start .args .upper .length .0) (start .args .i) (line (start .args .bytes .now) (start .args .ended)) (read-line .result) (read-line .ensures) (not-false _ (if1 .left)) (if2 .left) (found-outcome .result) (new .result) (new .ensures) (found-outcome .ensures)
+    nets-found (start .args .lower .length .0) (start .args .upper .length .0) (start .args .n) (line (start .args .bytes .now) (start .args .ended)) (read-line .result) (read-line .ensures) (in-pairs .result) (in-pairs .ensures) (layout-outcome .result) (layout-outcome .ensures) (sym (is-accepted .ensures) ∙ not-false _ (if1 .left)) (found-outcome .result) (new .result) (new .ensures) (found-outcome .ensures)
 
 pub read-nets-spec : {M : Type 1} → statement M
 read-nets-spec =
@@ -71,13 +66,11 @@ read-nets-spec =
     (tie.spec
     slice-aggregate-read-line
     read-line-requires
+    in-pairs-requires
+    layout-outcome-requires
+    is-accepted-requires
     none-requires
-    add-refused
-    refused-requires
     returns
-    add-refused-2
-    refused-requires-2
-    returns-2
     new-requires
     found-outcome-requires
-    returns-3)
+    returns-2)

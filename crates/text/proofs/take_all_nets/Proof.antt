@@ -3,16 +3,14 @@ use mathlib.Core.Path.{sym, _∙_}
 use Prim.Native.Nat.{_-_}
 use native.Mathlib.Omega.{arith}
 use borrow.Author.Tests.{not-true, not-false}
-use Rattle.text.specs.Text.{lines, k-of}
 use Rattle.text.specs.Driver.{Wiring}
-use Rattle.text.proofs.Stages.{wiring-starts, wiring-steps, wiring-refuses, wiring-ends}
-use Rattle.text.proofs.Whole.{nets-stay, nets-go-on, nets-then}
+use Rattle.text.proofs.Whole.{nets-stay, nets-go-on, nets-start, nets-step, nets-refuse, nets-end}
 use borrow.Author.Needs.{needs}
 use Rattle.text.proofs.take_all_nets.Statement.{statement}
 use Rattle.text.proofs.take_all_nets.Tie as tie
 
 abbrev Inv-loop : tie.InvT-loop
-Inv-loop text p₀ channels c₀ p c = Wiring text (k-of (lines text)) c p
+Inv-loop text p₀ channels c₀ p c = Wiring text c p
 
 abbrev μ-loop : tie.MeasureT-loop
 μ-loop text p₀ channels c₀ p c = channels - c
@@ -32,7 +30,7 @@ loop-holds c =
     let start = c .before .before .before in
     let is-accepted = c .before .is-accepted in
     let if1 = c .if1 in
-    wiring-starts (start .args .text .now) (k-of (lines (start .args .text .now))) (start .args .parts) (nets-go-on (start .args .text .now) (start .args .parts) (start .pre) (sym (is-accepted .ensures) ∙ not-false _ (if1 .left)))
+    nets-start (start .args .text .now) (start .args .parts) (start .pre) (sym (is-accepted .ensures) ∙ not-false _ (if1 .left))
 
 take-nets-requires : tie.Need-take-nets-requires Inv-loop μ-loop
 take-nets-requires c κs =
@@ -40,7 +38,7 @@ take-nets-requires c κs =
     let is-accepted = c .before .before .before .is-accepted in
     let if1 = c .before .before .if1 in
     let loop = c .before .loop in
-    omega (arith, nets-go-on (start .args .text .now) (start .args .parts) (start .pre) (sym (is-accepted .ensures) ∙ not-false _ (if1 .left)) .count, loop .inv .going .within, loop .inv .going .count, loop .inv .going .few)
+    (loop .inv, omega (arith, nets-go-on (start .args .text .now) (start .args .parts) (start .pre) (sym (is-accepted .ensures) ∙ not-false _ (if1 .left)) .count, loop .inv .going .count))
 
 is-accepted-requires-2 : tie.Need-is-accepted-requires-2 Inv-loop μ-loop
 is-accepted-requires-2 c κs = search needs
@@ -51,10 +49,11 @@ returns-2 c =
     let is-accepted = c .before .before .before .before .before .before .is-accepted in
     let if1 = c .before .before .before .before .before .if1 in
     let loop = c .before .before .before .before .loop in
+    let loop-test = c .before .before .before .loop-test in
     let take-nets = c .before .before .take-nets in
     let is-accepted2 = c .before .is-accepted2 in
     let if2 = c .if2 in
-    nets-then (start .args .text .now) (start .args .parts) (start .pre) (sym (is-accepted .ensures) ∙ not-false _ (if1 .left)) (take-nets .result) (wiring-refuses (start .args .text .now) (k-of (lines (start .args .text .now))) (loop .c) (loop .p) (take-nets .result) (omega (arith, nets-go-on (start .args .text .now) (start .args .parts) (start .pre) (sym (is-accepted .ensures) ∙ not-false _ (if1 .left)) .count)) (loop .inv) (take-nets .ensures) (sym (is-accepted2 .ensures) ∙ not-true _ (if2 .taken)))
+    nets-refuse (start .args .text .now) (start .args .parts) (start .pre) (sym (is-accepted .ensures) ∙ not-false _ (if1 .left)) (loop .c) (loop .p) (loop .inv) (take-nets .result) (loop-test .taken) (take-nets .ensures) (sym (is-accepted2 .ensures) ∙ not-true _ (if2 .taken))
 
 add-c : tie.Need-add-c Inv-loop μ-loop
 add-c c = search needs
@@ -68,10 +67,11 @@ loop-again c =
     let is-accepted = c .before .before .before .before .before .before .is-accepted in
     let if1 = c .before .before .before .before .before .if1 in
     let loop = c .before .before .before .before .loop in
+    let loop-test = c .before .before .before .loop-test in
     let take-nets = c .before .before .take-nets in
     let is-accepted2 = c .before .is-accepted2 in
     let if2 = c .if2 in
-    wiring-steps (start .args .text .now) (k-of (lines (start .args .text .now))) (loop .c) (loop .p) (take-nets .result) (omega (arith, nets-go-on (start .args .text .now) (start .args .parts) (start .pre) (sym (is-accepted .ensures) ∙ not-false _ (if1 .left)) .count)) (loop .inv) (take-nets .ensures) (sym (is-accepted2 .ensures) ∙ not-false _ (if2 .left))
+    nets-step (start .args .text .now) (start .args .parts) (start .pre) (sym (is-accepted .ensures) ∙ not-false _ (if1 .left)) (loop .c) (loop .p) (loop .inv) (take-nets .result) (loop-test .taken) (take-nets .ensures) (sym (is-accepted2 .ensures) ∙ not-false _ (if2 .left))
 
 returns-3 : tie.Need-returns-3 Inv-loop μ-loop
 returns-3 c =
@@ -79,7 +79,7 @@ returns-3 c =
     let is-accepted = c .before .before .before .is-accepted in
     let if1 = c .before .before .if1 in
     let loop = c .before .loop in
-    nets-then (start .args .text .now) (start .args .parts) (start .pre) (sym (is-accepted .ensures) ∙ not-false _ (if1 .left)) (loop .p) (wiring-ends (start .args .text .now) (k-of (lines (start .args .text .now))) (loop .c) (loop .p) (omega (arith, nets-go-on (start .args .text .now) (start .args .parts) (start .pre) (sym (is-accepted .ensures) ∙ not-false _ (if1 .left)) .count)) (loop .inv))
+    nets-end (start .args .text .now) (start .args .parts) (start .pre) (sym (is-accepted .ensures) ∙ not-false _ (if1 .left)) (loop .c) (loop .p) (loop .inv) (c .loop-test .left)
 
 pub take-all-nets-spec : {M : Type 1} → statement M
 take-all-nets-spec =

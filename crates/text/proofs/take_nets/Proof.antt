@@ -7,11 +7,14 @@ use Rattle.text.proofs.take_nets.Tie as tie
 line-end-requires : tie.Need-line-end-requires
 line-end-requires c κs = search needs
 
-add-i : tie.Need-add-i
-add-i c = search needs
+add-n : tie.Need-add-n
+add-n c = search needs
 
-add-i-2 : tie.Need-add-i-2
-add-i-2 c = search needs
+cast-n : tie.Need-cast-n
+cast-n c = search needs
+
+add-n-2 : tie.Need-add-n-2
+add-n-2 c = search needs
 
 mul-lower : tie.Need-mul-lower
 mul-lower c = search needs
@@ -37,9 +40,6 @@ part-read-nets-start c = search needs
 part-read-nets-end : tie.Need-part-read-nets-end
 part-read-nets-end c = search needs
 
-cast-read-nets : tie.Need-cast-read-nets
-cast-read-nets c = search needs
-
 read-nets-requires : tie.Need-read-nets-requires
 read-nets-requires c κs = search needs
 
@@ -55,15 +55,16 @@ returns c =
     let line-end = c .before .before .before .before .before .before .before .line-end in
     let read-nets = c .before .before .read-nets in
     let with-channel = c .with-channel in
-    nets-taken (start .args .text .now) (start .args .p) (start .args .c) (line-end .result) (start .pre .0) (line-end .ensures) (read-nets .result) (with-channel .result) (start .pre .1) (read-nets .ensures) (with-channel .ensures)
+    nets-taken (start .args .text .now) (start .args .p) (start .args .c) (line-end .result) (read-nets .result) (with-channel .result) (start .pre .0) (start .pre .1) (line-end .ensures) (read-nets .ensures) (with-channel .ensures)
 
 pub take-nets-spec : {M : Type 1} → statement M
 take-nets-spec =
     tie.close
     (tie.spec
     line-end-requires
-    add-i
-    add-i-2
+    add-n
+    cast-n
+    add-n-2
     mul-lower
     element-copy-out-lower
     add-upper
@@ -72,7 +73,6 @@ take-nets-spec =
     sub-read-nets
     part-read-nets-start
     part-read-nets-end
-    cast-read-nets
     read-nets-requires
     with-channel-requires
     add-t15

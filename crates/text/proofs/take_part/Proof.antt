@@ -37,7 +37,7 @@ returns c =
     let line-end = c .before .before .before .before .before .line-end in
     let read-part = c .before .before .before .read-part in
     let with-strip = c .with-strip in
-    part-taken (start .args .text .now) (start .args .p) (start .args .i) (line-end .result) (start .pre .0) (line-end .ensures) (read-part .result) (with-strip .result) (read-part .ensures) (with-strip .ensures)
+    part-taken (start .args .text .now) (start .args .p) (start .args .i) (line-end .result) (read-part .result) (with-strip .result) (start .pre .0) (start .pre .1) (line-end .ensures) (read-part .ensures) (with-strip .ensures)
 
 pub take-part-spec : {M : Type 1} → statement M
 take-part-spec =

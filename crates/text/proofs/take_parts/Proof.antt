@@ -3,16 +3,14 @@ use mathlib.Core.Path.{sym, _∙_}
 use Prim.Native.Nat.{_-_}
 use native.Mathlib.Omega.{arith}
 use borrow.Author.Tests.{not-true, not-false}
-use Rattle.text.specs.Text.{lines, k-of}
 use Rattle.text.specs.Driver.{Parting}
-use Rattle.text.proofs.Stages.{parting-starts, parting-steps, parting-refuses, parting-ends}
-use Rattle.text.proofs.Whole.{parts-stay, parts-go-on, parts-then}
+use Rattle.text.proofs.Whole.{parts-stay, parts-go-on, parts-start, parts-step, parts-refuse, parts-end}
 use borrow.Author.Needs.{needs}
 use Rattle.text.proofs.take_parts.Statement.{statement}
 use Rattle.text.proofs.take_parts.Tie as tie
 
 abbrev Inv-loop : tie.InvT-loop
-Inv-loop text p₀ strips i₀ p i = Parting text (k-of (lines text)) i p
+Inv-loop text p₀ strips i₀ p i = Parting text i p
 
 abbrev μ-loop : tie.MeasureT-loop
 μ-loop text p₀ strips i₀ p i = strips - i
@@ -39,7 +37,7 @@ loop-holds c =
     let start = c .before .before .before .before in
     let is-accepted = c .before .before .is-accepted in
     let if1 = c .before .if1 in
-    parting-starts (start .args .text .now) (k-of (lines (start .args .text .now))) (start .args .head) (parts-go-on (start .args .text .now) (start .args .head) (start .pre) (sym (is-accepted .ensures) ∙ not-false _ (if1 .left)))
+    parts-start (start .args .text .now) (start .args .head) (start .pre) (sym (is-accepted .ensures) ∙ not-false _ (if1 .left))
 
 take-part-requires : tie.Need-take-part-requires Inv-loop μ-loop
 take-part-requires c κs =
@@ -47,7 +45,7 @@ take-part-requires c κs =
     let is-accepted = c .before .before .before .before .is-accepted in
     let if1 = c .before .before .before .if1 in
     let loop = c .before .loop in
-    omega (arith, parts-go-on (start .args .text .now) (start .args .head) (start .pre) (sym (is-accepted .ensures) ∙ not-false _ (if1 .left)) .count, loop .inv .going .within, loop .inv .going .count, loop .inv .going .few)
+    (loop .inv, omega (arith, parts-go-on (start .args .text .now) (start .args .head) (start .pre) (sym (is-accepted .ensures) ∙ not-false _ (if1 .left)) .count, loop .inv .going .count))
 
 is-accepted-requires-2 : tie.Need-is-accepted-requires-2 Inv-loop μ-loop
 is-accepted-requires-2 c κs = search needs
@@ -58,10 +56,11 @@ returns-2 c =
     let is-accepted = c .before .before .before .before .before .before .before .is-accepted in
     let if1 = c .before .before .before .before .before .before .if1 in
     let loop = c .before .before .before .before .loop in
+    let loop-test = c .before .before .before .loop-test in
     let take-part = c .before .before .take-part in
     let is-accepted2 = c .before .is-accepted2 in
     let if2 = c .if2 in
-    parts-then (start .args .text .now) (start .args .head) (start .pre) (sym (is-accepted .ensures) ∙ not-false _ (if1 .left)) (take-part .result) (parting-refuses (start .args .text .now) (k-of (lines (start .args .text .now))) (loop .i) (loop .p) (take-part .result) (omega (arith, parts-go-on (start .args .text .now) (start .args .head) (start .pre) (sym (is-accepted .ensures) ∙ not-false _ (if1 .left)) .count)) (loop .inv) (take-part .ensures) (sym (is-accepted2 .ensures) ∙ not-true _ (if2 .taken)))
+    parts-refuse (start .args .text .now) (start .args .head) (start .pre) (sym (is-accepted .ensures) ∙ not-false _ (if1 .left)) (loop .i) (loop .p) (loop .inv) (take-part .result) (loop-test .taken) (take-part .ensures) (sym (is-accepted2 .ensures) ∙ not-true _ (if2 .taken))
 
 add-i : tie.Need-add-i Inv-loop μ-loop
 add-i c = search needs
@@ -75,10 +74,11 @@ loop-again c =
     let is-accepted = c .before .before .before .before .before .before .before .is-accepted in
     let if1 = c .before .before .before .before .before .before .if1 in
     let loop = c .before .before .before .before .loop in
+    let loop-test = c .before .before .before .loop-test in
     let take-part = c .before .before .take-part in
     let is-accepted2 = c .before .is-accepted2 in
     let if2 = c .if2 in
-    parting-steps (start .args .text .now) (k-of (lines (start .args .text .now))) (loop .i) (loop .p) (take-part .result) (omega (arith, parts-go-on (start .args .text .now) (start .args .head) (start .pre) (sym (is-accepted .ensures) ∙ not-false _ (if1 .left)) .count)) (loop .inv) (take-part .ensures) (sym (is-accepted2 .ensures) ∙ not-false _ (if2 .left))
+    parts-step (start .args .text .now) (start .args .head) (start .pre) (sym (is-accepted .ensures) ∙ not-false _ (if1 .left)) (loop .i) (loop .p) (loop .inv) (take-part .result) (loop-test .taken) (take-part .ensures) (sym (is-accepted2 .ensures) ∙ not-false _ (if2 .left))
 
 returns-3 : tie.Need-returns-3 Inv-loop μ-loop
 returns-3 c =
@@ -86,7 +86,7 @@ returns-3 c =
     let is-accepted = c .before .before .before .before .is-accepted in
     let if1 = c .before .before .before .if1 in
     let loop = c .before .loop in
-    parts-then (start .args .text .now) (start .args .head) (start .pre) (sym (is-accepted .ensures) ∙ not-false _ (if1 .left)) (loop .p) (parting-ends (start .args .text .now) (k-of (lines (start .args .text .now))) (loop .i) (loop .p) (omega (arith, parts-go-on (start .args .text .now) (start .args .head) (start .pre) (sym (is-accepted .ensures) ∙ not-false _ (if1 .left)) .count)) (loop .inv))
+    parts-end (start .args .text .now) (start .args .head) (start .pre) (sym (is-accepted .ensures) ∙ not-false _ (if1 .left)) (loop .i) (loop .p) (loop .inv) (c .loop-test .left)
 
 pub take-parts-spec : {M : Type 1} → statement M
 take-parts-spec =

@@ -1,0 +1,137 @@
+-- The laws of the arguments: digits within 64 bits, what is a number and what is none, which command words are, and a trial's arrays filled. Assumes nothing.
+use mathlib.Core.Path.{_≡_, refl, sym, _∙_}
+use mathlib.Core.Bool.{Bool, true, false}
+use mathlib.Core.List.{List, map}
+use Prim.Native.Nat.{ℕ, zero, suc, _+_, _^_, _≤_, _<_}
+use native.Mathlib.Nat.{pow-le-pow-right}
+use native.Mathlib.Omega.{arith}
+use lib.ListN.{length, getD, set}
+use borrow.Author.Tests.{le-leb, lt-leb, eq-eqb, ne-eqb}
+use Rattle.numbers.specs.Lists.{filled}
+use Rattle.numbers.proofs.Lists.{map-set, filled-steps}
+use Rattle.lines.specs.Lines.{is-digit, all-digits, value, same-bytes}
+use Rattle.lines.specs.Numbers.{Counting}
+use Rattle.lines.proofs.Digits.{counting-refuses, counting-ends}
+use Rattle.commands.specs.Words.{is-number, number-in, Number-read, Digits-read, help-word, short-help, long-help, version-option, trial-word, spread-word, is-help, command-alone, command-in}
+use Rattle.commands.specs.declared.Digits.{Digits}
+use Rattle.commands.specs.declared.Command.the-variants.{Table, Spread, Trial, Help, Version, Wrong}
+
+-- DIGITS
+module _ (xs : List ℕ) (i v : ℕ) (m : Counting xs i v) where
+  pub counted-small : i < 10 → v < 1000000000
+  counted-small h =
+      let p : 10 ^ i ≤ 10 ^ 9 = pow-le-pow-right {n = 10} (omega arith) {i = i} {j = 9} (omega arith) in
+      let q : 10 ^ 9 ≡ 1000000000 = refl in
+      omega (arith, m .small)
+
+  pub digits-refused : i < length xs → is-digit (getD xs i 0) ≡ false → Digits-read xs (record { good = false; value = 0 })
+  digits-refused h d = let r = counting-refuses xs i v m h d in record { good = r .good; value = r .value }
+
+  pub digits-end : length xs ≤ i → Digits-read xs (record { good = true; value = v })
+  digits-end h = let r = counting-ends xs i v m h in record { good = r .good; value = r .value }
+
+-- NUMBERS
+none : (xs : List ℕ) → is-number xs ≡ false → Number-read xs (record { good = false; value = 0 })
+unfolding number-in
+none xs e = record { good = sym e; value = rw e }
+
+pub number-empty : (xs : List ℕ) → length xs < 1 → Number-read xs (record { good = false; value = 0 })
+unfolding is-number
+number-empty xs h = none xs (rw (lt-leb 1 (length xs) h))
+
+module _ (xs : List ℕ) (some : 1 ≤ length xs) where
+  pub number-long : 10 < length xs → Number-read xs (record { good = false; value = 0 })
+  unfolding is-number
+  number-long h = none xs (rw (le-leb 1 (length xs) some, lt-leb (length xs) 10 h))
+
+  module _ (few : length xs ≤ 10) (r : Digits) (d : Digits-read xs r) where
+    pub number-other : r .good ≡ false → Number-read xs (record { good = false; value = 0 })
+    unfolding is-number
+    number-other h = none xs (rw (le-leb 1 (length xs) some, le-leb (length xs) 10 few, sym (d .good) ∙ h))
+
+    module _ (good : r .good ≡ true) where
+      all : all-digits xs ≡ true
+      all = sym (d .good) ∙ good
+
+      value-is : r .value ≡ value xs
+      value-is = d .value ∙ rw all
+
+      pub number-large : 4294967295 < r .value → Number-read xs (record { good = false; value = 0 })
+      unfolding is-number
+      number-large h =
+          let large : 4294967295 < value xs = rw value-is at h in
+          none xs (rw (le-leb 1 (length xs) some, le-leb (length xs) 10 few, all, lt-leb (value xs) 4294967295 large))
+
+      pub number-read : r .value ≤ 4294967295 → Number-read xs (record { good = true; value = r .value })
+      unfolding is-number number-in
+      number-read h =
+          let small : value xs ≤ 4294967295 = rw value-is at h in
+          let e : is-number xs ≡ true = rw (le-leb 1 (length xs) some, le-leb (length xs) 10 few, all, le-leb (value xs) 4294967295 small) in
+          record { good = sym e; value = rw e value-is }
+
+-- COMMANDS
+module _ (w : List ℕ) (a : Bool) (word : a ≡ same-bytes w help-word) where
+  pub help-by-word : a ≡ true → true ≡ is-help w
+  unfolding is-help
+  help-by-word h = rw (sym word ∙ h)
+
+  module _ (h : a ≡ false) (b : Bool) (short : b ≡ same-bytes w short-help) where
+    pub help-by-short : b ≡ true → true ≡ is-help w
+    unfolding is-help
+    help-by-short k = rw (sym word ∙ h, sym short ∙ k)
+
+    pub help-by-long : (c : Bool) → b ≡ false → c ≡ same-bytes w long-help → c ≡ is-help w
+    unfolding is-help
+    help-by-long c k e = e ∙ rw (sym word ∙ h, sym short ∙ k)
+
+module _ (w : List ℕ) (a : Bool) (help : a ≡ is-help w) where
+  pub alone-help : a ≡ true → Help ≡ command-alone w
+  unfolding command-alone
+  alone-help h = rw (sym help ∙ h)
+
+  module _ (h : a ≡ false) (b : Bool) (option : b ≡ same-bytes w version-option) where
+    pub alone-version : b ≡ true → Version ≡ command-alone w
+    unfolding command-alone
+    alone-version k = rw (sym help ∙ h, sym option ∙ k)
+
+    pub alone-wrong : b ≡ false → Wrong ≡ command-alone w
+    unfolding command-alone
+    alone-wrong k = rw (sym help ∙ h, sym option ∙ k)
+
+module _ (w : List ℕ) (n : ℕ) where
+  pub no-words : n ≡ 0 → Table ≡ command-in w n
+  unfolding command-in
+  no-words e = rw (eq-eqb n 0 e)
+
+  module _ (some : n ≡ 0 → ⊥) where
+    pub one-word : n ≡ 1 → command-alone w ≡ command-in w n
+    unfolding command-in
+    one-word h = rw (ne-eqb n 0 some, eq-eqb n 1 h)
+
+    module _ (more : n ≡ 1 → ⊥) (b : Bool) (same : b ≡ same-bytes w trial-word) where
+      pub trial-there : b ≡ true → Trial ≡ command-in w n
+      unfolding command-in
+      trial-there h = rw (ne-eqb n 0 some, ne-eqb n 1 more, sym same ∙ h)
+
+      pub many-wrong : b ≡ false → (n ≡ 2 → ⊥) → Wrong ≡ command-in w n
+      unfolding command-in
+      many-wrong h two = rw (ne-eqb n 0 some, ne-eqb n 1 more, sym same ∙ h, ne-eqb n 2 two)
+
+      module _ (h : b ≡ false) (two : n ≡ 2) (a : Bool) (like : a ≡ same-bytes w spread-word) where
+        pub spread-there : a ≡ true → Spread ≡ command-in w n
+        unfolding command-in
+        spread-there k = rw (ne-eqb n 0 some, ne-eqb n 1 more, sym same ∙ h, eq-eqb n 2 two, sym like ∙ k)
+
+        pub two-wrong : a ≡ false → Wrong ≡ command-in w n
+        unfolding command-in
+        two-wrong k = rw (ne-eqb n 0 some, ne-eqb n 1 more, sym same ∙ h, eq-eqb n 2 two, sym like ∙ k)
+
+-- a trial has words
+pub trial-words : (w : List ℕ) (n : ℕ) → Trial ≡ command-in w n → 0 < n
+trial-words w zero e = let q : _≡_ {A = ℕ} 0 1 = cc (no-words w 0 refl) in absurd (omega arith)
+trial-words w (suc n) e = omega arith
+
+-- one place more of an array is filled
+pub filled-more : {A : Type 0} (f : A → ℕ) (n i : ℕ) (rule : ℕ → ℕ) (xs : List A) (a : A) → i < n → f a ≡ rule i → map f xs ≡ filled n i rule 0 →
+    map f (set xs i a) ≡ filled n (i + 1) rule 0
+filled-more f n i rule xs a h e m = map-set f xs i a ∙ rw (e, m) (filled-steps n i rule 0 h)

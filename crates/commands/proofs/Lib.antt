@@ -1,0 +1,3 @@
+-- The laws of the arguments, and of what is printed.
+pub mod Arguments
+pub mod Printing

@@ -1,0 +1,67 @@
+-- read_command meets its contract, case by case. Assumes nothing.
+use Rattle.commands.proofs.Arguments.{no-words, one-word, trial-there, many-wrong, spread-there, two-wrong}
+use Rattle.commands.specs.Words.{trial-word, spread-word}
+use borrow.Author.Needs.{needs}
+use Rattle.commands.proofs.read_command.Statement.{statement}
+use Rattle.commands.proofs.read_command.Tie as tie
+
+returns : tie.Need-returns
+returns c = no-words (c .before .before .args .word .now) (c .before .before .args .words) (c .if1 .taken)
+
+read-alone-requires : tie.Need-read-alone-requires
+read-alone-requires c κs = search needs
+
+returns-2 : tie.Need-returns-2
+returns-2 c = rw (← one-word _ _ (c .before .before .if1 .left) (c .before .if2 .taken)) (c .read-alone .ensures)
+
+slice-aggregate-is-word : tie.Need-slice-aggregate-is-word
+slice-aggregate-is-word c = search needs
+
+is-word-requires : tie.Need-is-word-requires
+is-word-requires c κs = search needs
+
+returns-3 : tie.Need-returns-3
+unfolding trial-word
+returns-3 c =
+    let start = c .before .before .before .before .before .before in
+    trial-there (start .args .word .now) (start .args .words) (c .before .before .before .before .if1 .left) (c .before .before .before .if2 .left) (c .before .is-word .result) (c .before .is-word .ensures) (c .if3 .taken)
+
+returns-4 : tie.Need-returns-4
+unfolding trial-word
+returns-4 c =
+    let start = c .before .before .before .before .before .before .before in
+    many-wrong (start .args .word .now) (start .args .words) (c .before .before .before .before .before .if1 .left) (c .before .before .before .before .if2 .left) (c .before .before .is-word .result) (c .before .before .is-word .ensures) (c .before .if3 .left) (c .if4 .taken)
+
+slice-aggregate-is-word-2 : tie.Need-slice-aggregate-is-word-2
+slice-aggregate-is-word-2 c = search needs
+
+is-word-requires-2 : tie.Need-is-word-requires-2
+is-word-requires-2 c κs = search needs
+
+returns-5 : tie.Need-returns-5
+unfolding trial-word spread-word
+returns-5 c =
+    let start = c .before .before .before .before .before .before .before .before .before .before in
+    spread-there (start .args .word .now) (start .args .words) (c .before .before .before .before .before .before .before .before .if1 .left) (c .before .before .before .before .before .before .before .if2 .left) (c .before .before .before .before .before .is-word .result) (c .before .before .before .before .before .is-word .ensures) (c .before .before .before .before .if3 .left) (c .before .before .before .if4 .left) (c .before .is-word2 .result) (c .before .is-word2 .ensures) (c .if5 .taken)
+
+returns-6 : tie.Need-returns-6
+unfolding trial-word spread-word
+returns-6 c =
+    let start = c .before .before .before .before .before .before .before .before .before .before in
+    two-wrong (start .args .word .now) (start .args .words) (c .before .before .before .before .before .before .before .before .if1 .left) (c .before .before .before .before .before .before .before .if2 .left) (c .before .before .before .before .before .is-word .result) (c .before .before .before .before .before .is-word .ensures) (c .before .before .before .before .if3 .left) (c .before .before .before .if4 .left) (c .before .is-word2 .result) (c .before .is-word2 .ensures) (c .if5 .left)
+
+pub read-command-spec : {M : Type 1} → statement M
+read-command-spec =
+    tie.close
+    (tie.spec
+    returns
+    read-alone-requires
+    returns-2
+    slice-aggregate-is-word
+    is-word-requires
+    returns-3
+    returns-4
+    slice-aggregate-is-word-2
+    is-word-requires-2
+    returns-5
+    returns-6)

@@ -1,0 +1,3 @@
+-- What the arguments stand for, and what is printed.
+pub mod Words
+pub mod Output

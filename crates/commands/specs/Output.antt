@@ -1,0 +1,73 @@
+-- What is printed, a table, a row or a verdict, or the line of a refusal, and the exit status that goes with it. Assumes nothing: these are definitions.
+use mathlib.Core.Path.{_≡_}
+use mathlib.Core.Bool.{Bool, cond}
+use mathlib.Core.List.{List, [], _∷_}
+use Prim.Native.Nat.{ℕ, _+_, _*_, _≤_}
+use lib.Dec.{eqb}
+use lib.ListN.{length, getD, take}
+use Rattle.numbers.specs.Lists.{filled}
+use Rattle.stack.specs.Stack.{Row, Rows-are}
+use Rattle.text.specs.Text.{Refusal, text-refusal, stack-in}
+use Rattle.writing.specs.TableText.{row-text, table-text, refusal-text}
+use Rattle.writing.specs.Output.{row-of}
+use Rattle.trial.specs.Legal.{is-legal}
+use Rattle.nabetsu.specs.Entry.{spread-refusal, Spread-says}
+use Rattle.nabetsu.specs.declared.SpreadAnswer.{SpreadAnswer}
+use Rattle.commands.specs.declared.Reply.{Reply}
+
+-- a text is the first bytes of an output, and a status goes with it
+pub record Printed (text : List ℕ) (status : ℕ) (output : List ℕ) (r : Reply) : Type 0 where
+  pub counted : r .length ≡ length text
+  pub within : r .length ≤ length output
+  pub stands : take (r .length) output ≡ text
+  pub with-status : r .status ≡ status
+
+-- a text, or where something is refused the refusal's line instead
+unfoldable pub unless-refused : Refusal → List ℕ → List ℕ
+unless-refused f t = cond (eqb (f .number) 0) t (refusal-text (f .number) (f .line) (f .field))
+
+-- the STATUS that goes with it: 0 for the text, 1 for the refusal's line
+unfoldable pub status-of : Refusal → ℕ
+status-of f = cond (eqb (f .number) 0) 0 1
+
+abbrev pub Replied : Refusal → (text output : List ℕ) → Reply → Type 0
+Replied f t o r = Printed (unless-refused f t) (status-of f) o r
+
+-- how many channels the stack in a text has
+abbrev pub channels : List ℕ → ℕ
+channels bs = length (stack-in bs .channels)
+
+-- THE TABLE: 1 to 6, else the table of the stack's rows; the program's space is enough for every table, so 8 never happens
+pub record Table-printed (bs output : List ℕ) (r : Reply) : Type 0 where
+  pub rows : List Row
+  pub rows-are : text-refusal bs .number ≡ 0 → Rows-are (stack-in bs) rows
+  pub printed : Replied (text-refusal bs) (table-text (channels bs) rows) output r
+
+-- ONE SPREAD: 1 to 7, else the answer's row
+pub record Spread-printed (bs : List ℕ) (s : ℕ) (output : List ℕ) (r : Reply) : Type 0 where
+  pub answer : SpreadAnswer
+  pub says : Spread-says bs s answer
+  pub printed : Replied (spread-refusal bs s) (row-text (row-of (channels bs) s (answer .separations) (answer .positions))) output r
+
+-- A TRIAL's numbers: the spread, k separations, k + 1 positions; zeros in unused places
+unfoldable pub separations-in : (k : ℕ) → (numbers : List ℕ) → List ℕ
+separations-in k vs = filled 8 k (λ i. getD vs (1 + i) 0) 0
+
+unfoldable pub positions-in : (k : ℕ) → (numbers : List ℕ) → List ℕ
+positions-in k vs = filled 9 (k + 1) (λ i. getD vs (1 + k + i) 0) 0
+
+-- the verdict: legal or not legal, and a line feed
+unfoldable pub verdict-text : Bool → List ℕ
+verdict-text v =
+    cond v (108 ∷ 101 ∷ 103 ∷ 97 ∷ 108 ∷ 10 ∷ []) (110 ∷ 111 ∷ 116 ∷ 32 ∷ 108 ∷ 101 ∷ 103 ∷ 97 ∷ 108 ∷ 10 ∷ [])
+
+-- 1 to 6, else the verdict; nothing where so many numbers are not those of k channels
+unfoldable pub trial-text : List ℕ → (count : ℕ) → (numbers : List ℕ) → List ℕ
+trial-text bs n vs =
+    let k = channels bs in
+    unless-refused (text-refusal bs)
+    (cond (eqb n (2 * k + 2)) (verdict-text (is-legal (stack-in bs) (getD vs 0 0) (separations-in k vs) (positions-in k vs))) [])
+
+-- its status: 2 where they are not, which is said on standard error
+unfoldable pub trial-status : List ℕ → (count : ℕ) → ℕ
+trial-status bs n = cond (eqb (text-refusal bs .number) 0) (cond (eqb n (2 * channels bs + 2)) 0 2) 1

@@ -1,0 +1,63 @@
+-- What the arguments stand for: numbers and commands. Assumes nothing: these are definitions.
+use mathlib.Core.Path.{_≡_}
+use mathlib.Core.Bool.{Bool, _&&_, _||_, cond}
+use mathlib.Core.List.{List, [], _∷_}
+use Prim.Native.Nat.{ℕ}
+use lib.Dec.{leb, eqb}
+use lib.ListN.{length}
+use Rattle.lines.specs.Lines.{all-digits, value, same-bytes}
+use Rattle.commands.specs.declared.Digits.{Digits}
+use Rattle.commands.specs.declared.Number.{Number}
+use Rattle.commands.specs.declared.Command.{Command}
+use Rattle.commands.specs.declared.Command.the-variants.{Table, Spread, Trial, Help, Version, Wrong}
+
+-- a NUMBER: 1 to 10 decimal digits, at most 4294967295
+unfoldable pub is-number : List ℕ → Bool
+is-number xs = (leb 1 (length xs) && leb (length xs) 10) && (all-digits xs && leb (value xs) 4294967295)
+
+-- which number; 0 where it is none
+unfoldable pub number-in : List ℕ → ℕ
+number-in xs = cond (is-number xs) (value xs) 0
+
+pub record Number-read (xs : List ℕ) (r : Number) : Type 0 where
+  pub good : r .good ≡ is-number xs
+  pub value : r .value ≡ number-in xs
+
+-- digits, and their value; 0 where one is no digit
+pub record Digits-read (xs : List ℕ) (r : Digits) : Type 0 where
+  pub good : r .good ≡ all-digits xs
+  pub value : r .value ≡ cond (all-digits xs) (value xs) 0
+
+-- the words help, trial and spread, and the options -h, --help and --version
+unfoldable pub help-word : List ℕ
+help-word = 104 ∷ 101 ∷ 108 ∷ 112 ∷ []
+
+unfoldable pub trial-word : List ℕ
+trial-word = 116 ∷ 114 ∷ 105 ∷ 97 ∷ 108 ∷ []
+
+unfoldable pub spread-word : List ℕ
+spread-word = 115 ∷ 112 ∷ 114 ∷ 101 ∷ 97 ∷ 100 ∷ []
+
+unfoldable pub short-help : List ℕ
+short-help = 45 ∷ 104 ∷ []
+
+unfoldable pub long-help : List ℕ
+long-help = 45 ∷ 45 ∷ 104 ∷ 101 ∷ 108 ∷ 112 ∷ []
+
+unfoldable pub version-option : List ℕ
+version-option = 45 ∷ 45 ∷ 118 ∷ 101 ∷ 114 ∷ 115 ∷ 105 ∷ 111 ∷ 110 ∷ []
+
+unfoldable pub is-help : List ℕ → Bool
+is-help w = same-bytes w help-word || (same-bytes w short-help || same-bytes w long-help)
+
+-- a COMMAND of one word
+unfoldable pub command-alone : List ℕ → Command
+command-alone w = cond (is-help w) Help (cond (same-bytes w version-option) Version Wrong)
+
+-- a COMMAND of so many words, of which w is the first: none is the table; spread has one number, trial some
+unfoldable pub command-in : List ℕ → (words : ℕ) → Command
+command-in w n =
+    cond (eqb n 0) Table
+    (cond (eqb n 1) (command-alone w)
+    (cond (same-bytes w trial-word) Trial
+    (cond (eqb n 2) (cond (same-bytes w spread-word) Spread Wrong) Wrong)))

@@ -1,0 +1,301 @@
+// The program's commands, on slices: what its arguments stand for, and for each command what is printed of a text and the exit status that goes with it.
+ghost use mathlib.Core.Path.{_≡_};
+ghost use mathlib.Core.List.{[]};
+ghost use Prim.Native.Nat.{_≤_};
+ghost use lib.ListN.{length};
+ghost use Rattle.stack.specs.Value.{tracks-of, columns-of};
+ghost use Rattle.text.specs.Outcome.{refusal-of};
+ghost use Rattle.writing.specs.Output.{Line-put};
+ghost use Rattle.commands.specs.Words.{Digits-read, Number-read, is-help, command-alone, command-in};
+ghost use Rattle.commands.specs.Output.{
+  Printed,
+  Replied,
+  Table-printed,
+  Spread-printed,
+  separations-in,
+  positions-in,
+  verdict-text,
+  trial-text,
+  trial-status,
+};
+use lines::is_digit;
+use lines::is_word;
+use nabetsu::TABLE_BYTES;
+use nabetsu::answer_spread;
+use nabetsu::try_placement;
+use nabetsu::write_table;
+use stack::Columns;
+use stack::Stack;
+use stack::Tracks;
+use text::Outcome;
+use text::read_stack;
+use writing::put_line;
+use writing::put_refusal;
+use writing::put_row;
+
+// A trial's spread, separations and positions.
+pub const NUMBERS: usize = 2 * Stack::MAX_CHANNELS + 2;
+
+// The exit status where an answer is printed, where a refusal is, and where something is said on standard error.
+pub const ANSWERED: u32 = 0;
+
+const REFUSED: u32 = 1;
+
+pub const FAILED: u32 = 2;
+
+const MAX_DIGITS: usize = 10;
+
+const MAX_NUMBER: u64 = 4294967295;
+
+const ZERO: u8 = 48;
+
+// Whether a word's bytes are all digits, and their value; 0 where they are not.
+struct Digits {
+    good: bool,
+    value: u64,
+}
+
+// Whether a word is a number, and which; 0 where it is none.
+pub struct Number {
+    pub good: bool,
+    pub value: u32,
+}
+
+fn read_digits(word: &[u8]) -> Digits
+    requires { ⌜ length (now word) ≤ 10 ⌝ }
+    ensures { λ r. ⌜ Digits-read (now (word .entry)) r ⌝ }
+{
+    let mut value: u64 = 0;
+    for i in 0..word.len() {
+        let x = word[i];
+        if !is_digit(x) {
+            return Digits {
+                good: false,
+                value: 0,
+            };
+        }
+        value = 10 * value + (x as u64 - ZERO as u64);
+    }
+    Digits { good: true, value }
+}
+
+// A number: 1 to 10 decimal digits, at most 4294967295.
+pub fn read_number(word: &[u8]) -> Number
+    ensures { λ r. ⌜ Number-read (now (word .entry)) r ⌝ }
+{
+    let none = Number {
+        good: false,
+        value: 0,
+    };
+    if word.len() < 1 {
+        return none;
+    }
+    if MAX_DIGITS < word.len() {
+        return none;
+    }
+    let digits = read_digits(word);
+    if !digits.good {
+        return none;
+    }
+    if MAX_NUMBER < digits.value {
+        return none;
+    }
+    Number {
+        good: true,
+        value: digits.value as u32,
+    }
+}
+
+pub enum Command {
+    Table,
+    Spread,
+    Trial,
+    Help,
+    Version,
+    Wrong,
+}
+
+// Whether a word asks for help.
+fn is_help(word: &[u8]) -> bool
+    ensures { λ r. ⌜ r ≡ is-help (now (word .entry)) ⌝ }
+{
+    if is_word(word, b"help") {
+        return true;
+    }
+    if is_word(word, b"-h") {
+        return true;
+    }
+    is_word(word, b"--help")
+}
+
+// The command of one word.
+fn read_alone(word: &[u8]) -> Command
+    ensures { λ r. ⌜ r ≡ command-alone (now (word .entry)) ⌝ }
+{
+    if is_help(word) {
+        return Command::Help;
+    }
+    if is_word(word, b"--version") {
+        return Command::Version;
+    }
+    Command::Wrong
+}
+
+// The command of so many words, of which this is the first.
+pub fn read_command(word: &[u8], words: usize) -> Command
+    ensures { λ r. ⌜ r ≡ command-in (now (word .entry)) words ⌝ }
+{
+    if words == 0 {
+        return Command::Table;
+    }
+    if words == 1 {
+        return read_alone(word);
+    }
+    if is_word(word, b"trial") {
+        return Command::Trial;
+    }
+    if words != 2 {
+        return Command::Wrong;
+    }
+    if is_word(word, b"spread") {
+        return Command::Spread;
+    }
+    Command::Wrong
+}
+
+// What stands at the start of an output: how many bytes, and the status that goes with them.
+pub struct Reply {
+    pub length: usize,
+    pub status: u32,
+}
+
+// The line of a refusal; nothing where there is none.
+fn put_outcome(outcome: Outcome, output: &mut [u8; TABLE_BYTES]) -> Reply
+    ensures { λ r. ⌜ Replied (refusal-of outcome) [] (now (output .exit)) r ⌝ }
+{
+    match outcome {
+        Outcome::Accepted => Reply {
+            length: 0,
+            status: ANSWERED,
+        },
+        Outcome::Refused(r) => {
+            let why = r.why;
+            let length = put_refusal(output, why.number(), r.line, r.field);
+            Reply {
+                length,
+                status: REFUSED,
+            }
+        }
+    }
+}
+
+// All that is printed of a text: its table, or the refusal's line.
+pub fn put_table(text: &[u8], output: &mut [u8; TABLE_BYTES]) -> Reply
+    ensures { λ r. ⌜ Table-printed (now (text .entry)) (now (output .exit)) r ⌝ }
+{
+    let answer = write_table(text, output);
+    let outcome = answer.outcome;
+    if !outcome.is_accepted() {
+        return put_outcome(outcome, output);
+    }
+    Reply {
+        length: answer.written,
+        status: ANSWERED,
+    }
+}
+
+// All that is printed for one spread: its row, or the refusal's line.
+pub fn put_spread(text: &[u8], spread: u32, output: &mut [u8; TABLE_BYTES]) -> Reply
+    ensures { λ r. ⌜ Spread-printed (now (text .entry)) spread (now (output .exit)) r ⌝ }
+{
+    let answer = answer_spread(text, spread);
+    let outcome = answer.outcome;
+    if !outcome.is_accepted() {
+        return put_outcome(outcome, output);
+    }
+    let reading = read_stack(text);
+    let total = answer.total;
+    let separations = answer.separations;
+    let positions = answer.positions;
+    let length = put_row(
+        output,
+        reading.stack.count,
+        spread,
+        total.0,
+        separations,
+        positions,
+    );
+    Reply {
+        length,
+        status: ANSWERED,
+    }
+}
+
+// A trial's first k separations, and zeros.
+fn separations(numbers: [u32; NUMBERS], k: usize) -> [Tracks; Stack::MAX_CHANNELS]
+    requires { ⌜ k ≤ 8 ⌝ }
+    ensures { λ r. ⌜ tracks-of r ≡ separations-in k numbers ⌝ }
+{
+    let mut separations = [Tracks(0); Stack::MAX_CHANNELS];
+    for i in 0..k {
+        separations[i] = Tracks(numbers[1 + i]);
+    }
+    separations
+}
+
+// A trial's first k + 1 positions, behind its separations, and zeros.
+fn positions(numbers: [u32; NUMBERS], k: usize) -> [Columns; Stack::MAX_CHANNELS + 1]
+    requires { ⌜ k ≤ 8 ⌝ }
+    ensures { λ r. ⌜ columns-of r ≡ positions-in k numbers ⌝ }
+{
+    let mut positions = [Columns(0); Stack::MAX_CHANNELS + 1];
+    for i in 0..k + 1 {
+        positions[i] = Columns(numbers[1 + k + i]);
+    }
+    positions
+}
+
+// The line of a verdict.
+fn put_verdict(legal: bool, output: &mut [u8]) -> usize
+    ensures { λ r. ⌜ Line-put (verdict-text legal) (now (output .entry)) (now (output .exit)) r ⌝ }
+{
+    if legal {
+        return put_line(output, b"legal\n");
+    }
+    put_line(output, b"not legal\n")
+}
+
+// All that is printed of a trial with so many numbers: the verdict, or the refusal's line; nothing, with the status of what is said then, where the count does
+// not fit the stack.
+pub fn put_trial(
+    text: &[u8],
+    count: usize,
+    numbers: [u32; NUMBERS],
+    output: &mut [u8; TABLE_BYTES],
+) -> Reply
+    ensures { λ r. ⌜ Printed (trial-text (now (text .entry)) count numbers) (trial-status (now (text .entry)) count) (now (output .exit)) r ⌝ }
+{
+    let reading = read_stack(text);
+    let outcome = reading.outcome;
+    if !outcome.is_accepted() {
+        return put_outcome(outcome, output);
+    }
+    let k = reading.stack.count;
+    if count != 2 * k + 2 {
+        return Reply {
+            length: 0,
+            status: FAILED,
+        };
+    }
+    let answer = try_placement(
+        text,
+        numbers[0],
+        separations(numbers, k),
+        positions(numbers, k),
+    );
+    let length = put_verdict(answer.legal, output);
+    Reply {
+        length,
+        status: ANSWERED,
+    }
+}

@@ -1,0 +1,232 @@
+// A text's lines: where each ends, and one reader for the lines of every word.
+ghost use mathlib.Core.Path.{_≡_};
+ghost use mathlib.Core.List.{[]};
+ghost use Prim.Native.Nat.{suc, _≤_, _<_, _^_};
+ghost use lib.ListN.{length, set};
+ghost use Rattle.lines.specs.Lines.{line, is-digit, same-bytes};
+ghost use Rattle.lines.specs.Cut.{run, Line-from};
+ghost use Rattle.lines.specs.Numbers.{
+  sized,
+  Digits-read,
+  Field-read,
+  Numbers-read,
+  first-ill,
+  Field-added,
+  fields-from,
+  Line-read,
+};
+
+const TAB: u8 = 9;
+
+const LINE_FEED: u8 = 10;
+
+// How many bytes stand before the first b; all, where there is none.
+fn run(bytes: &[u8], b: u8) -> usize
+    ensures { λ r. ⌜ r ≡ run b (now (bytes .entry)) ⌝ }
+{
+    for i in 0..bytes.len() {
+        if bytes[i] == b {
+            return i;
+        }
+    }
+    bytes.len()
+}
+
+// Whether two byte strings are the same.
+pub fn is_word(field: &[u8], word: &[u8]) -> bool
+    ensures { λ r. ⌜ r ≡ same-bytes (now (field .entry)) (now (word .entry)) ⌝ }
+{
+    if field.len() != word.len() {
+        return false;
+    }
+    for i in 0..field.len() {
+        if field[i] != word[i] {
+            return false;
+        }
+    }
+    true
+}
+
+const ZERO: u8 = 48;
+
+const NINE: u8 = 57;
+
+const MAX_DIGITS: usize = 4;
+
+// Whether a byte is a decimal digit.
+pub fn is_digit(x: u8) -> bool
+    ensures { λ r. ⌜ r ≡ is-digit x ⌝ }
+{
+    if x < ZERO {
+        return false;
+    }
+    x <= NINE
+}
+
+// A number's count of digits and its first digit: 1 to 4, and no leading zero save 0 itself.
+fn is_sized(field: &[u8]) -> bool
+    ensures { λ r. ⌜ r ≡ sized (now (field .entry)) ⌝ }
+{
+    let digits = field.len();
+    if digits < 1 {
+        return false;
+    }
+    if MAX_DIGITS < digits {
+        return false;
+    }
+    if digits == 1 {
+        return true;
+    }
+    field[0] != ZERO
+}
+
+// Whether a field is a number, and which; 0 where it is none.
+struct FieldRead {
+    good: bool,
+    value: u32,
+}
+
+fn read_digits(field: &[u8]) -> FieldRead
+    requires { ⌜ length (now field) ≤ 4 ⌝ }
+    ensures { λ r. ⌜ Digits-read (now (field .entry)) r ⌝ }
+{
+    let mut value: u32 = 0;
+    for i in 0..field.len() {
+        let x = field[i];
+        if !is_digit(x) {
+            return FieldRead {
+                good: false,
+                value: 0,
+            };
+        }
+        value = 10 * value + (x as u32 - ZERO as u32);
+    }
+    FieldRead { good: true, value }
+}
+
+fn read_field(field: &[u8]) -> FieldRead
+    ensures { λ r. ⌜ Field-read (now (field .entry)) r ⌝ }
+{
+    if !is_sized(field) {
+        return FieldRead {
+            good: false,
+            value: 0,
+        };
+    }
+    read_digits(field)
+}
+
+// So many numbers of a line are kept, as many as a channel may have terminals.
+pub const KEPT: usize = 64;
+
+// The first of a line's fields that is no number, 0 where all are numbers; how many they are, and the first of them.
+struct Numbers {
+    ill: usize,
+    count: usize,
+    values: [u32; KEPT],
+}
+
+// The number in its place, where there is one.
+fn number_stored(mut values: [u32; KEPT], i: usize, x: u32) -> [u32; KEPT]
+    ensures { λ r. ⌜ r ≡ set values i x ⌝ }
+{
+    if i < KEPT {
+        values[i] = x;
+    }
+    values
+}
+
+// The first ill-formed field, where one more is looked at.
+fn first_ill(before: usize, good: bool, field: usize) -> usize
+    ensures { λ r. ⌜ r ≡ first-ill before good field ⌝ }
+{
+    if before != 0 {
+        return before;
+    }
+    if good {
+        return 0;
+    }
+    field
+}
+
+impl Numbers {
+    fn none() -> Numbers
+        ensures { λ r. ⌜ Numbers-read [] r ⌝ }
+    {
+        Numbers {
+            ill: 0,
+            count: 0,
+            values: [0u32; KEPT],
+        }
+    }
+
+    fn with_field(self, field: &[u8]) -> Numbers
+        requires { ⌜ self .count < 2 ^ 63 ⌝ }
+        ensures { λ r. ⌜ Field-added self (now (field .entry)) r ⌝ }
+    {
+        let read = read_field(field);
+        let old = self.values;
+        let values = number_stored(old, self.count, read.value);
+        Numbers {
+            ill: first_ill(self.ill, read.good, self.count + 2),
+            count: self.count + 1,
+            values,
+        }
+    }
+}
+
+// The numbers of a line's fields from a place on.
+fn numbers_from(line: &[u8], from: usize) -> Numbers
+    requires { ⌜ from ≤ suc (length (now line)) ⌝ }
+    ensures { λ r. ⌜ Numbers-read (fields-from from (now (line .entry))) r ⌝ }
+{
+    let mut numbers = Numbers::none();
+    let mut at = from;
+    while at <= line.len() {
+        let end = at + run(&line[at..], TAB);
+        numbers = numbers.with_field(&line[at..end]);
+        at = end + 1;
+    }
+    numbers
+}
+
+// A line as one of a word: whether it is ended and has the word; of the fields behind it the first that is no number, 0 where all are numbers, how many they are,
+// and the first numbers.
+pub struct LineRead {
+    pub worded: bool,
+    pub ill: usize,
+    pub count: usize,
+    pub values: [u32; KEPT],
+}
+
+pub fn read_line(bytes: &[u8], ended: bool, word: &[u8]) -> LineRead
+    ensures { λ r. ⌜ Line-read (line (now (bytes .entry)) ended) (now (word .entry)) r ⌝ }
+{
+    let end = run(bytes, TAB);
+    let numbers = numbers_from(bytes, end + 1);
+    let values = numbers.values;
+    LineRead {
+        worded: ended && is_word(&bytes[..end], word),
+        ill: numbers.ill,
+        count: numbers.count,
+        values,
+    }
+}
+
+// Where a line ends, and whether by a line feed.
+pub struct LineEnd {
+    pub end: usize,
+    pub ended: bool,
+}
+
+// The end of the line that begins at a place.
+pub fn line_end(text: &[u8], at: usize) -> LineEnd
+    requires { ⌜ at ≤ length (now text) ⌝ }
+    ensures { λ r. ⌜ Line-from (now (text .entry)) at r ⌝ }
+{
+    let end = at + run(&text[at..], LINE_FEED);
+    LineEnd {
+        end,
+        ended: end < text.len(),
+    }
+}

@@ -1,0 +1,215 @@
+-- The text of a stack within the limits is accepted, and the stack in it is that stack: what the limits ask of a strip or a channel is what is not refused of its
+-- line. Assumes nothing.
+use mathlib.Core.Path.{_≡_, refl, ap, sym, _∙_}
+use mathlib.Core.Bool.{true, false, _&&_}
+use mathlib.Core.List.{List, [], _∷_, _++_, map}
+use Prim.Native.Nat.{ℕ, zero, suc, _+_, _*_, _%_, _≤_, _<_}
+use native.Mathlib.Omega.{arith}
+use lib.Dec.{leb}
+use lib.ListN.{length, getD, length-map, length-append}
+use borrow.Author.Tests.{leb-true, ltb-true, le-ltb, lt-leb, lt-ltb, eq-eqb}
+use Rattle.numbers.proofs.Bools.{ands}
+use Rattle.stack.specs.Stack.{Pair, pair, Stack, stack}
+use Rattle.stack.specs.Limits.{rises-above, rising, on-strips, channel-within, channels-within, strips-within, within-limits}
+use Rattle.text.specs.Text.{fine, stack-word, part-word, nets-word, exactly, in-pairs, entry, first-of, part-content, terminals-refusal, nets-content, text-refusal, file, pairs-of, stack-in-file, stack-in}
+use Rattle.stack_text.specs.StackText.{line-text, lines-text, file-text, terminals-of, file-of, stack-text, Stack-text-read}
+use Rattle.stack_text.proofs.LineBack.{small, line-short, lines-short}
+use Rattle.stack_text.proofs.FileBack.{getD-map, Shaped, file-back, Contents, file-accepted}
+
+-- STRIPS
+pub record Part-good (l : ℕ) : Type 0 where
+  pub few : small (l ∷ []) ≡ true
+  pub most : l ≤ 1000
+  pub good : (n : ℕ) → part-content (entry n 0 (l ∷ [])) ≡ fine
+
+strip-good : (l : ℕ) → (leb 1 l && leb l 1000) ≡ true → Part-good l
+unfolding small part-content entry first-of
+strip-good l h =
+    let most : l ≤ 1000 = leb-true l 1000 (search ands) in
+    record { few = rw (lt-ltb l 10000 (omega arith)); most = most; good = λ n. rw h }
+
+strip-at : (ls : List ℕ) (j : ℕ) → strips-within ls ≡ true → j < length ls → Part-good (getD ls j 0)
+unfolding strips-within
+strip-at [] j h k = absurd (omega arith)
+strip-at (l ∷ ls) zero h k = strip-good l (search ands)
+strip-at (l ∷ ls) (suc j) h k = strip-at ls j (search ands) (omega arith)
+
+-- CHANNELS
+terminals-length : (c : List Pair) → length (terminals-of c) ≡ 2 * length c
+unfolding terminals-of
+terminals-length [] = refl
+terminals-length (x ∷ xs) = omega (arith, terminals-length xs)
+
+pairs-back : (c : List Pair) → pairs-of (terminals-of c) ≡ c
+unfolding terminals-of pairs-of pair
+pairs-back [] = refl
+pairs-back (x ∷ xs) = rw (pairs-back xs)
+
+module _ (lo hi : ℕ) where
+  terminals-small : (c : List Pair) → lo ≤ 1000 → hi ≤ 1000 → on-strips lo hi c ≡ true → small (terminals-of c) ≡ true
+  unfolding terminals-of small on-strips
+  terminals-small [] h k l = refl
+  terminals-small (x ∷ xs) h k l =
+      let p = leb-true (x .p) lo (search ands) in
+      let q = leb-true (x .q) hi (search ands) in
+      rw (lt-ltb (x .p) 10000 (omega arith), lt-ltb (x .q) 10000 (omega arith), terminals-small xs h k (search ands))
+
+  terminals-behind : (f u v n : ℕ) (c : List Pair) → rises-above u v c ≡ true → on-strips lo hi c ≡ true → terminals-refusal f false u v lo hi n (terminals-of c) ≡ fine
+  unfolding terminals-refusal terminals-of rises-above on-strips
+  terminals-behind f u v n [] h k = refl
+  terminals-behind f u v n (x ∷ xs) h k =
+      let p = le-ltb lo (x .p) (leb-true (x .p) lo (search ands)) in
+      let q = le-ltb hi (x .q) (leb-true (x .q) hi (search ands)) in
+      let above-p = lt-leb (x .p) u (ltb-true u (x .p) (search ands)) in
+      let above-q = lt-leb (x .q) v (ltb-true v (x .q) (search ands)) in
+      rw (p, above-p, q, above-q) (terminals-behind (f + 2) (x .p) (x .q) n xs (search ands) (search ands))
+
+  terminals-fine : (f n : ℕ) (c : List Pair) → rising c ≡ true → on-strips lo hi c ≡ true → terminals-refusal f true 0 0 lo hi n (terminals-of c) ≡ fine
+  unfolding terminals-refusal terminals-of rising on-strips
+  terminals-fine f n [] h k = refl
+  terminals-fine f n (x ∷ xs) h k =
+      let p = le-ltb lo (x .p) (leb-true (x .p) lo (search ands)) in
+      let q = le-ltb hi (x .q) (leb-true (x .q) hi (search ands)) in
+      rw (p, q) (terminals-behind (f + 2) (x .p) (x .q) n xs h (search ands))
+
+pub record Nets-good (lo hi : ℕ) (ns : List ℕ) : Type 0 where
+  pub few : small ns ≡ true
+  pub short : length ns ≤ 64
+  pub count : in-pairs (length ns) ≡ 0
+  pub good : (n : ℕ) → nets-content lo hi (entry n 0 ns) ≡ fine
+
+channel-good : (lo hi : ℕ) (c : List Pair) → lo ≤ 1000 → hi ≤ 1000 → channel-within lo hi c ≡ true → Nets-good lo hi (terminals-of c)
+unfolding channel-within nets-content entry in-pairs
+channel-good lo hi c h k l =
+    let most = leb-true (length c) 32 (search ands) in
+    let short : length (terminals-of c) ≤ 64 = omega (arith, terminals-length c) in
+    let even : length (terminals-of c) % 2 ≡ 0 = omega (arith, terminals-length c) in
+    record {
+      few = terminals-small lo hi c h k (search ands);
+      short = short;
+      count = rw (eq-eqb (length (terminals-of c) % 2) 0 even);
+      good = λ n. rw (le-ltb 64 (length (terminals-of c)) short) (terminals-fine lo hi 2 n c (search ands) (search ands));
+    }
+
+strips-count : (ls : List ℕ) (cs : List (List Pair)) → channels-within ls cs ≡ true → length ls ≡ suc (length cs)
+unfolding channels-within
+strips-count [] cs h = let z : _≡_ {A = ℕ} 0 1 = cc in absurd (omega arith)
+strips-count (a ∷ []) [] h = refl
+strips-count (a ∷ []) (c ∷ cs) h = let z : _≡_ {A = ℕ} 0 1 = cc in absurd (omega arith)
+strips-count (a ∷ b ∷ ls) [] h = let z : _≡_ {A = ℕ} 0 1 = cc in absurd (omega arith)
+strips-count (a ∷ b ∷ ls) (c ∷ cs) h = ap suc (strips-count (b ∷ ls) cs (search ands))
+
+channel-at : (ls : List ℕ) (cs : List (List Pair)) (c : ℕ) → channels-within ls cs ≡ true → c < length cs →
+    channel-within (getD ls c 0) (getD ls (suc c) 0) (getD cs c []) ≡ true
+unfolding channels-within
+channel-at ls [] c h k = absurd (omega arith)
+channel-at [] (d ∷ cs) c h k = let z : _≡_ {A = ℕ} 0 1 = cc in absurd (omega arith)
+channel-at (a ∷ []) (d ∷ cs) c h k = let z : _≡_ {A = ℕ} 0 1 = cc in absurd (omega arith)
+channel-at (a ∷ b ∷ ls) (d ∷ cs) zero h k = search ands
+channel-at (a ∷ b ∷ ls) (d ∷ cs) (suc c) h k = channel-at (b ∷ ls) cs c (search ands) (omega arith)
+
+strips-back : (ls : List ℕ) → map (λ ns. getD ns 0 0) (map (λ l. l ∷ []) ls) ≡ ls
+strips-back [] = refl
+strips-back (l ∷ ls) = rw (strips-back ls)
+
+channels-back : (cs : List (List Pair)) → map (λ ns. pairs-of ns) (map (λ c. terminals-of c) cs) ≡ cs
+channels-back [] = refl
+channels-back (c ∷ cs) = rw (pairs-back c, channels-back cs)
+
+-- THE STACK
+abbrev parts-in : Stack → List (List ℕ)
+parts-in k = map (λ l. l ∷ []) (k .strips)
+
+abbrev nets-in : Stack → List (List ℕ)
+nets-in k = map (λ c. terminals-of c) (k .channels)
+
+stack-back : (k : Stack) → stack-in-file (file-of k) ≡ k
+unfolding stack-in-file file-of file stack
+stack-back k = rw (strips-back (k .strips), channels-back (k .channels))
+
+module _ (k : Stack) (h : within-limits k ≡ true) where
+  strips-good : strips-within (k .strips) ≡ true
+  unfolding within-limits
+  strips-good = search ands
+
+  channels-good : channels-within (k .strips) (k .channels) ≡ true
+  unfolding within-limits
+  channels-good = search ands
+
+  some : 1 ≤ length (k .channels)
+  unfolding within-limits
+  some = leb-true 1 (length (k .channels)) (search ands)
+
+  most : length (k .channels) ≤ 8
+  unfolding within-limits
+  most = leb-true (length (k .channels)) 8 (search ands)
+
+  strips-long : length (k .strips) ≡ suc (length (k .channels))
+  strips-long = strips-count (k .strips) (k .channels) channels-good
+
+  parts-long : length (parts-in k) ≡ suc (length (k .channels))
+  parts-long = length-map (k .strips) (λ l. l ∷ []) ∙ strips-long
+
+  nets-long : length (nets-in k) ≡ length (k .channels)
+  nets-long = length-map (k .channels) (λ c. terminals-of c)
+
+  part-at : (j : ℕ) → j < length (parts-in k) → getD (parts-in k) j [] ≡ getD (k .strips) j 0 ∷ []
+  part-at j l = getD-map (λ l. l ∷ []) (k .strips) j [] 0 (omega (arith, parts-long, strips-long))
+
+  part-good : (j : ℕ) → j ≤ length (k .channels) → Part-good (getD (k .strips) j 0)
+  part-good j l = strip-at (k .strips) j strips-good (omega (arith, strips-long))
+
+  part : (j : ℕ) → j < length (parts-in k) → Part-good (getD (k .strips) j 0)
+  part j l = part-good j (omega (arith, parts-long))
+
+  net : (c : ℕ) → c < length (nets-in k) → Nets-good (getD (k .strips) c 0) (getD (k .strips) (suc c) 0) (getD (nets-in k) c [])
+  net c l =
+      let m : c < length (k .channels) = rw nets-long at l in
+      let lower = part-good c (omega arith) .most in
+      let upper = part-good (suc c) (omega arith) .most in
+      rw (getD-map (λ c. terminals-of c) (k .channels) c [] [] m) (channel-good _ _ (getD (k .channels) c []) lower upper (channel-at (k .strips) (k .channels) c channels-good m))
+
+  shaped : Shaped (file-of k)
+  unfolding file-of file
+  shaped = record {
+    strips = parts-long ∙ ap suc (sym nets-long);
+    few = omega (arith, nets-long, most);
+    parts = λ j l. rw (part-at j l) (part j l .few);
+    nets = λ c l. net c l .few;
+  }
+
+  text-short : length (file-text (file-of k)) ≤ 8192
+  unfolding file-text file-of file stack-word part-word nets-word small
+  text-short =
+      let ps = parts-in k in
+      let ns = nets-in k in
+      let head : length (line-text stack-word (length ns ∷ [])) ≤ 11 = line-short stack-word (length ns ∷ []) (rw (lt-ltb (length ns) 10000 (omega (arith, nets-long, most)))) in
+      let parts : length (lines-text part-word ps) ≤ 10 * length ps = lines-short part-word 1 ps (shaped .parts) (λ j l. rw (part-at j l) (omega arith)) in
+      let nets : length (lines-text nets-word ns) ≤ 325 * length ns = lines-short nets-word 64 ns (shaped .nets) (λ c l. net c l .short) in
+      let all = length-append (line-text stack-word (length ns ∷ [])) (lines-text part-word ps ++ lines-text nets-word ns) in
+      omega (arith, length-append (lines-text part-word ps) (lines-text nets-word ns), parts-long, nets-long, most)
+
+  contents : Contents (file-of k)
+  unfolding file-of file exactly
+  contents = record {
+    some = omega (arith, nets-long, some);
+    most = omega (arith, nets-long, most);
+    part-count = λ j l. rw (part-at j l);
+    part-good = λ j n l. rw (part-at j l) (part j l .good n);
+    nets-count = λ c l. net c l .count;
+    nets-good = λ c n l. rw (part-at c (omega (arith, parts-long, nets-long)), part-at (suc c) (omega (arith, parts-long, nets-long))) (net c l .good n);
+    short = text-short;
+  }
+
+  accepted : text-refusal (stack-text k) ≡ fine
+  unfolding stack-text
+  accepted = file-accepted (file-of k) shaped contents
+
+  read-back : stack-in (stack-text k) ≡ k
+  unfolding stack-text stack-in
+  read-back = rw (file-back (file-of k) shaped) (stack-back k)
+
+-- EVERY STACK within the limits is read back
+pub stack-text-read : Stack-text-read
+unfolding Stack-text-read
+stack-text-read k h = (accepted k h, read-back k h)

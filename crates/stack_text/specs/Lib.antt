@@ -1,0 +1,2 @@
+-- The text of a file and of a stack (trusted).
+pub mod StackText

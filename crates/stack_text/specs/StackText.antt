@@ -1,0 +1,37 @@
+-- TRUSTED. The text of a file and of a stack. Document 01, "Lines and tabs". Assumes nothing: these are definitions.
+use mathlib.Core.Path.{_≡_}
+use mathlib.Core.Bool.{true}
+use mathlib.Core.List.{List, [], _∷_, _++_, map}
+use Prim.Native.Nat.{ℕ}
+use lib.ListN.{length}
+use Rattle.stack.specs.Stack.{Pair, Stack}
+use Rattle.stack.specs.Limits.{within-limits}
+use Rattle.text.specs.Text.{fine, stack-word, part-word, nets-word, text-refusal, File, file, stack-in}
+use Rattle.writing.specs.TableText.{tabbed}
+
+-- a LINE: its word, its numbers, a line feed
+unfoldable pub line-text : (word numbers : List ℕ) → List ℕ
+line-text w ns = w ++ (tabbed ns ++ (10 ∷ []))
+
+unfoldable pub lines-text : (word : List ℕ) → List (List ℕ) → List ℕ
+lines-text w [] = []
+lines-text w (ns ∷ nss) = line-text w ns ++ lines-text w nss
+
+-- the text of a FILE
+unfoldable pub file-text : File → List ℕ
+file-text f = line-text stack-word (length (f .nets) ∷ []) ++ (lines-text part-word (f .parts) ++ lines-text nets-word (f .nets))
+
+-- THE TEXT OF A STACK
+unfoldable pub terminals-of : List Pair → List ℕ
+terminals-of [] = []
+terminals-of (x ∷ xs) = x .p ∷ x .q ∷ terminals-of xs
+
+unfoldable pub file-of : Stack → File
+file-of k = file (map (λ l. l ∷ []) (k .strips)) (map (λ c. terminals-of c) (k .channels))
+
+unfoldable pub stack-text : Stack → List ℕ
+stack-text k = file-text (file-of k)
+
+-- STATEMENT: within the limits it is accepted, and the stack in it is that stack
+unfoldable pub Stack-text-read : Type 0
+Stack-text-read = (k : Stack) → within-limits k ≡ true → (text-refusal (stack-text k) ≡ fine) × (stack-in (stack-text k) ≡ k)
