@@ -18,20 +18,21 @@ use Rattle.stack.specs.Value.{strip, no-terminals, channel-of, stack-of}
 use Rattle.stack.specs.declared.Stack.{Stack as Stack-struct}
 use Rattle.stack.specs.Sizes.{channels-held, strips-held, separations-held, totals-held}
 use Rattle.stack.proofs.Values.{channel-length}
-use Rattle.stack.proofs.Within.{strips-length, channel-in-limits, stack-channels, stack-channel, stack-strip}
+use Rattle.stack.proofs.Within.{strips-length, channel-in-limits, few-channels, few-pairs, stack-channels, stack-channel, stack-strip}
 use Rattle.channel.specs.Limits.{low-limit, high-limit, Limits-of}
 use Rattle.channel.proofs.Between.{high-bounded}
 use Rattle.channel.specs.declared.Limits.{Limits}
 use Rattle.spans.specs.Solver.{level, most, least-total}
-use Rattle.scan.specs.Scan.{sums, Lasts-ask, Scan-asks, Scan-is}
+use Rattle.plan.specs.Plan.{Lasts-ask, Planned}
+use Rattle.scan.specs.Scan.{Scan-asks, Scan-is}
 use Rattle.scan.specs.declared.Scan.{Scan}
 use Rattle.solver.specs.declared.Placement.{Placement}
 use Rattle.solver.proofs.Separating.{most-small}
-use Rattle.scan.proofs.Sums.{most-sums}
-use Rattle.scan.proofs.Serving.{sized-zeros, scan-separate-asks}
-use Rattle.solver.specs.Arrays.{bias, sides, Given, given, low-of, high-of, last-of, window-of, limits-from, level-of, levels, Sized, Stack-asks, Separate-asks, separations-of, Place-asks, Placement-is}
+use Rattle.solver.proofs.Levels.{above-at}
+use Rattle.scan.proofs.Serving.{scan-separate-asks}
+use Rattle.solver.specs.Arrays.{bias, entry, sides, lasts-in, sums-in, Given, given, low-of, high-of, last-of, window-of, limits-from, level-of, levels, Sized, Plan-is, Stack-asks, Separate-asks, separations-of, Place-asks, Placement-is}
 use Rattle.answer.specs.Solve.{last-use, window, channel-limits, stack-levels, bottom, levels-of, total-with, separations-with, positions-with, answer-separations}
-use Rattle.answer.specs.Arrays.{channel-in, strip-in, Limits-in, Windows-in, Answer-is}
+use Rattle.answer.specs.Arrays.{channel-in, strip-in, Limits-in, Held, Windows-in, Answer-is}
 use Rattle.answer.proofs.Legal.{low-bounded}
 use Rattle.answer.proofs.Answers.{longest-bounds, total-most, widening-with, exactly-with, answer-with, answer-alone, answer-there, total-any-bias}
 
@@ -39,12 +40,12 @@ use Rattle.answer.proofs.Answers.{longest-bounds, total-most, widening-
 abbrev no-limits : List ℕ
 no-limits = replicate separations-held 0
 
-pub limits-start : (k : Stack) → Limits-in k 0 (replicate channels-held (replicate 2 no-limits)) (replicate channels-held 0)
+pub limits-start : (k : Stack) → Limits-in k 0 (replicate channels-held (replicate 2 no-limits)) (replicate strips-held 0)
 limits-start k =
     record {
       sized-limits = length-replicate channels-held (replicate 2 no-limits);
       two = λ i h. rw (getD-replicate channels-held i (replicate 2 no-limits) [] h) (length-replicate 2 no-limits);
-      sized-lasts = length-replicate {A = ℕ} channels-held 0;
+      sized-lasts = length-replicate {A = ℕ} strips-held 0;
       limits-are = λ i h. absurd (omega arith);
       lasts-are = λ i h. absurd (omega arith);
     }
@@ -114,7 +115,8 @@ limits-same low₁ low₂ high₁ high₂ q (suc n) h =
 -- THE ARRAYS STAND FOR THE STACK
 pub record Stands (k : Stack) (s : ℕ) (g : Given) : Type 0 where
   pub good : within-limits k ≡ true
-  pub limits : Limits-in k (length (k .channels)) (g .limits) (g .lasts)
+  pub limits : Limits-in k (length (k .channels)) (g .limits) (lasts-in (g .plan))
+  pub planned : Plan-is (g .limits) (length (k .channels)) (g .plan)
   pub windows : Windows-in k (suc (length (k .channels))) s (g .windows)
 
 module _ (k : Stack) (s : ℕ) (g : Given) (st : Stands k s g) where
@@ -191,6 +193,7 @@ module _ (k : Stack) (s : ℕ) (g : Given) (st : Stands k s g) (fits : s < 42949
       record {
         some = leb-true 1 n (search ands);
         channels = leb-true n 8 (search ands);
+        planned = st .planned;
         listed = λ i h. omega (arith, last-right i h, last-small k s g st i h);
         starts = λ i h. omega (arith, window-small i h);
         ends = λ i h. omega (arith, window-small i h);
@@ -199,19 +202,10 @@ module _ (k : Stack) (s : ℕ) (g : Given) (st : Stands k s g) (fits : s < 42949
         highs = λ i q h l. omega (arith, high-is k s g st i q h (omega (arith, last-right i h)), high-bounded bias (channel-in k i) q);
       }
 
-  pub scan-asks : (cap : ℕ) (t : List (List (List ℕ))) → cap ≡ sums (g .lasts) 0 n → Sized t → Scan-asks g n cap t
-  scan-asks cap t e f =
-      record {
-        stack = asks;
-        total = omega (arith, most-sums g 0 n, most-small g n asks 0 n (omega arith), asks .channels);
-        of-use = omega (arith, most-sums g 0 n);
-        sized = f;
-      }
-
   -- the scan finds the least total
-  pub scanned-total : (cap : ℕ) (t : List (List (List ℕ))) (r : Scan) → cap ≡ sums (g .lasts) 0 n → Scan-is g n cap t r → r .total ≡ total-with bias k s
+  pub scanned-total : (cap : ℕ) (t : List (List (List ℕ))) (r : Scan) → cap ≡ most (levels g 0 n) → Scan-is g n cap t r → r .total ≡ total-with bias k s
   unfolding total-with least-total
-  scanned-total cap t r e i = i .total-is ∙ rw (e, ← most-sums g 0 n, bottom-is k s g st, levels-are k s g st)
+  scanned-total cap t r e i = i .total-is ∙ rw (e, bottom-is k s g st, levels-are k s g st)
 
   pub place-asks : (total : ℕ) → total ≡ total-with bias k s → total < 4294967296 → Place-asks g n total
   place-asks total e h =
@@ -235,47 +229,67 @@ module _ (k : Stack) (s : ℕ) (g : Given) (st : Stands k s g) (fits : s < 42949
         positions-are = p .positions-are ∙ ap (padded strips-held) (rw (e, bottom-is k s g st, levels-are k s g st) (one .1));
       }
 
--- the arrays that are filled for a struct stand for its stack
-pub stands-made : (k : Stack-struct) (s : ℕ) (limits : List (List (List ℕ))) (lasts : List ℕ) (windows : List (List ℕ)) → within-limits (stack-of k) ≡ true →
-    Limits-in (stack-of k) (k .count) limits lasts → Windows-in (stack-of k) (suc (k .count)) s windows → Stands (stack-of k) s (given limits lasts windows)
-stands-made k s limits lasts windows e l w =
-    record { good = e; limits = rw (stack-channels k) l; windows = rw (stack-channels k) w }
+-- what the plan is made from, and what is held then
+module _ (k : Stack-struct) (limits : List (List (List ℕ))) (lasts : List ℕ) (e : within-limits (stack-of k) ≡ true) (l : Limits-in (stack-of k) (k .count) limits lasts) where
+  pub filled-lasts : Lasts-ask lasts (k .count)
+  filled-lasts =
+      record {
+        channels = few-channels k e;
+        listed = λ i h. omega (arith, l .lasts-are i h, ap length (stack-channel k i h), channel-length (getD (k .channels) i no-terminals), few-pairs k e i h);
+      }
 
--- the same as the code has it, with the struct's count of channels
-module _ (k : Stack-struct) (s : ℕ) (limits : List (List (List ℕ))) (lasts : List ℕ) (windows : List (List ℕ)) (fits : s < 4294967296) (e : within-limits (stack-of k) ≡ true) (wide : longest (stack-of k .strips) ≤ s)
-    (l : Limits-in (stack-of k) (k .count) limits lasts) (w : Windows-in (stack-of k) (suc (k .count)) s windows) where
+  pub held-made : (plan : List (List ℕ)) → Planned limits lasts (k .count) plan → Held k limits plan
+  held-made plan p = record { good = e; filled = rw (p .kept) l; planned = p .plan-is }
+
+-- the arrays as the code has them, with the struct's count of channels
+module _ (k : Stack-struct) (s : ℕ) (limits : List (List (List ℕ))) (plan windows : List (List ℕ)) (fits : s < 4294967296) (wide : longest (stack-of k .strips) ≤ s) (held : Held k limits plan)
+    (filled : Windows-in (stack-of k) (suc (k .count)) s windows) where
   abbrev made : Given
-  made = given limits lasts windows
+  made = given limits plan windows
 
-  stands : Stands (stack-of k) s made
-  stands = stands-made k s limits lasts windows e l w
+  pub held-stands : Stands (stack-of k) s made
+  held-stands =
+      record { good = held .good; limits = rw (stack-channels k) (held .filled); planned = rw (stack-channels k) (held .planned); windows = rw (stack-channels k) filled }
 
-  pub made-lasts-ask : Lasts-ask lasts (k .count)
-  made-lasts-ask =
-      let a : Stack-asks made (k .count) = rw (stack-channels k) at (asks (stack-of k) s made stands fits wide) in
-      record { channels = a .channels; listed = a .listed }
+  pub held-asks : Stack-asks made (k .count)
+  held-asks = rw (stack-channels k) at (asks (stack-of k) s made held-stands fits wide)
 
-  pub made-scan-asks : (cap : ℕ) → cap ≡ sums lasts 0 (k .count) → Scan-asks made (k .count) cap (replicate strips-held (replicate 2 (replicate totals-held 0)))
-  made-scan-asks cap c =
-      rw (stack-channels k) at (scan-asks (stack-of k) s made stands fits wide cap _ (rw (stack-channels k) c) sized-zeros)
+  all-used : entry (sums-in plan) 0 ≡ most (levels made 0 (k .count))
+  all-used = above-at made (k .count) (held .planned) 0 (k .count) (omega arith)
 
-  module _ (cap : ℕ) (t : List (List (List ℕ))) (r : Scan) (c : cap ≡ sums lasts 0 (k .count)) (i : Scan-is made (k .count) cap t r) where
-    total-is : r .total ≡ total-with bias (stack-of k) s
-    total-is = scanned-total (stack-of k) s made stands fits wide cap t r (rw (stack-channels k) c) (rw (stack-channels k) i)
+  pub cap-used : (cap : ℕ) → cap ≤ entry (sums-in plan) 0 → cap ≤ most (levels made 0 (k .count))
+  cap-used cap h = omega (arith, all-used)
 
-    total-small : r .total ≤ cap
-    total-small =
-        let m = total-most bias s (omega arith) (stack-of k) e wide in
-        omega (arith, total-is, most-sums made 0 (k .count), ap most (rw (stack-channels k) at (levels-are (stack-of k) s made stands)))
+  pub cap-small : (cap : ℕ) → cap ≤ entry (sums-in plan) 0 → cap < totals-held
+  cap-small cap h = omega (arith, all-used, most-small made (k .count) held-asks 0 (k .count) (omega arith), held-asks .channels)
 
-    cap-small : cap < totals-held
-    cap-small = made-scan-asks cap c .total
+  pub held-scan-asks : (cap : ℕ) (t : List (List (List ℕ))) → cap ≤ entry (sums-in plan) 0 → Sized t → Scan-asks made (k .count) cap t
+  held-scan-asks cap t h z = record { stack = held-asks; total = cap-small cap h; of-use = cap-used cap h; sized = z }
 
-    pub made-place-asks : Place-asks made (k .count) (r .total) × Separate-asks made (k .count) (r .total) (r .above) t
-    made-place-asks = (
-      rw (stack-channels k) at (place-asks (stack-of k) s made stands fits wide (r .total) total-is (omega (arith, total-small, cap-small))),
-      scan-separate-asks made (k .count) cap t r (made-scan-asks cap c .stack) i total-small cap-small,
-    )
+  module _ (cap : ℕ) (t : List (List (List ℕ))) (r : Scan) (i : Scan-is made (k .count) cap t r) where
+    -- a least total that is found gives the answer
+    module _ (capped : cap ≤ entry (sums-in plan) 0) (found : r .total ≤ cap) (least : r .total ≡ total-with bias (stack-of k) s) where
+      pub held-place-asks : Place-asks made (k .count) (r .total) × Separate-asks made (k .count) (r .total) t
+      held-place-asks = (
+        rw (stack-channels k) at (place-asks (stack-of k) s made held-stands fits wide (r .total) least (omega (arith, cap-small cap capped))),
+        scan-separate-asks made (k .count) cap t r held-asks i found (cap-small cap capped),
+      )
 
-    pub made-answers : (p : Placement) → Placement-is made (k .count) (r .total) p → Answer-is (stack-of k) s p
-    made-answers p q = placement-answers (stack-of k) s made stands fits wide (r .total) p total-is (rw (stack-channels k) q)
+      pub held-answers : (p : Placement) → Placement-is made (k .count) (r .total) p → Answer-is (stack-of k) s p
+      held-answers p q = placement-answers (stack-of k) s made held-stands fits wide (r .total) p least (rw (stack-channels k) q)
+
+    -- a scan of all totals of use finds it
+    module _ (whole : cap ≡ entry (sums-in plan) 0) where
+      whole-total : r .total ≡ total-with bias (stack-of k) s
+      whole-total = scanned-total (stack-of k) s made held-stands fits wide cap t r (rw (stack-channels k) (whole ∙ all-used)) (rw (stack-channels k) i)
+
+      pub whole-found : r .total ≤ cap
+      whole-found =
+          let m = total-most bias s (omega arith) (stack-of k) (held .good) wide in
+          omega (arith, whole-total, all-used, ap most (rw (stack-channels k) at (levels-are (stack-of k) s made held-stands)))
+
+      pub whole-place-asks : Place-asks made (k .count) (r .total) × Separate-asks made (k .count) (r .total) t
+      whole-place-asks = held-place-asks (omega arith) whole-found whole-total
+
+      pub whole-answers : (p : Placement) → Placement-is made (k .count) (r .total) p → Answer-is (stack-of k) s p
+      whole-answers = held-answers (omega arith) whole-found whole-total

@@ -1,15 +1,18 @@
 -- When the solver's arrays stand for a stack: the limits of its channels, and the windows of its strips in a spread; the answer as the code gives it. Assumes nothing: these are definitions.
 use mathlib.Core.Path.{_≡_}
+use mathlib.Core.Bool.{true}
 use mathlib.Core.List.{List, [], _∷_}
 use Prim.Native.Nat.{ℕ, _<_}
 use lib.ListN.{length, getD}
-use Rattle.stack.specs.Value.{tracks-of, columns-of}
+use Rattle.stack.specs.Value.{tracks-of, columns-of, stack-of}
 use Rattle.numbers.specs.Lists.{tabulate, padded}
 use Rattle.stack.specs.Stack.{Pair, Stack}
+use Rattle.stack.specs.Limits.{within-limits}
+use Rattle.stack.specs.declared.Stack.{Stack as Stack-struct}
 use Rattle.stack.specs.Sizes.{channels-held, strips-held, separations-held}
 use Rattle.spans.specs.Spans.{Span}
 use Rattle.channel.specs.Limits.{low-limit, high-limit}
-use Rattle.solver.specs.Arrays.{bias, entry, row, sides}
+use Rattle.solver.specs.Arrays.{bias, entry, row, sides, lasts-in, Plan-is}
 use Rattle.solver.specs.declared.Placement.{Placement}
 use Rattle.answer.specs.Solve.{last-use, window, answer-total, answer-separations, answer-positions}
 
@@ -27,9 +30,15 @@ limit-rows c = tabulate separations-held 0 (λ t. low-limit bias c t) ∷ tabula
 pub record Limits-in (k : Stack) (n : ℕ) (limits : List (List (List ℕ))) (lasts : List ℕ) : Type 0 where
   pub sized-limits : length limits ≡ channels-held
   pub two : (i : ℕ) → i < channels-held → length (sides limits i) ≡ 2
-  pub sized-lasts : length lasts ≡ channels-held
+  pub sized-lasts : length lasts ≡ strips-held
   pub limits-are : (i : ℕ) → i < n → sides limits i ≡ limit-rows (channel-in k i)
   pub lasts-are : (i : ℕ) → i < n → entry lasts i ≡ last-use (length (channel-in k i))
+
+-- the limits and the plan of a stack, which serve for every spread
+pub record Held (k : Stack-struct) (limits : List (List (List ℕ))) (plan : List (List ℕ)) : Type 0 where
+  pub good : within-limits (stack-of k) ≡ true
+  pub filled : Limits-in (stack-of k) (k .count) limits (lasts-in plan)
+  pub planned : Plan-is limits (k .count) plan
 
 -- a window's start and end
 abbrev pub window-ends : Span → List ℕ

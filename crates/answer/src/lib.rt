@@ -9,12 +9,14 @@ ghost use Rattle.answer.specs.Solve.{last-use};
 ghost use Rattle.answer.specs.Arrays.{Limits-in, Windows-in, Answer-is};
 use channel::channel_limits;
 use numbers::difference;
-use scan::most_total;
+use plan::plan_for;
 use scan::scan_totals;
-use solver::Goal;
+use solver::ABOVE;
 use solver::HIGH;
 use solver::LOW;
 use solver::Placement;
+use solver::StackLimits;
+use solver::Windows;
 use solver::place_in;
 use stack::Columns;
 use stack::Stack;
@@ -27,11 +29,7 @@ fn last_use(pairs: usize) -> usize
 }
 
 // The limits and the last separations of use of a stack's channels, in the solver's arrays.
-pub fn fill_limits(
-    stack: Stack,
-    limits: &mut [[[u64; Stack::SEPARATIONS]; 2]; Stack::MAX_CHANNELS],
-    lasts: &mut [usize; Stack::MAX_CHANNELS],
-)
+pub fn fill_limits(stack: Stack, limits: &mut StackLimits, lasts: &mut [usize; Stack::STRIPS])
     requires { ⌜ within-limits (stack-of stack) ≡ true ⌝ }
     requires { ⌜ Limits-in (stack-of stack) 0 (now limits) (now lasts) ⌝ }
     ensures { λ _. ⌜ Limits-in (stack-of stack) (stack .count) (now (limits .exit)) (now (lasts .exit)) ⌝ }
@@ -55,7 +53,7 @@ fn wide(c: Columns) -> u64
 }
 
 // The strips' windows in a spread.
-pub fn fill_windows(stack: Stack, spread: u32, windows: &mut [[u64; 2]; Stack::STRIPS])
+pub fn fill_windows(stack: Stack, spread: u32, windows: &mut Windows)
     requires { ⌜ within-limits (stack-of stack) ≡ true ⌝ }
     requires { ⌜ Windows-in (stack-of stack) 0 spread (now windows) ⌝ }
     ensures { λ _. ⌜ Windows-in (stack-of stack) (suc (stack .count)) spread (now (windows .exit)) ⌝ }
@@ -75,17 +73,13 @@ pub fn answer(stack: Stack, spread: u32) -> Placement
 {
     let k = stack.count;
     let mut limits = [[[0u64; Stack::SEPARATIONS]; 2]; Stack::MAX_CHANNELS];
-    let mut lasts = [0usize; Stack::MAX_CHANNELS];
+    let mut lasts = [0usize; Stack::STRIPS];
     fill_limits(stack, &mut limits, &mut lasts);
+    let plan = plan_for(&limits, lasts, k);
     let mut windows = [[0u64; 2]; Stack::STRIPS];
     fill_windows(stack, spread, &mut windows);
     let mut table = [[[0u64; Stack::TOTALS]; 2]; Stack::STRIPS];
-    let cap = most_total(&lasts, k);
-    let scan = scan_totals(&limits, &lasts, &windows, k, cap, &mut table);
-    let goal = Goal {
-        k,
-        total: scan.total,
-        above: scan.above,
-    };
-    place_in(&limits, &lasts, &windows, goal, &table)
+    let cap = plan[ABOVE][0];
+    let scan = scan_totals(&limits, &plan, &windows, k, cap, &mut table);
+    place_in(&limits, &plan, &windows, k, scan.total, &table)
 }

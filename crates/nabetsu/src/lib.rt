@@ -28,7 +28,7 @@ pub struct SpreadAnswer {
     pub outcome: Outcome,
     pub total: Tracks,
     pub separations: [Tracks; Stack::MAX_CHANNELS],
-    pub positions: [Columns; Stack::MAX_CHANNELS + 1],
+    pub positions: [Columns; Stack::STRIPS],
 }
 
 // A refused answer: zeros in every other place.
@@ -39,7 +39,7 @@ fn refused_answer(outcome: Outcome) -> SpreadAnswer
         outcome,
         total: Tracks(0),
         separations: [Tracks(0); Stack::MAX_CHANNELS],
-        positions: [Columns(0); Stack::MAX_CHANNELS + 1],
+        positions: [Columns(0); Stack::STRIPS],
     }
 }
 
@@ -119,7 +119,7 @@ pub fn try_placement(
     text: &[u8],
     spread: u32,
     separations: [Tracks; Stack::MAX_CHANNELS],
-    positions: [Columns; Stack::MAX_CHANNELS + 1],
+    positions: [Columns; Stack::STRIPS],
 ) -> TrialAnswer
     ensures { λ r. ⌜ Trial-says (now (text .entry)) spread (tracks-of separations) (columns-of positions) r ⌝ }
 {
@@ -173,7 +173,7 @@ fn or_short(outcome: Outcome) -> Outcome
 fn number_at(
     total: Tracks,
     separations: [Tracks; Stack::MAX_CHANNELS],
-    positions: [Columns; Stack::MAX_CHANNELS + 1],
+    positions: [Columns; Stack::STRIPS],
     i: usize,
 ) -> u32
     ensures { λ r. ⌜ r ≡ getD (total .0 ∷ (tracks-of separations ++ columns-of positions)) i 0 ⌝ }
@@ -232,12 +232,12 @@ fn separations_in(placement: &[u32]) -> [Tracks; Stack::MAX_CHANNELS]
 }
 
 // The positions of a placement's seventeen numbers.
-fn positions_in(placement: &[u32]) -> [Columns; Stack::MAX_CHANNELS + 1]
+fn positions_in(placement: &[u32]) -> [Columns; Stack::STRIPS]
     requires { ⌜ length (now placement) ≡ 17 ⌝ }
     ensures { λ r. ⌜ columns-of r ≡ drop 8 (now (placement .entry)) ⌝ }
 {
-    let mut to = [Columns(0); Stack::MAX_CHANNELS + 1];
-    for i in 0..Stack::MAX_CHANNELS + 1 {
+    let mut to = [Columns(0); Stack::STRIPS];
+    for i in 0..Stack::STRIPS {
         to[i] = Columns(placement[i + Stack::MAX_CHANNELS]);
     }
     to

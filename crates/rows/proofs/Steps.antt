@@ -1,5 +1,5 @@
 -- What a scan says of the walk over the spreads: whether the least total falls at this spread, and until which spread it then stays. Assumes nothing.
-use mathlib.Core.Path.{_≡_, refl, ap, _∙_}
+use mathlib.Core.Path.{_≡_, refl, _∙_}
 use mathlib.Core.Bool.{Bool, true}
 use mathlib.Core.List.{List}
 use Prim.Native.Nat.{ℕ, zero, suc, _+_, _≤_, _<_}
@@ -73,11 +73,6 @@ module _ (k : Stack) (s : ℕ) (g : Given) (st : Stands k s g) (fits : s < 42949
       let clear : None-within bias bias d v (bottom k s) (levels-of bias k s) =
       rw (bottom-is k s g st, levels-are k s g st) at (none-within g m (r .total) (r .jump) d v (i .jump-is) j (omega arith) 0 m (omega arith)) in
       jump-stays k (st .good) bias s d v b wide clear (omega arith) ∙ e
-
-  -- a scan of all totals of use finds one
-  pub scan-whole : cap ≡ most (levels g 0 m) → r .total ≤ cap
-  unfolding first-total least-total
-  scan-whole e = omega (arith, i .total-is ∙ ap (λ (c : ℕ). first (λ v. nonempty (back bias (window-of g 0) (levels g 0 m) v)) 0 (suc c)) e, total-use)
 
   pub scan-most : r .total ≤ suc cap
   unfolding first-total

@@ -5,8 +5,11 @@ ghost use Rattle.rows.specs.Evaluate.{Evaluate-asks, Evaluated, Place-ro
 use answer::fill_windows;
 use scan::Scan;
 use scan::scan_totals;
-use solver::Goal;
 use solver::Placement;
+use solver::Plan;
+use solver::SpanTable;
+use solver::StackLimits;
+use solver::Windows;
 use solver::place_in;
 use stack::Stack;
 
@@ -15,17 +18,17 @@ pub fn evaluate(
     stack: Stack,
     spread: u32,
     cap: usize,
-    limits: &[[[u64; Stack::SEPARATIONS]; 2]; Stack::MAX_CHANNELS],
-    lasts: &[usize; Stack::MAX_CHANNELS],
-    windows: &mut [[u64; 2]; Stack::STRIPS],
-    table: &mut [[[u64; Stack::TOTALS]; 2]; Stack::STRIPS],
+    limits: &StackLimits,
+    plan: &Plan,
+    windows: &mut Windows,
+    table: &mut SpanTable,
 ) -> Scan
-    requires { ⌜ Evaluate-asks stack spread cap (now limits) (now lasts) (now windows) (now table) ⌝ }
-    ensures { λ r. ⌜ Evaluated stack spread cap (now (limits .entry)) (now (lasts .entry)) (now (windows .exit)) (now (table .exit)) r ⌝ }
+    requires { ⌜ Evaluate-asks stack spread cap (now limits) (now plan) (now windows) (now table) ⌝ }
+    ensures { λ r. ⌜ Evaluated stack spread cap (now (limits .entry)) (now (plan .entry)) (now (windows .exit)) (now (table .exit)) r ⌝ }
 {
     let k = stack.count;
     fill_windows(stack, spread, windows);
-    scan_totals(limits, lasts, windows, k, cap, table)
+    scan_totals(limits, plan, windows, k, cap, table)
 }
 
 // The answer for a spread whose total was found.
@@ -33,18 +36,13 @@ pub fn place_row(
     stack: Stack,
     spread: u32,
     scan: Scan,
-    limits: &[[[u64; Stack::SEPARATIONS]; 2]; Stack::MAX_CHANNELS],
-    lasts: &[usize; Stack::MAX_CHANNELS],
-    windows: &[[u64; 2]; Stack::STRIPS],
-    table: &[[[u64; Stack::TOTALS]; 2]; Stack::STRIPS],
+    limits: &StackLimits,
+    plan: &Plan,
+    windows: &Windows,
+    table: &SpanTable,
 ) -> Placement
-    requires { ⌜ Place-row-asks stack spread (now limits) (now lasts) (now windows) (now table) scan ⌝ }
+    requires { ⌜ Place-row-asks stack spread (now limits) (now plan) (now windows) (now table) scan ⌝ }
     ensures { λ r. ⌜ Answer-is (stack-of stack) spread r ⌝ }
 {
-    let goal = Goal {
-        k: stack.count,
-        total: scan.total,
-        above: scan.above,
-    };
-    place_in(limits, lasts, windows, goal, table)
+    place_in(limits, plan, windows, stack.count, scan.total, table)
 }

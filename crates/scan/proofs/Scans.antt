@@ -15,16 +15,15 @@ use Rattle.stack.specs.Sizes.{strips-held, totals-held}
 use Rattle.spans.specs.Spans.{Span, nonempty}
 use Rattle.spans.specs.Solver.{opens, first-open, most, start, stop, cell, back, first-total}
 use Rattle.spans.specs.Jump.{nearest, furthest, shortfall, cell-short}
-use Rattle.solver.specs.Arrays.{bias, entry, row, sides, Given, low-of, high-of, last-of, window-of, levels, Sized, span-in, Stack-asks, Filled}
+use Rattle.solver.specs.Arrays.{bias, entry, sides, leasts-in, sums-in, Given, low-of, high-of, last-of, window-of, levels, Sized, span-in, Stack-asks, Filled}
 use Rattle.scan.specs.declared.Cell.{Cell}
-use Rattle.scan.specs.Scan.{put-span, Strip-asks, Strip-done, jump-if, short-of, Empty-on, none-in, Cleared, Only-at, Empties-are, Sums-are, Scanning, Total-asks, Scan-asks, Scan-is}
+use Rattle.scan.specs.Scan.{put-span, Strip-asks, Strip-done, jump-if, short-of, Empty-on, none-in, Cleared, Only-at, Empties-are, Scanning, Total-asks, Scan-asks, Scan-is}
 use Rattle.solver.specs.Loops.{Searching}
 use Rattle.solver.proofs.Loops.{searching-hit, searching-miss, searching-end, ends-full, ends-empty}
 use Rattle.scan.proofs.Tables.{put-same, put-apart, sized-put}
 use Rattle.spans.proofs.First.{first-upto}
 use Rattle.scan.proofs.Scanning.{cell-none, short-empty}
-use Rattle.solver.proofs.Levels.{last-is, cell-back, back-ends, open-of, low-at-of, high-at-of, in-use as use-within}
-use Rattle.scan.proofs.Sums.{most-sums}
+use Rattle.solver.proofs.Levels.{last-is, least-at, above-at, cell-back, back-ends, open-of, low-at-of, high-at-of, in-use as use-within}
 
 -- A SHORTFALL from the arrays is that of the levels
 nearest-same : (b : ℕ) (high₁ high₂ : ℕ → ℕ) (f₁ f₂ : ℕ → Span) (q n t : ℕ) → ((j : ℕ) → q ≤ j → j < q + n → (high₁ j ≡ high₂ j) × (f₁ j ≡ f₂ j)) →
@@ -64,9 +63,6 @@ module _ (g : Given) (i n v : ℕ) (f : ℕ → Span) where
 
       in-use : (j : ℕ) → start o last above v ≤ j → j < start o last above v + (stop last v - start o last above v) → (j ≤ last) × (v - j ≤ v) × (v - j ≤ above)
       in-use j k m = use-within o last above v j h k m
-
-pub above-sum : (g : Given) (k : ℕ) (r : List ℕ) → Stack-asks g k → Sums-are (g .lasts) k 0 r → entry r 1 ≡ most (levels g 1 (k - 1))
-above-sum g k r a s = s .sums-are 1 (k - 1) (omega arith) (omega (arith, a .some)) ∙ sym (most-sums g 1 (k - 1))
 
 pub none-yet : (g : Given) (k cap : ℕ) (table₀ table : List (List (List ℕ))) → Scan-asks g k cap table₀ → Cleared (g .windows) k 0 cap table → Scan-asks g k 0 table
 none-yet g k cap table₀ table a c =
@@ -450,35 +446,34 @@ module _ (g : Given) (k cap : ℕ) where
       totals-hit e =
           searching-hit (λ u. nonempty (bottom-span u)) (suc cap) v found q (omega arith) (ends-full (span-in table 0 v .from) (span-in table 0 v .upto) (bottom-span v) (bottom-is (omega arith)) e)
 
-      pub scan-found : (before above : ℕ) (table₀ : List (List (List ℕ))) → Scanning g k v k table₀ before → found ≡ first-total bottom-span cap → above ≡ most (levels g 1 (k - 1)) →
-          span-in table 0 v .from < span-in table 0 v .upto → Scan-is g k cap table (record { total = v; above = above; jump = before })
-      scan-found before above table₀ p t o e =
+      pub scan-found : (before : ℕ) (table₀ : List (List (List ℕ))) → Scanning g k v k table₀ before → found ≡ first-total bottom-span cap →
+          span-in table 0 v .from < span-in table 0 v .upto → Scan-is g k cap table (record { total = v; jump = before })
+      scan-found before table₀ p t e =
           let m : min v cap ≡ v = omega arith in
-          record { table = rw m table-to; above-is = o; total-is = totals-hit e ∙ t; jump-some = p .jump-some; jump-is = λ j n u i l o x. p .earlier-jump j n u i l o x }
+          record { table = rw m table-to; total-is = totals-hit e ∙ t; jump-some = p .jump-some; jump-is = λ j n u i l o x. p .earlier-jump j n u i l o x }
 
-  pub scan-none : (v above jump : ℕ) (table : List (List (List ℕ))) → above ≡ most (levels g 1 (k - 1)) → cap < v → v ≤ cap + 1 → Scanning g k v k table jump →
-      Searching (λ u. nonempty (bottom-span u)) (suc cap) v (first-total bottom-span cap) → Scan-is g k cap table (record { total = v; above = above; jump = jump })
-  scan-none v above jump table o h i s q =
+  pub scan-none : (v jump : ℕ) (table : List (List (List ℕ))) → cap < v → v ≤ cap + 1 → Scanning g k v k table jump →
+      Searching (λ u. nonempty (bottom-span u)) (suc cap) v (first-total bottom-span cap) → Scan-is g k cap table (record { total = v; jump = jump })
+  scan-none v jump table h i s q =
       let m : min v cap ≡ cap = omega arith in
       record {
         table = rw m (record { sized = s .sized; filled = λ j n u l e c o. s .earlier j n u e (omega arith) o });
-        above-is = o;
         total-is = searching-end (λ u. nonempty (bottom-span u)) (suc cap) v (first-total bottom-span cap) q (omega arith);
         jump-some = s .jump-some;
         jump-is = λ j n u e l o x. s .earlier-jump j n u e l o x;
       }
 
 -- THE LOOP OVER STRIPS, as the code goes: from strip i to strip i - 1
-module _ (g : Given) (k v : ℕ) (plan : List (List ℕ)) (es₀ : List ℕ) (table₀ : List (List (List ℕ))) (before : ℕ) (t : Total-asks g k v plan es₀ table₀ before)
+module _ (g : Given) (k v : ℕ) (es₀ : List ℕ) (table₀ : List (List (List ℕ))) (before : ℕ) (t : Total-asks g k v es₀ table₀ before)
     (i : ℕ) (table : List (List (List ℕ))) (jump : ℕ) (es : List ℕ) (some : 0 < i) (inside : i ≤ k) (s : Scanning g k v i table jump) (m : Empties-are k v i table es) (o : Only-at v i table₀ table) where
   abbrev j : ℕ
   j = i - 1
 
   abbrev least-here : ℕ
-  least-here = entry (row plan 0) j
+  least-here = entry (leasts-in (g .plan)) j
 
   abbrev above-here : ℕ
-  above-here = entry (row plan 1) (j + 1)
+  above-here = entry (sums-in (g .plan)) (j + 1)
 
   -- what strip j at this total is asked
   abbrev here : Cell
@@ -487,19 +482,19 @@ module _ (g : Given) (k v : ℕ) (plan : List (List ℕ)) (es₀ : List ℕ) (ta
   strip-below : j + 1 ≡ i
   strip-below = omega arith
 
-  most-of : entry (row plan 1) j ≡ most (levels g j (suc (k - i)))
-  most-of = t .planned .mosts .sums-are j (suc (k - i)) (omega arith) (omega arith) ∙ sym (most-sums g j (suc (k - i)))
+  most-of : entry (sums-in (g .plan)) j ≡ most (levels g j (suc (k - i)))
+  most-of = above-at g k (t .stack .planned) j (suc (k - i)) (omega arith)
 
   above-of : above-here ≡ most (levels g (suc j) (k - i))
-  above-of = rw (add-one j) (t .planned .mosts .sums-are (suc j) (k - i) (omega arith) (omega arith) ∙ sym (most-sums g (suc j) (k - i)))
+  above-of = rw (add-one j) (above-at g k (t .stack .planned) (suc j) (k - i) (omega arith))
 
   least-of : least-here ≡ first-open (low-of g j) (high-of g j) (last-of g j)
-  least-of = t .planned .leasts .leasts-are j (omega arith)
+  least-of = least-at g k (t .stack .planned) j (omega arith)
 
-  used-of : v ≤ entry (row plan 1) j → v ≤ last-of g j + above-here
+  used-of : v ≤ entry (sums-in (g .plan)) j → v ≤ last-of g j + above-here
   used-of h = omega (arith, most-of, above-of, most-here g k v i j table jump (t .stack) s strip-below inside)
 
-  pub total-strip-asks : v ≤ entry (row plan 1) j → Strip-asks (sides (g .limits) j) here table
+  pub total-strip-asks : v ≤ entry (sums-in (g .plan)) j → Strip-asks (sides (g .limits) j) here table
   total-strip-asks h =
       strip-asks g k v i j table jump (t .stack) s strip-below inside least-here above-here least-of above-of (used-of h) es m (t .total)
 
@@ -512,7 +507,7 @@ module _ (g : Given) (k v : ℕ) (plan : List (List ℕ)) (es₀ : List ℕ) (ta
   bound-room =
       omega (arith, t .total, least-of, first-upto (opens (low-of g j) (high-of g j)) 0 (suc (last-of g j)), t .stack .listed j (omega arith), m .here (j + 1) (omega arith))
 
-  pub total-strip : v ≤ entry (row plan 1) j → bound ≤ v → (table′ : List (List (List ℕ))) (short next empty : ℕ) →
+  pub total-strip : v ≤ entry (sums-in (g .plan)) j → bound ≤ v → (table′ : List (List (List ℕ))) (short next empty : ℕ) →
       Strip-done (sides (g .limits) j) here table table′ short →
       Empty-on (max (entry es j) bound) v short empty → next ≡ jump-if (eqb short 0) jump short →
       Scanning g k v j table′ next × Empties-are k v j table′ (set es j empty) × Only-at v j table₀ table′
@@ -523,7 +518,7 @@ module _ (g : Given) (k v : ℕ) (plan : List (List ℕ)) (es₀ : List ℕ) (ta
     only-strip g k v i j table jump (t .stack) s strip-below inside least-here above-here least-of above-of (used-of h) (entry es (j + 1)) table′ short d (t .total) table₀ o,
   )
 
-  pub total-skip : entry (row plan 1) j < v → Scanning g k v j table jump × Empties-are k v j table es × Only-at v j table₀ table
+  pub total-skip : entry (sums-in (g .plan)) j < v → Scanning g k v j table jump × Empties-are k v j table es × Only-at v j table₀ table
   total-skip h = (
     scanning-skip g k v i j table jump (t .stack) s strip-below inside (omega (arith, most-of)),
     empties-below k v i j table es (omega arith) m,

@@ -27,13 +27,12 @@ sized-zeros =
         }
 
 -- the table that a scan leaves serves for the total that it found
-pub scan-separate-asks : (g : Given) (k cap : ℕ) (t : List (List (List ℕ))) (r : Scan) → Stack-asks g k → Scan-is g k cap t r → r .total ≤ cap → cap < totals-held → Separate-asks g k (r .total) (r .above) t
+pub scan-separate-asks : (g : Given) (k cap : ℕ) (t : List (List (List ℕ))) (r : Scan) → Stack-asks g k → Scan-is g k cap t r → r .total ≤ cap → cap < totals-held → Separate-asks g k (r .total) t
 scan-separate-asks g k cap t r a s h m =
     record {
       stack = a;
       cap = min (r .total) cap;
       table = record { sized = s .table .sized; filled = λ j n v i e c l. s .table .filled j n v (omega arith) e c l };
       enough = omega arith;
-      above-first = s .above-is;
       fits = omega arith;
     }

@@ -6,9 +6,9 @@ use mathlib.Core.Logic.{_⊎_}
 use mathlib.Core.List.{List}
 use Prim.Native.Nat.{ℕ, zero, suc, _+_, _-_, _*_, _≤_, _<_, min, max}
 use lib.ListN.{length, set}
-use Rattle.stack.specs.Sizes.{channels-held, strips-held, last-held, separations-held, totals-held}
+use Rattle.stack.specs.Sizes.{channels-held, strips-held, separations-held, totals-held}
 use Rattle.spans.specs.Spans.{Span, span}
-use Rattle.spans.specs.Solver.{first-open, most, cell, back, first-total}
+use Rattle.spans.specs.Solver.{most, cell, back, first-total}
 use Rattle.spans.specs.Jump.{nearest, furthest, between, shortfall, cell-short, short-at}
 use Rattle.solver.specs.Arrays.{bias, entry, row, sides, low-in, high-in, span-at, window-at, Given, window-of, level-of, levels, Two-rows, Sized, span-in, Stack-asks, Filled}
 use Rattle.scan.specs.declared.Cell.{Cell}
@@ -122,27 +122,6 @@ pub record Empties-are (k v i : ℕ) (t : List (List (List ℕ))) (r : List ℕ)
 abbrev pub short-of : Given → (j n u : ℕ) → ℕ
 short-of g j n u = short-at bias bias (window-of g j) (level-of g j) (levels g (suc j) n) u
 
--- the sum of n last separations from i on
-unfoldable pub sums : List ℕ → (i n : ℕ) → ℕ
-sums xs i zero = 0
-sums xs i (suc n) = entry xs i + sums xs (suc i) n
-
--- for each strip from i on the sum of the last separations above it
-pub record Sums-are (lasts : List ℕ) (k i : ℕ) (r : List ℕ) : Type 0 where
-  pub size : length r ≡ strips-held
-  pub sums-are : (j n : ℕ) → i ≤ j → j + n ≡ k → entry r j ≡ sums lasts j n
-  pub small : (j : ℕ) → i ≤ j → j ≤ k → entry r j + last-held * j ≤ last-held * k
-
--- for each channel up to i its least open separation
-pub record Leasts-are (limits : List (List (List ℕ))) (lasts : List ℕ) (i : ℕ) (r : List ℕ) : Type 0 where
-  pub size : length r ≡ strips-held
-  pub leasts-are : (j : ℕ) → j < i → entry r j ≡ first-open (low-in (sides limits j)) (high-in (sides limits j)) (entry lasts j)
-
--- what is worked out once for all totals, in two rows: the least open separations, and the sums
-pub record Plan-is (g : Given) (k : ℕ) (plan : List (List ℕ)) : Type 0 where
-  pub leasts : Leasts-are (g .limits) (g .lasts) k (row plan 0)
-  pub mosts : Sums-are (g .lasts) k 0 (row plan 1)
-
 -- the spans for totals below v, and at v for strips from i on; no such span is short by less than the jump, the bottom strip's included
 pub record Scanning (g : Given) (k v i : ℕ) (t : List (List (List ℕ))) (jump : ℕ) : Type 0 where
   pub sized : Sized t
@@ -156,24 +135,17 @@ pub record Scanning (g : Given) (k v i : ℕ) (t : List (List (List ℕ))) (jump
 -- THE SCAN for totals up to cap: the first that can be had, or cap + 1; the table for totals up to it; no span for a total below it is short by less than the jump
 pub record Scan-is (g : Given) (k cap : ℕ) (t : List (List (List ℕ))) (r : Scan) : Type 0 where
   pub table : Filled g k (min (r .total) cap) 0 t
-  pub above-is : r .above ≡ most (levels g 1 (k - 1))
   pub total-is : r .total ≡ first-total (back bias (window-of g 0) (levels g 0 k)) cap
   pub jump-some : 0 < r .jump
   pub jump-is : (j n u : ℕ) → j + suc n ≡ k → u < r .total → u ≤ most (levels g j (suc n)) → 0 < short-of g j n u → r .jump ≤ short-of g j n u
 
 -- what the scan asks of one total
-pub record Total-asks (g : Given) (k v : ℕ) (plan : List (List ℕ)) (es : List ℕ) (t : List (List (List ℕ))) (jump : ℕ) : Type 0 where
+pub record Total-asks (g : Given) (k v : ℕ) (es : List ℕ) (t : List (List (List ℕ))) (jump : ℕ) : Type 0 where
   pub stack : Stack-asks g k
   pub total : v < totals-held
-  pub planned : Plan-is g k plan
   pub tables : Scanning g k v k t jump
   pub empties : Empties-are k v k t es
   pub clear : Cleared (g .windows) k v v t
-
--- k channels whose last separations are within the arrays
-pub record Lasts-ask (lasts : List ℕ) (k : ℕ) : Type 0 where
-  pub channels : k ≤ channels-held
-  pub listed : (i : ℕ) → i < k → entry lasts i < separations-held
 
 -- what the scan asks: totals up to cap are of use and within the table
 pub record Scan-asks (g : Given) (k cap : ℕ) (t : List (List (List ℕ))) : Type 0 where

@@ -10,17 +10,20 @@ ghost use Rattle.stack.specs.Sizes.{channels-held, separations-held, totals-hel
 ghost use Rattle.spans.specs.Spans.{span};
 ghost use Rattle.spans.specs.Jump.{min-if, max-if};
 ghost use Rattle.solver.specs.Arrays.{bias, given, levels, Two-rows, Sized};
-ghost use Rattle.scan.specs.Scan.{Ends-ask, Ends-are, Ends-serve, window-in, Strip-asks, Strip-done, Lasts-ask, sums, Sums-are, Leasts-are, jump-if, Empty-on, Empties-are, Row-is, Cleared, Only-at, Total-asks, Scanning, Scan-asks, Scan-is};
+ghost use Rattle.scan.specs.Scan.{Ends-ask, Ends-are, Ends-serve, window-in, Strip-asks, Strip-done, jump-if, Empty-on, Empties-are, Row-is, Cleared, Only-at, Total-asks, Scanning, Scan-asks, Scan-is};
+use solver::ABOVE;
+use solver::ChannelLimits;
 use solver::FROM;
 use solver::HIGH;
+use solver::LAST;
+use solver::LEAST;
 use solver::LOW;
+use solver::Plan;
+use solver::SpanTable;
+use solver::StackLimits;
+use solver::StripSpans;
 use solver::UPTO;
-use solver::least_open;
-
-// The two rows of what is worked out once for all totals: the least open separation of each channel, and the sum of the last separations above each strip.
-const LEAST: usize = 0;
-
-const ABOVE: usize = 1;
+use solver::Windows;
 
 // Of spans shifted back: the nearest start and the furthest end, each raised by the bias once more.
 struct Ends {
@@ -48,10 +51,9 @@ struct Turn {
     jump: u64,
 }
 
-// The first total that can be had, the sum of the last separations above channel 0, and how far the spread may grow before a smaller total can be had.
+// The first total that can be had, and how far the spread may grow before a smaller total can be had.
 pub struct Scan {
     pub total: usize,
-    pub above: usize,
     pub jump: u64,
 }
 
@@ -72,8 +74,8 @@ fn stretch(e: Ends, from: u64, upto: u64, low: u64, high: u64) -> Ends
 
 // The ends stretched by the spans of the strip above for what separations from start to below stop leave of total v, each shifted back by its limit.
 fn reach_back(
-    limits: &[[u64; Stack::SEPARATIONS]; 2],
-    spans: &[[u64; Stack::TOTALS]; 2],
+    limits: &ChannelLimits,
+    spans: &StripSpans,
     v: usize,
     start: usize,
     stop: usize,
@@ -101,8 +103,8 @@ fn reach_back(
 
 // Ends for a cell's window, from separations start to below stop. If those of the last one reach over the whole window, the others change nothing in it.
 fn ends_in(
-    limits: &[[u64; Stack::SEPARATIONS]; 2],
-    spans: &[[u64; Stack::TOTALS]; 2],
+    limits: &ChannelLimits,
+    spans: &StripSpans,
     cell: Cell,
     start: usize,
     stop: usize,
@@ -148,11 +150,7 @@ fn stop_above(last: usize, v: usize, empty: usize) -> usize
 }
 
 // Writes the span of a cell, from the spans of the strip above, and answers by how much it is short.
-fn scan_strip(
-    limits: &[[u64; Stack::SEPARATIONS]; 2],
-    cell: Cell,
-    table: &mut [[[u64; Stack::TOTALS]; 2]; Stack::STRIPS],
-) -> u64
+fn scan_strip(limits: &ChannelLimits, cell: Cell, table: &mut SpanTable) -> u64
     requires { ⌜ Strip-asks (now limits) cell (now table) ⌝ }
     ensures { λ r. ⌜ Strip-done (now (limits .entry)) cell (now (table .entry)) (now (table .exit)) r ⌝ }
 {
@@ -173,45 +171,6 @@ fn scan_strip(
         greater(cell.from, near) + 1 + Stack::BIAS,
         lesser(cell.upto + Stack::BIAS, e.reach),
     )
-}
-
-// The sums of the last separations above each strip.
-fn sums_above(lasts: &[usize; Stack::MAX_CHANNELS], k: usize) -> [usize; Stack::STRIPS]
-    requires { ⌜ Lasts-ask (now lasts) k ⌝ }
-    ensures { λ r. ⌜ Sums-are (now (lasts .entry)) k 0 r ⌝ }
-{
-    let mut sums = [0usize; Stack::STRIPS];
-    let mut i = k;
-    while 0 < i {
-        i -= 1;
-        sums[i] = lasts[i] + sums[i + 1];
-    }
-    sums
-}
-
-// The sum of all last separations: no greater total is of use.
-pub fn most_total(lasts: &[usize; Stack::MAX_CHANNELS], k: usize) -> usize
-    requires { ⌜ Lasts-ask (now lasts) k ⌝ }
-    ensures { λ r. ⌜ r ≡ sums (now (lasts .entry)) 0 k ⌝ }
-{
-    let sums = sums_above(lasts, k);
-    sums[0]
-}
-
-// The least open separation of each channel.
-fn least_opens(
-    limits: &[[[u64; Stack::SEPARATIONS]; 2]; Stack::MAX_CHANNELS],
-    lasts: &[usize; Stack::MAX_CHANNELS],
-    k: usize,
-) -> [usize; Stack::STRIPS]
-    requires { ⌜ Lasts-ask (now lasts) k ⌝ }
-    ensures { λ r. ⌜ Leasts-are (now (limits .entry)) (now (lasts .entry)) k r ⌝ }
-{
-    let mut leasts = [0usize; Stack::STRIPS];
-    for i in 0..k {
-        leasts[i] = least_open(&limits[i], lasts[i]);
-    }
-    leasts
 }
 
 // The lesser of a jump and a shortfall, if there is a shortfall.
@@ -242,16 +201,15 @@ fn count_empty(count: usize, bound: usize, v: usize, short: u64) -> usize
 // Writes the spans of strips k - 1 to 0 for total v, and answers the jump cut down to their shortfalls. Below its bound a strip has no span, for every
 // separation leaves the strip above an empty one; then the strips below have none either, and all of them are cleared already.
 fn scan_total(
-    limits: &[[[u64; Stack::SEPARATIONS]; 2]; Stack::MAX_CHANNELS],
-    lasts: &[usize; Stack::MAX_CHANNELS],
-    windows: &[[u64; 2]; Stack::STRIPS],
-    plan: &[[usize; Stack::STRIPS]; 2],
+    limits: &StackLimits,
+    plan: &Plan,
+    windows: &Windows,
     turn: Turn,
     empties: &mut [usize; Stack::STRIPS],
-    table: &mut [[[u64; Stack::TOTALS]; 2]; Stack::STRIPS],
+    table: &mut SpanTable,
 ) -> u64
-    requires { ⌜ Total-asks (given (now limits) (now lasts) (now windows)) (turn .k) (turn .v) (now plan) (now empties) (now table) (turn .jump) ⌝ }
-    ensures { λ r. ⌜ Scanning (given (now (limits .entry)) (now (lasts .entry)) (now (windows .entry))) (turn .k) (turn .v) 0 (now (table .exit)) r × Empties-are (turn .k) (turn .v) 0 (now (table .exit)) (now (empties .exit)) × Only-at (turn .v) 0 (now (table .entry)) (now (table .exit)) ⌝ }
+    requires { ⌜ Total-asks (given (now limits) (now plan) (now windows)) (turn .k) (turn .v) (now empties) (now table) (turn .jump) ⌝ }
+    ensures { λ r. ⌜ Scanning (given (now (limits .entry)) (now (plan .entry)) (now (windows .entry))) (turn .k) (turn .v) 0 (now (table .exit)) r × Empties-are (turn .k) (turn .v) 0 (now (table .exit)) (now (empties .exit)) × Only-at (turn .v) 0 (now (table .entry)) (now (table .exit)) ⌝ }
 {
     let v = turn.v;
     let mut jump = turn.jump;
@@ -267,7 +225,7 @@ fn scan_total(
                 i,
                 v,
                 least: plan[LEAST][i],
-                last: lasts[i],
+                last: plan[LAST][i],
                 above: plan[ABOVE][i + 1],
                 empty: empties[i + 1],
                 from: windows[i][FROM],
@@ -282,7 +240,7 @@ fn scan_total(
 }
 
 // Writes the span (from, 0) for the totals up to cap.
-fn clear_row(spans: &mut [[u64; Stack::TOTALS]; 2], from: u64, cap: usize)
+fn clear_row(spans: &mut StripSpans, from: u64, cap: usize)
     requires { ⌜ (cap < totals-held) × Two-rows (now spans) ⌝ }
     ensures { λ _. ⌜ Row-is (span from 0) (cap + 1) (now (spans .exit)) ⌝ }
 {
@@ -293,12 +251,7 @@ fn clear_row(spans: &mut [[u64; Stack::TOTALS]; 2], from: u64, cap: usize)
 }
 
 // Gives each strip below strip k an empty span for the totals up to cap.
-fn clear(
-    windows: &[[u64; 2]; Stack::STRIPS],
-    k: usize,
-    cap: usize,
-    table: &mut [[[u64; Stack::TOTALS]; 2]; Stack::STRIPS],
-)
+fn clear(windows: &Windows, k: usize, cap: usize, table: &mut SpanTable)
     requires { ⌜ (k ≤ channels-held) × (cap < totals-held) × Sized (now table) ⌝ }
     ensures { λ _. ⌜ Cleared (now (windows .entry)) k 0 cap (now (table .exit)) ⌝ }
 {
@@ -313,20 +266,16 @@ fn clear(
 
 // The first total up to cap that can be had, or one more than cap, with the table of spans for the totals up to it.
 pub fn scan_totals(
-    limits: &[[[u64; Stack::SEPARATIONS]; 2]; Stack::MAX_CHANNELS],
-    lasts: &[usize; Stack::MAX_CHANNELS],
-    windows: &[[u64; 2]; Stack::STRIPS],
+    limits: &StackLimits,
+    plan: &Plan,
+    windows: &Windows,
     k: usize,
     cap: usize,
-    table: &mut [[[u64; Stack::TOTALS]; 2]; Stack::STRIPS],
+    table: &mut SpanTable,
 ) -> Scan
-    requires { ⌜ Scan-asks (given (now limits) (now lasts) (now windows)) k cap (now table) ⌝ }
-    ensures { λ r. ⌜ Scan-is (given (now (limits .entry)) (now (lasts .entry)) (now (windows .entry))) k cap (now (table .exit)) r ⌝ }
+    requires { ⌜ Scan-asks (given (now limits) (now plan) (now windows)) k cap (now table) ⌝ }
+    ensures { λ r. ⌜ Scan-is (given (now (limits .entry)) (now (plan .entry)) (now (windows .entry))) k cap (now (table .exit)) r ⌝ }
 {
-    let leasts = least_opens(limits, lasts, k);
-    let sums = sums_above(lasts, k);
-    let plan = [leasts, sums];
-    let above = sums[1];
     clear(windows, k, cap, table);
     table[k][FROM][0] = windows[k][FROM];
     table[k][UPTO][0] = windows[k][UPTO];
@@ -335,20 +284,12 @@ pub fn scan_totals(
     let mut v = 0;
     while v <= cap {
         let turn = Turn { k, v, jump };
-        let next = scan_total(limits, lasts, windows, &plan, turn, &mut empties, table);
+        let next = scan_total(limits, plan, windows, turn, &mut empties, table);
         if table[0][FROM][v] < table[0][UPTO][v] {
-            return Scan {
-                total: v,
-                above,
-                jump,
-            };
+            return Scan { total: v, jump };
         }
         jump = next;
         v += 1;
     }
-    Scan {
-        total: v,
-        above,
-        jump,
-    }
+    Scan { total: v, jump }
 }

@@ -11,7 +11,7 @@ use Rattle.spans.specs.Spans.{Span, span, Limit, limit, last, low-at, high-at, 
 use Rattle.spans.specs.Solver.{Level, first, first-open, least-open, most, start, stop, cell, back, serves, first-serving, least-serving, forward}
 use Rattle.spans.proofs.Limits.{low-capped, high-capped}
 use Rattle.spans.proofs.First.{first-hit, first-miss}
-use Rattle.solver.specs.Arrays.{bias, Given, low-of, high-of, last-of, window-of, limits-from, level-of, levels}
+use Rattle.solver.specs.Arrays.{bias, entry, lasts-in, leasts-in, sums-in, Given, low-of, high-of, last-of, window-of, limits-from, level-of, levels, sums, Plan-is}
 
 module _ (low high : ℕ → ℕ) where
   limits-length : (q n : ℕ) → length (limits-from low high q n) ≡ n
@@ -89,6 +89,25 @@ unfolding first-open
 open-of low high m =
     first-same _ _ 0 (suc m)
     (λ j h k. ap₂ (λ (x y : ℕ). leb x y) (low-at-of low high m j (omega arith)) (high-at-of low high m j (omega arith)))
+
+-- the last separations' sums
+pub most-sums : (g : Given) (i n : ℕ) → most (levels g i n) ≡ sums (lasts-in (g .plan)) i n
+unfolding most levels sums
+most-sums g i zero = refl
+most-sums g i (suc n) = ap₂ _+_ (last-is (low-of g i) (high-of g i) (last-of g i)) (most-sums g (suc i) n)
+
+pub most-fewer : (g : Given) (d i n : ℕ) → most (levels g (i + d) n) ≤ most (levels g i (d + n))
+unfolding most levels
+most-fewer g zero i n = let z : 0 + n ≡ n = omega arith in rw (add-zero, z) (omega arith)
+most-fewer g (suc d) i n = let z : i + suc d ≡ suc i + d = omega arith in let y : suc d + n ≡ suc (d + n) = omega arith in rw (z, y) (omega (arith, most-fewer g d (suc i) n))
+
+-- what a plan says of the levels
+module _ (g : Given) (k : ℕ) (p : Plan-is (g .limits) k (g .plan)) where
+  pub least-at : (i : ℕ) → i < k → entry (leasts-in (g .plan)) i ≡ first-open (low-of g i) (high-of g i) (last-of g i)
+  least-at i h = p .leasts .leasts-are i h
+
+  pub above-at : (i n : ℕ) → i + n ≡ k → entry (sums-in (g .plan)) i ≡ most (levels g i n)
+  above-at i n e = p .mosts .sums-are i n (omega arith) e ∙ sym (most-sums g i n)
 
 -- THE CODE'S CELL IS THE SPAN: with the spans of the row above in f
 abbrev m : (g : Given) (i : ℕ) → ℕ

@@ -8,10 +8,10 @@ use lib.ListN.{set, replicate}
 use Rattle.stack.specs.Sizes.{channels-held, last-held, separations-held}
 use Rattle.spans.specs.Spans.{Span, cut, shift-on}
 use Rattle.spans.specs.Solver.{first, opens, first-open, most, stop, back, serves, first-serving, least-serving, forward, separations}
-use Rattle.solver.specs.Arrays.{bias, sides, Given, low-of, high-of, last-of, window-of, level-of, levels, span-in, Stack-asks, Serve-asks, Separate-asks, store}
+use Rattle.solver.specs.Arrays.{bias, entry, sides, leasts-in, sums-in, Given, low-of, high-of, last-of, window-of, level-of, levels, span-in, Stack-asks, Serve-asks, Separate-asks, store}
 use Rattle.solver.specs.Loops.{Separating}
 use Rattle.spans.proofs.First.{first-upto}
-use Rattle.solver.proofs.Levels.{last-is, serving-back, forward-back}
+use Rattle.solver.proofs.Levels.{last-is, most-fewer, least-at, above-at, serving-back, forward-back}
 
 -- what is found is at most one past the last separation
 pub open-bound : (low high : ℕ → ℕ) (m : ℕ) → first-open low high m ≤ suc m
@@ -42,24 +42,34 @@ pass-on-asks c last above from upto a =
     }
 
 module _ (g : Given) (k total : ℕ) where
-  pub separating-start : (first : ℕ) (table : List (List (List ℕ))) → Separate-asks g k total first table → Separating g k total 0 total first (window-of g 0) (replicate channels-held 0)
-  separating-start first table a =
+  pub separating-start : (table : List (List (List ℕ))) → Separate-asks g k total table → Separating g k total 0 total (window-of g 0) (replicate channels-held 0)
+  separating-start table a =
       record {
         inside = a .stack .some;
         left = λ n e. let z : n ≡ k = omega arith in rw z;
-        above-is = λ n e. let z : k - 1 ≡ n = omega arith in rw z at (a .above-first);
-        above-less = omega (arith, a .above-first);
         at-most = omega arith;
         starts = omega (arith, a .stack .starts 0 (omega arith));
         ends = a .stack .ends 0 (omega arith);
       }
 
-  module _ (i v above : ℕ) (s : Span) (ts : List ℕ) (first : ℕ) (table : List (List (List ℕ))) (a : Separate-asks g k total first table) (h : Separating g k total i v above s ts) (next : i + 1 < k) where
+  module _ (i v : ℕ) (s : Span) (ts : List ℕ) (table : List (List (List ℕ))) (a : Separate-asks g k total table) (h : Separating g k total i v s ts) (next : i + 1 < k) where
+    abbrev least : ℕ
+    least = entry (leasts-in (g .plan)) i
+
+    abbrev above : ℕ
+    above = entry (sums-in (g .plan)) (i + 1)
+
+    least-is : least ≡ first-open (low-of g i) (high-of g i) (last-of g i)
+    least-is = least-at g k (a .stack .planned) i (h .inside)
+
+    above-is : (n : ℕ) → suc i + n ≡ k → above ≡ most (levels g (suc i) n)
+    above-is n e = rw (add-one i) (above-at g k (a .stack .planned) (suc i) n e)
+
     pub separating-asks : Serve-asks (sides (g .limits) i) (last-of g i) above (s .from) (s .upto)
     separating-asks =
         record {
           listed = a .stack .listed i (h .inside);
-          total = omega (arith, h .above-is (k - suc i) (omega arith), most-small g k (a .stack) (suc i) (k - suc i) (omega arith), a .stack .channels);
+          total = omega (arith, above-is (k - suc i) (omega arith), most-small g k (a .stack) (suc i) (k - suc i) (omega arith), a .stack .channels);
           starts = omega (arith, h .starts, a .stack .channels);
           ends = h .ends;
           lows-small = λ q m. a .stack .lows i q (h .inside) m;
@@ -71,24 +81,18 @@ module _ (g : Given) (k total : ℕ) where
 
     row-is : (n u : ℕ) → suc i + n ≡ k → u ≤ v → u ≤ most (levels g (suc i) n) → f u ≡ back bias (window-of g (suc i)) (levels g (suc i) n) u
     row-is n u e m l =
-        rw (add-one i)
-        (a .table .filled (suc i) n u (omega arith) e (omega (arith, a .enough, h .at-most, h .above-is n e, h .above-less)) l)
+        let z : i + n ≡ k - 1 = omega arith in
+        let y : 1 + i ≡ suc i = omega arith in
+        let fewer : most (levels g (suc i) n) ≤ most (levels g 1 (k - 1)) = rw (z, y) at (most-fewer g i 1 n) in
+        rw (add-one i) (a .table .filled (suc i) n u (omega arith) e (omega (arith, a .enough, h .at-most)) l)
 
-    -- the sum of what is above, one channel on
-    above-next : (n : ℕ) → suc (suc i) + n ≡ k → above ≡ last-of g (suc i) + most (levels g (suc (suc i)) n)
-    unfolding most levels
-    above-next n e = h .above-is (suc n) (omega arith) ∙ rw (last-is (low-of g (suc i)) (high-of g (suc i)) (last-of g (suc i)))
-
-    pub above-holds : last-of g (i + 1) ≤ above
-    above-holds = rw (add-one i) (omega (arith, above-next (k - suc (suc i)) (omega arith)))
-
-    pub separation-small : (q : ℕ) → q ≡ first-serving bias (low-of g i) (high-of g i) (first-open (low-of g i) (high-of g i) (last-of g i)) (last-of g i) above f s v → q ≤ separations-held
+    pub separation-small : (q : ℕ) → q ≡ first-serving bias (low-of g i) (high-of g i) least (last-of g i) above f s v → q ≤ separations-held
     separation-small q e =
-        omega (arith, e, serving-bound bias (low-of g i) (high-of g i) (first-open (low-of g i) (high-of g i) (last-of g i)) (last-of g i) above f s v (open-bound (low-of g i) (high-of g i) (last-of g i)), a .stack .listed i (h .inside))
+        omega (arith, e, serving-bound bias (low-of g i) (high-of g i) least (last-of g i) above f s v (omega (arith, least-is, open-bound (low-of g i) (high-of g i) (last-of g i))), a .stack .listed i (h .inside))
 
-    module _ (q : ℕ) (t : Span) (v₁ : ℕ) (qe : q ≡ first-serving bias (low-of g i) (high-of g i) (first-open (low-of g i) (high-of g i) (last-of g i)) (last-of g i) above f s v) (te : t ≡ cut (window-of g (i + 1)) (shift-on bias (low-of g i (min q (last-of g i))) (high-of g i (min q (last-of g i))) s)) (ve : v₁ ≡ v - q) where
+    module _ (q : ℕ) (t : Span) (v₁ : ℕ) (qe : q ≡ first-serving bias (low-of g i) (high-of g i) least (last-of g i) above f s v) (te : t ≡ cut (window-of g (i + 1)) (shift-on bias (low-of g i (min q (last-of g i))) (high-of g i (min q (last-of g i))) s)) (ve : v₁ ≡ v - q) where
       q-is : (n : ℕ) → suc i + n ≡ k → q ≡ least-serving bias s (level-of g i) (levels g (suc i) n) v
-      q-is n e = qe ∙ rw (h .above-is n e) (serving-back g i n f s v (λ u m l. row-is n u e m l))
+      q-is n e = qe ∙ rw (least-is, above-is n e) (serving-back g i n f s v (λ u m l. row-is n u e m l))
 
       t-is : t ≡ forward bias s (level-of g i) q
       t-is = te ∙ rw (add-one i) (forward-back g i 0 f s v q)
@@ -101,20 +105,18 @@ module _ (g : Given) (k total : ℕ) where
       t-ends : (t .from ≤ max (window-of g (i + 1) .from) (s .from + low-of g i (min q (last-of g i)) - bias)) × (t .upto ≤ window-of g (i + 1) .upto)
       t-ends = (rw te (omega arith), rw te (omega arith))
 
-      pub separating-step : Separating g k total (i + 1) v₁ (above - last-of g (i + 1)) t (set ts i q)
+      pub separating-step : Separating g k total (i + 1) v₁ t (set ts i q)
       separating-step =
           rw (add-one i)
           (record {
             inside = omega arith;
             left = λ n e. step-left n e;
-            above-is = λ n e. omega (arith, above-next n e);
-            above-less = omega (arith, h .above-less);
             at-most = omega (arith, h .at-most);
             starts = omega (arith, t-ends, h .starts, a .stack .starts (i + 1) (omega arith), a .stack .lows i (min q (last-of g i)) (h .inside) (omega arith));
             ends = omega (arith, t-ends, a .stack .ends (i + 1) (omega arith));
           })
 
   -- the last channel takes what is left
-  pub separating-end : (i v above : ℕ) (s : Span) (ts : List ℕ) → Separating g k total i v above s ts → k ≤ i + 1 → set ts i v ≡ store (replicate channels-held 0) 0 (separations bias (window-of g 0) (levels g 0 k) total)
+  pub separating-end : (i v : ℕ) (s : Span) (ts : List ℕ) → Separating g k total i v s ts → k ≤ i + 1 → set ts i v ≡ store (replicate channels-held 0) 0 (separations bias (window-of g 0) (levels g 0 k) total)
   unfolding store separations levels
-  separating-end i v above s ts h e = h .left 1 (omega (arith, h .inside))
+  separating-end i v s ts h e = h .left 1 (omega (arith, h .inside))

@@ -4,11 +4,11 @@ use mathlib.Core.List.{List, [], _∷_}
 use Prim.Native.Nat.{ℕ, zero, suc, _+_, _-_, _*_, _≤_, _<_, min}
 use lib.ListN.{length, getD, set}
 use Rattle.numbers.specs.Lists.{padded}
-use Rattle.stack.specs.Sizes.{channels-held, strips-held, separations-held, totals-held}
+use Rattle.stack.specs.Sizes.{channels-held, strips-held, last-held, separations-held, totals-held}
 use Rattle.stack.specs.Value.{tracks-of, columns-of}
 use Rattle.solver.specs.declared.Placement.{Placement}
 use Rattle.spans.specs.Spans.{Span, span, Limit, limit}
-use Rattle.spans.specs.Solver.{Level, level, most, back, separations, fixed, positions}
+use Rattle.spans.specs.Solver.{Level, level, first-open, most, back, separations, fixed, positions}
 use Rattle.spans.specs.Placed.{Placed, Exactly, Widening}
 
 -- the code's bias, Stack::BIAS
@@ -40,14 +40,24 @@ span-at r v = span (entry (row r 0) v) (entry (row r 1) v)
 abbrev pub window-at : List ℕ → Span
 window-at w = span (entry w 0) (entry w 1)
 
--- THE STACK that the arrays stand for: in channel i the limits at separations 0 to lasts[i], the window of strip i. Channel i lies under strip i + 1
+-- the three rows of a PLAN: of each channel the last separation of use and the least open one, of each strip the sum of the last ones above it
+abbrev pub lasts-in : List (List ℕ) → List ℕ
+lasts-in p = row p 0
+
+abbrev pub leasts-in : List (List ℕ) → List ℕ
+leasts-in p = row p 1
+
+abbrev pub sums-in : List (List ℕ) → List ℕ
+sums-in p = row p 2
+
+-- THE STACK that the arrays stand for: in channel i the limits at separations 0 to the last of use, the window of strip i. Channel i lies under strip i + 1
 pub record Given : Type 0 where
   pub limits : List (List (List ℕ))
-  pub lasts : List ℕ
+  pub plan : List (List ℕ)
   pub windows : List (List ℕ)
 
-abbrev pub given : (limits : List (List (List ℕ))) → (lasts : List ℕ) → (windows : List (List ℕ)) → Given
-given l c w = record { limits = l; lasts = c; windows = w }
+abbrev pub given : (limits : List (List (List ℕ))) → (plan windows : List (List ℕ)) → Given
+given l p w = record { limits = l; plan = p; windows = w }
 
 abbrev pub low-of : Given → (i q : ℕ) → ℕ
 low-of g i q = low-in (sides (g .limits) i) q
@@ -57,7 +67,7 @@ high-of g i q = high-in (sides (g .limits) i) q
 
 -- the last separation of use in channel i: from there on the limits do not widen
 abbrev pub last-of : Given → (i : ℕ) → ℕ
-last-of g i = entry (g .lasts) i
+last-of g i = entry (lasts-in (g .plan)) i
 
 abbrev pub window-of : Given → (i : ℕ) → Span
 window-of g i = window-at (row (g .windows) i)
@@ -88,10 +98,32 @@ pub record Sized (t : List (List (List ℕ))) : Type 0 where
 abbrev pub span-in : List (List (List ℕ)) → (i v : ℕ) → Span
 span-in t i v = span-at (sides t i) v
 
--- what all of it asks: k channels, last separations within the arrays, ends and limits that leave room for the bias
+-- the sum of n last separations from i on
+unfoldable pub sums : List ℕ → (i n : ℕ) → ℕ
+sums xs i zero = 0
+sums xs i (suc n) = entry xs i + sums xs (suc i) n
+
+-- for each strip from i on the sum of the last separations above it
+pub record Sums-are (lasts : List ℕ) (k i : ℕ) (r : List ℕ) : Type 0 where
+  pub size : length r ≡ strips-held
+  pub sums-are : (j n : ℕ) → i ≤ j → j + n ≡ k → entry r j ≡ sums lasts j n
+  pub small : (j : ℕ) → i ≤ j → j ≤ k → entry r j + last-held * j ≤ last-held * k
+
+-- for each channel up to i its least open separation
+pub record Leasts-are (limits : List (List (List ℕ))) (lasts : List ℕ) (i : ℕ) (r : List ℕ) : Type 0 where
+  pub size : length r ≡ strips-held
+  pub leasts-are : (j : ℕ) → j < i → entry r j ≡ first-open (low-in (sides limits j)) (high-in (sides limits j)) (entry lasts j)
+
+-- the plan of k channels with these limits
+pub record Plan-is (limits : List (List (List ℕ))) (k : ℕ) (plan : List (List ℕ)) : Type 0 where
+  pub leasts : Leasts-are limits (lasts-in plan) k (leasts-in plan)
+  pub mosts : Sums-are (lasts-in plan) k 0 (sums-in plan)
+
+-- what all of it asks: k channels and their plan, last separations within the arrays, ends and limits that leave room for the bias
 pub record Stack-asks (g : Given) (k : ℕ) : Type 0 where
   pub some : 1 ≤ k
   pub channels : k ≤ channels-held
+  pub planned : Plan-is (g .limits) k (g .plan)
   pub listed : (i : ℕ) → i < k → last-of g i < separations-held
   pub starts : (i : ℕ) → i ≤ k → window-of g i .from ≤ bias
   pub ends : (i : ℕ) → i ≤ k → window-of g i .upto ≤ bias
@@ -113,12 +145,11 @@ pub record Serve-asks (c : List (List ℕ)) (last above from upto : ℕ) : Type 
   pub highs-small : (q : ℕ) → q ≤ last → high-in c q ≤ 2 * bias
 
 -- what the search for all separations asks: the table holds what is left of the total in every channel but the last
-pub record Separate-asks (g : Given) (k total first : ℕ) (t : List (List (List ℕ))) : Type 0 where
+pub record Separate-asks (g : Given) (k total : ℕ) (t : List (List (List ℕ))) : Type 0 where
   pub stack : Stack-asks g k
   pub cap : ℕ
   pub table : Filled g k cap 1 t
   pub enough : min total (most (levels g 1 (k - 1))) ≤ cap
-  pub above-first : first ≡ most (levels g 1 (k - 1))
   pub fits : total < 4294967296
 
 -- xs written over ys from place i on

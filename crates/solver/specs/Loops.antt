@@ -6,7 +6,7 @@ use Prim.Native.Nat.{ℕ, suc, _+_, _-_, _*_, _≤_, _<_}
 use lib.ListN.{replicate}
 use Rattle.stack.specs.Sizes.{channels-held, strips-held}
 use Rattle.spans.specs.Spans.{Span}
-use Rattle.spans.specs.Solver.{first, most, separations, positions-on, positions}
+use Rattle.spans.specs.Solver.{first, separations, positions-on, positions}
 use Rattle.spans.specs.Placed.{Placed}
 use Rattle.solver.specs.Arrays.{bias, Given, window-of, levels, store, taken, fixed-from, Starts-are}
 
@@ -15,15 +15,13 @@ pub record Searching (f : ℕ → Bool) (stop q found : ℕ) : Type 0 where
   pub left : first f q (stop - q) ≡ found
 
 -- the separations of the channels below i written, strip i in the span s, the total v left for the channels from i on
-pub record Separating (g : Given) (k total i v above : ℕ) (s : Span) (ts : List ℕ) : Type 0 where
+pub record Separating (g : Given) (k total i v : ℕ) (s : Span) (ts : List ℕ) : Type 0 where
   pub inside : i < k
   pub left :
       (n : ℕ)
       → i + n ≡ k
       → store ts i (separations bias s (levels g i n) v)
       ≡ store (replicate channels-held 0) 0 (separations bias (window-of g 0) (levels g 0 k) total)
-  pub above-is : (n : ℕ) → suc i + n ≡ k → above ≡ most (levels g (suc i) n)
-  pub above-less : above ≤ most (levels g 1 (k - 1))
   pub at-most : v ≤ total
   pub starts : s .from ≤ bias * suc i
   pub ends : s .upto ≤ bias

@@ -1,4 +1,4 @@
-// The least total and the placement of a stack, from windows and limit lists.
+// The placement of a stack for a total, from windows, limit lists and a table of spans.
 use numbers::difference;
 use numbers::greater;
 use numbers::lesser;
@@ -11,18 +11,40 @@ ghost use lib.ListN.{replicate};
 ghost use Rattle.stack.specs.Value.{tracks-of, columns-of};
 ghost use Rattle.stack.specs.Sizes.{channels-held, strips-held, separations-held};
 ghost use Rattle.spans.specs.Spans.{span, cut, shift-back, shift-on};
-ghost use Rattle.spans.specs.Solver.{first-open, stop, first-serving, separations, positions};
+ghost use Rattle.spans.specs.Solver.{stop, first-serving, separations, positions};
 ghost use Rattle.solver.specs.Arrays.{bias, entry, low-in, high-in, span-at, window-at, given, window-of, levels, Stack-asks, Serve-asks, Separate-asks, store, taken, Starts-are, Next-asks, Position-asks, Place-asks, Placement-is};
 
-// The two rows of a channel's limits.
+// The two rows of a channel's limits, with a place for each separation.
 pub const LOW: usize = 0;
 
 pub const HIGH: usize = 1;
 
-// The two rows of a strip's spans, and the two ends of a window.
+pub type ChannelLimits = [[u64; Stack::SEPARATIONS]; 2];
+
+pub type StackLimits = [ChannelLimits; Stack::MAX_CHANNELS];
+
+// The three rows of a plan, which holds for every spread: of each channel the last separation of use and the least open one, of each strip the sum of the last
+// separations above it.
+pub const LAST: usize = 0;
+
+pub const LEAST: usize = 1;
+
+pub const ABOVE: usize = 2;
+
+pub type Plan = [[usize; Stack::STRIPS]; 3];
+
+// The two ends of a window, and the two rows of a strip's spans, with a place for each total.
 pub const FROM: usize = 0;
 
 pub const UPTO: usize = 1;
+
+pub type Window = [u64; 2];
+
+pub type Windows = [Window; Stack::STRIPS];
+
+pub type StripSpans = [[u64; Stack::TOTALS]; 2];
+
+pub type SpanTable = [StripSpans; Stack::STRIPS];
 
 // A span of positions: from ≤ x < upto.
 struct Span {
@@ -30,33 +52,11 @@ struct Span {
     upto: u64,
 }
 
-// What is to be placed: so many channels, with this total; the sum of the last separations above channel 0.
-pub struct Goal {
-    pub k: usize,
-    pub total: usize,
-    pub above: usize,
-}
-
 // A placement: its total, its separations from channel 1 up, its positions from strip 0 up; zeros in unused places.
 pub struct Placement {
     pub total: Tracks,
     pub separations: [Tracks; Stack::MAX_CHANNELS],
     pub positions: [Columns; Stack::STRIPS],
-}
-
-// The least separation whose limit is open, or one past the last.
-pub fn least_open(limits: &[[u64; Stack::SEPARATIONS]; 2], last: usize) -> usize
-    requires { ⌜ last < separations-held ⌝ }
-    ensures { λ r. ⌜ r ≡ first-open (low-in (now (limits .entry))) (high-in (now (limits .entry))) last ⌝ }
-{
-    let mut q = 0;
-    while q <= last {
-        if limits[LOW][q] <= limits[HIGH][q] {
-            return q;
-        }
-        q += 1;
-    }
-    q
 }
 
 // One past the last separation of use.
@@ -78,20 +78,21 @@ fn forward(s: Span, low: u64, high: u64, from: u64, upto: u64) -> Span
     }
 }
 
-// The least separation of a channel that serves with total v, for the strip below in s; one past the last of use if none does.
+// The least separation of a channel, from least on, that serves with total v, for the strip below in s; one past the last of use if none does.
 fn serving(
-    limits: &[[u64; Stack::SEPARATIONS]; 2],
-    spans: &[[u64; Stack::TOTALS]; 2],
+    limits: &ChannelLimits,
+    spans: &StripSpans,
+    least: usize,
     last: usize,
     above: usize,
     s: Span,
     v: usize,
 ) -> usize
     requires { ⌜ Serve-asks (now limits) last above (s .from) (s .upto) ⌝ }
-    ensures { λ r. ⌜ r ≡ first-serving bias (low-in (now (limits .entry))) (high-in (now (limits .entry))) (first-open (low-in (now (limits .entry))) (high-in (now (limits .entry))) last) last above (span-at (now (spans .entry))) (span (s .from) (s .upto)) v ⌝ }
+    ensures { λ r. ⌜ r ≡ first-serving bias (low-in (now (limits .entry))) (high-in (now (limits .entry))) least last above (span-at (now (spans .entry))) (span (s .from) (s .upto)) v ⌝ }
 {
     let end = stop(last, v);
-    let mut q = least_open(limits, last);
+    let mut q = least;
     while q < end {
         let u = lesser((v - q) as u64, above as u64) as usize;
         let t = forward(
@@ -110,13 +111,7 @@ fn serving(
 }
 
 // The positions in the window of the strip above, for the strip below in s and separation q.
-fn pass_on(
-    limits: &[[u64; Stack::SEPARATIONS]; 2],
-    last: usize,
-    q: usize,
-    s: Span,
-    window: &[u64; 2],
-) -> Span
+fn pass_on(limits: &ChannelLimits, last: usize, q: usize, s: Span, window: &Window) -> Span
     requires { ⌜ Serve-asks (now limits) last 0 (s .from) (s .upto) ⌝ }
     ensures { λ r. ⌜ span (r .from) (r .upto) ≡ cut (window-at (now (window .entry))) (shift-on bias (low-in (now (limits .entry)) (min q last)) (high-in (now (limits .entry)) (min q last)) (span (s .from) (s .upto))) ⌝ }
 {
@@ -132,33 +127,32 @@ fn pass_on(
 
 // The separations for a total, channel 1 first, from the table of spans; zeros in unused places.
 fn separations_for(
-    limits: &[[[u64; Stack::SEPARATIONS]; 2]; Stack::MAX_CHANNELS],
-    lasts: &[usize; Stack::MAX_CHANNELS],
-    windows: &[[u64; 2]; Stack::STRIPS],
-    goal: Goal,
-    table: &[[[u64; Stack::TOTALS]; 2]; Stack::STRIPS],
+    limits: &StackLimits,
+    plan: &Plan,
+    windows: &Windows,
+    k: usize,
+    total: usize,
+    table: &SpanTable,
 ) -> [Tracks; Stack::MAX_CHANNELS]
-    requires { ⌜ Separate-asks (given (now limits) (now lasts) (now windows)) (goal .k) (goal .total) (goal .above) (now table) ⌝ }
-    ensures { λ r. ⌜ tracks-of r ≡ store (replicate channels-held 0) 0 (separations bias (window-of (given (now (limits .entry)) (now (lasts .entry)) (now (windows .entry))) 0) (levels (given (now (limits .entry)) (now (lasts .entry)) (now (windows .entry))) 0 (goal .k)) (goal .total)) ⌝ }
+    requires { ⌜ Separate-asks (given (now limits) (now plan) (now windows)) k total (now table) ⌝ }
+    ensures { λ r. ⌜ tracks-of r ≡ store (replicate channels-held 0) 0 (separations bias (window-of (given (now (limits .entry)) (now (plan .entry)) (now (windows .entry))) 0) (levels (given (now (limits .entry)) (now (plan .entry)) (now (windows .entry))) 0 k) total) ⌝ }
 {
-    let k = goal.k;
     let mut ts = [Tracks(0); Stack::MAX_CHANNELS];
     let mut s = Span {
         from: windows[0][FROM],
         upto: windows[0][UPTO],
     };
-    let mut v = goal.total;
-    let mut above = goal.above;
+    let mut v = total;
     let mut i = 0;
     while i + 1 < k {
-        let last = lasts[i];
-        let q = serving(&limits[i], &table[i + 1], last, above, s, v);
+        let last = plan[LAST][i];
+        let above = plan[ABOVE][i + 1];
+        let q = serving(&limits[i], &table[i + 1], plan[LEAST][i], last, above, s, v);
         ts[i] = Tracks(q as u32);
         let t = pass_on(&limits[i], last, q, s, &windows[i + 1]);
         s = t;
         v = difference(v as u64, q as u64) as usize;
         i += 1;
-        above -= lasts[i];
     }
     ts[i] = Tracks(v as u32);
     ts
@@ -176,13 +170,7 @@ fn backward(s: Span, low: u64, high: u64, from: u64, upto: u64) -> Span
 }
 
 // The positions in the window of the strip below, for the strip above in s and separation q.
-fn pull_back(
-    limits: &[[u64; Stack::SEPARATIONS]; 2],
-    last: usize,
-    q: u32,
-    s: Span,
-    window: &[u64; 2],
-) -> Span
+fn pull_back(limits: &ChannelLimits, last: usize, q: u32, s: Span, window: &Window) -> Span
     requires { ⌜ (last < separations-held) × (s .from ≤ strips-held * bias) × (s .upto ≤ bias) ⌝ }
     ensures { λ r. ⌜ span (r .from) (r .upto) ≡ cut (window-at (now (window .entry))) (shift-back bias (low-in (now (limits .entry)) (min q last)) (high-in (now (limits .entry)) (min q last)) (span (s .from) (s .upto))) ⌝ }
 {
@@ -198,14 +186,14 @@ fn pull_back(
 
 // The first position of each strip from which the strips above can be placed with these separations.
 fn starts_for(
-    limits: &[[[u64; Stack::SEPARATIONS]; 2]; Stack::MAX_CHANNELS],
-    lasts: &[usize; Stack::MAX_CHANNELS],
-    windows: &[[u64; 2]; Stack::STRIPS],
+    limits: &StackLimits,
+    plan: &Plan,
+    windows: &Windows,
     k: usize,
     ts: [Tracks; Stack::MAX_CHANNELS],
 ) -> [u64; Stack::STRIPS]
-    requires { ⌜ Stack-asks (given (now limits) (now lasts) (now windows)) k ⌝ }
-    ensures { λ r. ⌜ Starts-are (given (now (limits .entry)) (now (lasts .entry)) (now (windows .entry))) k (tracks-of ts) 0 r ⌝ }
+    requires { ⌜ Stack-asks (given (now limits) (now plan) (now windows)) k ⌝ }
+    ensures { λ r. ⌜ Starts-are (given (now (limits .entry)) (now (plan .entry)) (now (windows .entry))) k (tracks-of ts) 0 r ⌝ }
 {
     let mut s = Span {
         from: windows[k][FROM],
@@ -217,7 +205,7 @@ fn starts_for(
     while 0 < i {
         i -= 1;
         let Tracks(q) = ts[i];
-        let t = pull_back(&limits[i], lasts[i], q, s, &windows[i]);
+        let t = pull_back(&limits[i], plan[LAST][i], q, s, &windows[i]);
         s = t;
         starts[i] = s.from;
     }
@@ -235,23 +223,23 @@ fn next(low: &[u64; Stack::SEPARATIONS], last: usize, q: u32, x: u64, start: u64
 
 // The positions for separations that can be had, bottom strip first, each as far left as can be; zeros in unused places.
 fn positions_for(
-    limits: &[[[u64; Stack::SEPARATIONS]; 2]; Stack::MAX_CHANNELS],
-    lasts: &[usize; Stack::MAX_CHANNELS],
-    windows: &[[u64; 2]; Stack::STRIPS],
+    limits: &StackLimits,
+    plan: &Plan,
+    windows: &Windows,
     k: usize,
     ts: [Tracks; Stack::MAX_CHANNELS],
 ) -> [Columns; Stack::STRIPS]
-    requires { ⌜ Position-asks (given (now limits) (now lasts) (now windows)) k (tracks-of ts) ⌝ }
-    ensures { λ r. ⌜ columns-of r ≡ store (replicate strips-held 0) 0 (positions bias (window-of (given (now (limits .entry)) (now (lasts .entry)) (now (windows .entry))) 0) (levels (given (now (limits .entry)) (now (lasts .entry)) (now (windows .entry))) 0 k) (taken (tracks-of ts) 0 k)) ⌝ }
+    requires { ⌜ Position-asks (given (now limits) (now plan) (now windows)) k (tracks-of ts) ⌝ }
+    ensures { λ r. ⌜ columns-of r ≡ store (replicate strips-held 0) 0 (positions bias (window-of (given (now (limits .entry)) (now (plan .entry)) (now (windows .entry))) 0) (levels (given (now (limits .entry)) (now (plan .entry)) (now (windows .entry))) 0 k) (taken (tracks-of ts) 0 k)) ⌝ }
 {
-    let starts = starts_for(limits, lasts, windows, k, ts);
+    let starts = starts_for(limits, plan, windows, k, ts);
     let mut xs = [Columns(0); Stack::STRIPS];
     let mut x = starts[0];
     xs[0] = Columns(x as u32);
     let mut i = 0;
     while i < k {
         let Tracks(q) = ts[i];
-        x = next(&limits[i][LOW], lasts[i], q, x, starts[i + 1]);
+        x = next(&limits[i][LOW], plan[LAST][i], q, x, starts[i + 1]);
         i += 1;
         xs[i] = Columns(x as u32);
     }
@@ -260,19 +248,20 @@ fn positions_for(
 
 // The placement for a total that can be had, from the table of spans.
 pub fn place_in(
-    limits: &[[[u64; Stack::SEPARATIONS]; 2]; Stack::MAX_CHANNELS],
-    lasts: &[usize; Stack::MAX_CHANNELS],
-    windows: &[[u64; 2]; Stack::STRIPS],
-    goal: Goal,
-    table: &[[[u64; Stack::TOTALS]; 2]; Stack::STRIPS],
+    limits: &StackLimits,
+    plan: &Plan,
+    windows: &Windows,
+    k: usize,
+    total: usize,
+    table: &SpanTable,
 ) -> Placement
-    requires { ⌜ Place-asks (given (now limits) (now lasts) (now windows)) (goal .k) (goal .total) × Separate-asks (given (now limits) (now lasts) (now windows)) (goal .k) (goal .total) (goal .above) (now table) ⌝ }
-    ensures { λ r. ⌜ Placement-is (given (now (limits .entry)) (now (lasts .entry)) (now (windows .entry))) (goal .k) (goal .total) r ⌝ }
+    requires { ⌜ Place-asks (given (now limits) (now plan) (now windows)) k total × Separate-asks (given (now limits) (now plan) (now windows)) k total (now table) ⌝ }
+    ensures { λ r. ⌜ Placement-is (given (now (limits .entry)) (now (plan .entry)) (now (windows .entry))) k total r ⌝ }
 {
-    let ts = separations_for(limits, lasts, windows, goal, table);
-    let xs = positions_for(limits, lasts, windows, goal.k, ts);
+    let ts = separations_for(limits, plan, windows, k, total, table);
+    let xs = positions_for(limits, plan, windows, k, ts);
     Placement {
-        total: Tracks(goal.total as u32),
+        total: Tracks(total as u32),
         separations: ts,
         positions: xs,
     }

@@ -216,11 +216,7 @@ fn columns_stored(
     all
 }
 
-fn strip_stored(
-    mut all: [Strip; Stack::MAX_CHANNELS + 1],
-    i: usize,
-    x: Strip,
-) -> [Strip; Stack::MAX_CHANNELS + 1]
+fn strip_stored(mut all: [Strip; Stack::STRIPS], i: usize, x: Strip) -> [Strip; Stack::STRIPS]
     requires { ⌜ i < 9 ⌝ }
     ensures { λ r. ⌜ Stored all 9 i x r ⌝ }
 {
@@ -243,7 +239,7 @@ fn terminals_stored(
 // k channels and k + 1 strips, strip 0 at the bottom; places past them are unused.
 pub struct Stack {
     pub count: usize,
-    pub strips: [Strip; Stack::MAX_CHANNELS + 1],
+    pub strips: [Strip; Stack::STRIPS],
     pub channels: [Terminals; Stack::MAX_CHANNELS],
 }
 
@@ -285,7 +281,7 @@ impl Stack {
         let none = Terminals::none();
         Stack {
             count: k,
-            strips: [shortest; Stack::MAX_CHANNELS + 1],
+            strips: [shortest; Stack::STRIPS],
             channels: [none; Stack::MAX_CHANNELS],
         }
     }

@@ -1,35 +1,35 @@
 -- What the scan of an event's spread says of the walk. Assumes nothing.
-use mathlib.Core.Path.{_≡_, refl, sym, ap, _∙_}
+use mathlib.Core.Path.{_≡_, refl, sym, _∙_}
 use mathlib.Core.Bool.{true}
 use mathlib.Core.List.{List}
 use Prim.Native.Nat.{ℕ, zero, suc, _+_, _≤_, _<_}
 use native.Mathlib.Omega.{arith}
-use lib.ListN.{length, getD}
+use lib.ListN.{length}
 use Rattle.stack.specs.Stack.{Stack, sum, longest}
 use Rattle.stack.specs.Limits.{within-limits}
-use Rattle.stack.specs.Value.{no-terminals, stack-of}
+use Rattle.stack.specs.Value.{stack-of}
 use Rattle.stack.specs.declared.Stack.{Stack as Stack-struct}
-use Rattle.stack.proofs.Values.{channel-length}
-use Rattle.stack.proofs.Within.{stack-channels, stack-channel, few-channels, few-pairs}
-use Rattle.solver.specs.Arrays.{given}
-use Rattle.scan.specs.Scan.{sums, Scan-is, Lasts-ask}
+use Rattle.stack.proofs.Within.{stack-channels}
+use Rattle.solver.specs.Arrays.{entry, sums-in, given}
+use Rattle.scan.specs.Scan.{Scan-is}
 use Rattle.scan.specs.declared.Scan.{Scan}
-use Rattle.scan.proofs.Sums.{most-sums}
 use Rattle.answer.specs.Solve.{answer-total}
 use Rattle.rows.specs.Walk.{widest}
-use Rattle.rows.specs.Evaluate.{Held, Evaluated, Place-row-asks}
+use Rattle.answer.specs.Arrays.{Held}
+use Rattle.answer.proofs.Standing.{held-stands, cap-used, whole-found}
+use Rattle.rows.specs.Evaluate.{Evaluated, Place-row-asks}
 use Rattle.rows.proofs.Settled.{widest-small, longest-widest}
-use Rattle.rows.proofs.Steps.{scan-passes, scan-stays, scan-whole, scan-most}
-use Rattle.rows.proofs.Evaluating.{held-stands, cap-used, found-total}
+use Rattle.rows.proofs.Steps.{scan-passes, scan-stays, scan-most}
+use Rattle.rows.proofs.Evaluating.{found-total}
 use Rattle.table.specs.Walking.{Holding}
 
-module _ (k : Stack-struct) (s cap : ℕ) (limits : List (List (List ℕ))) (lasts : List ℕ) (windows : List (List ℕ)) (t : List (List (List ℕ))) (r : Scan) (fits : s < 4294967296) (wide : longest (stack-of k .strips) ≤ s)
-    (held : Held k limits lasts) (e : Evaluated k s cap limits lasts windows t r) where
-  scanned : Scan-is (given limits lasts windows) (length (stack-of k .channels)) cap t r
+module _ (k : Stack-struct) (s cap : ℕ) (limits : List (List (List ℕ))) (plan windows : List (List ℕ)) (t : List (List (List ℕ))) (r : Scan) (fits : s < 4294967296) (wide : longest (stack-of k .strips) ≤ s)
+    (held : Held k limits plan) (e : Evaluated k s cap limits plan windows t r) where
+  scanned : Scan-is (given limits plan windows) (length (stack-of k .channels)) cap t r
   scanned = rw (stack-channels k) (e .scanned)
 
   -- the arrays are held on
-  pub holds-on : Holding k limits lasts windows t
+  pub holds-on : Holding k limits plan windows t
   holds-on = record { held = held; sized-windows = e .spread-windows .sized; sized = e .scanned .table .sized }
 
   -- until the jump is reached the total stays
@@ -39,35 +39,25 @@ module _ (k : Stack-struct) (s cap : ℕ) (limits : List (List (List ℕ))) (las
       go : (n : ℕ) → r .total ≡ n → n ≤ answer-total (stack-of k) (s + d)
       go zero z = omega arith
       go (suc v) z =
-          omega (arith, scan-stays (stack-of k) s (given limits lasts windows) (held-stands k s limits lasts windows fits wide held (e .spread-windows)) fits wide cap t r scanned v (e₀ ∙ z) z d j (omega (arith, widest-small (stack-of k) (held .good))))
+          omega (arith, scan-stays (stack-of k) s (given limits plan windows) (held-stands k s limits plan windows fits wide held (e .spread-windows)) fits wide cap t r scanned v (e₀ ∙ z) z d j (omega (arith, widest-small (stack-of k) (held .good))))
 
-  pub event-least : cap ≤ sums lasts 0 (k .count) → r .total ≤ cap → r .total ≡ answer-total (stack-of k) s
-  event-least c f = found-total k s limits lasts windows fits wide held (e .spread-windows) cap t r c (e .scanned) f
+  pub event-least : cap ≤ entry (sums-in plan) 0 → r .total ≤ cap → r .total ≡ answer-total (stack-of k) s
+  event-least c f = found-total k s limits plan windows fits wide held (e .spread-windows) cap t r (e .scanned) c f
 
-  pub event-whole : cap ≡ sums lasts 0 (k .count) → r .total ≤ cap
-  event-whole c =
-      scan-whole (stack-of k) s (given limits lasts windows) (held-stands k s limits lasts windows fits wide held (e .spread-windows)) fits wide cap t r scanned
-      (c ∙ rw (stack-channels k) (sym (most-sums (given limits lasts windows) 0 (k .count))))
+  pub event-whole : cap ≡ entry (sums-in plan) 0 → r .total ≤ cap
+  event-whole c = whole-found k s limits plan windows fits wide held (e .spread-windows) cap t r (e .scanned) c
 
   -- no total up to the cap: the total before stays
-  pub event-passed : (before : ℕ) → cap ≤ sums lasts 0 (k .count) → before ≡ suc cap → answer-total (stack-of k) s ≤ before → cap < r .total → (answer-total (stack-of k) s ≡ before) × (r .total ≡ before)
+  pub event-passed : (before : ℕ) → cap ≤ entry (sums-in plan) 0 → before ≡ suc cap → answer-total (stack-of k) s ≤ before → cap < r .total → (answer-total (stack-of k) s ≡ before) × (r .total ≡ before)
   event-passed before c b h l =
-      let st = held-stands k s limits lasts windows fits wide held (e .spread-windows) in
-      let g = given limits lasts windows in
-      let over = scan-passes (stack-of k) s g st fits wide cap t r scanned (rw (stack-channels k) (cap-used k s limits lasts windows fits wide held (e .spread-windows) cap c)) l in
+      let st = held-stands k s limits plan windows fits wide held (e .spread-windows) in
+      let g = given limits plan windows in
+      let over = scan-passes (stack-of k) s g st fits wide cap t r scanned (rw (stack-channels k) (cap-used k s limits plan windows fits wide held (e .spread-windows) cap c)) l in
       let most = scan-most (stack-of k) s g st fits wide cap t r scanned in
       (omega arith, omega arith)
 
-  pub event-place-asks : cap ≤ sums lasts 0 (k .count) → r .total ≤ cap → Place-row-asks k s limits lasts windows t r
+  pub event-place-asks : cap ≤ entry (sums-in plan) 0 → r .total ≤ cap → Place-row-asks k s limits plan windows t r
   event-place-asks c f = record { held = held; wide = wide; cap = cap; capped = c; found = f; evaluated = e }
-
--- last separations within the arrays
-pub held-lasts : (k : Stack-struct) (limits : List (List (List ℕ))) (lasts : List ℕ) → Held k limits lasts → Lasts-ask lasts (k .count)
-held-lasts k limits lasts h =
-    record {
-      channels = few-channels k (h .good);
-      listed = λ i l. omega (arith, h .filled .lasts-are i l, ap length (stack-channel k i l), channel-length (getD (k .channels) i no-terminals), few-pairs k (h .good) i l);
-    }
 
 -- a spread up to the sum of the lengths is small
 pub spread-fits : (k : Stack) (s : ℕ) → within-limits k ≡ true → s ≡ longest (k .strips) → s < 4294967296

@@ -7,11 +7,10 @@ use Rattle.stack.specs.Stack.{Stack, longest}
 use Rattle.stack.specs.Value.{stack-of}
 use Rattle.stack.specs.declared.Stack.{Stack as Stack-struct}
 use Rattle.stack.specs.Sizes.{strips-held}
-use Rattle.solver.specs.Arrays.{Sized}
-use Rattle.scan.specs.Scan.{sums}
+use Rattle.solver.specs.Arrays.{entry, sums-in, Sized}
 use Rattle.answer.specs.Solve.{answer-total}
 use Rattle.rows.specs.Walk.{rows-walk, widest, rows-of}
-use Rattle.rows.specs.Evaluate.{Held}
+use Rattle.answer.specs.Arrays.{Held}
 use Rattle.writing.specs.Output.{Written, table-bytes}
 use Rattle.writing.specs.TableText.{table-text, rows-text}
 use Rattle.table.specs.declared.Walk.{Walk}
@@ -29,20 +28,20 @@ pub record Walking (k : Stack) (out : List ℕ) (w : Walk) : Type 0 where
   pub written : Written text out out
 
 -- the arrays that are held from spread to spread
-pub record Holding (k : Stack-struct) (limits : List (List (List ℕ))) (lasts : List ℕ) (windows : List (List ℕ)) (t : List (List (List ℕ))) : Type 0 where
-  pub held : Held k limits lasts
+pub record Holding (k : Stack-struct) (limits : List (List (List ℕ))) (plan windows : List (List ℕ)) (t : List (List (List ℕ))) : Type 0 where
+  pub held : Held k limits plan
   pub sized-windows : length windows ≡ strips-held
   pub sized : Sized t
 
 -- the walk with the arrays it is made in; no total is more than all last separations
-pub record Stepping (k : Stack-struct) (limits : List (List (List ℕ))) (lasts : List ℕ) (windows : List (List ℕ)) (t : List (List (List ℕ))) (out : List ℕ) (w : Walk) : Type 0 where
-  pub holding : Holding k limits lasts windows t
+pub record Stepping (k : Stack-struct) (limits : List (List (List ℕ))) (plan windows : List (List ℕ)) (t : List (List (List ℕ))) (out : List ℕ) (w : Walk) : Type 0 where
+  pub holding : Holding k limits plan windows t
   pub walking : Walking (stack-of k) out w
-  pub capped : w .total ≤ sums lasts 0 (k .count)
+  pub capped : w .total ≤ entry (sums-in plan) 0
 
 -- the next event lies within the sum of the lengths
-pub record Step-asks (k : Stack-struct) (w : Walk) (limits : List (List (List ℕ))) (lasts : List ℕ) (windows : List (List ℕ)) (t : List (List (List ℕ))) (out : List ℕ) : Type 0 where
-  pub here : Stepping k limits lasts windows t out w
+pub record Step-asks (k : Stack-struct) (w : Walk) (limits : List (List (List ℕ))) (plan windows : List (List ℕ)) (t : List (List (List ℕ))) (out : List ℕ) : Type 0 where
+  pub here : Stepping k limits plan windows t out w
   pub some : 0 < w .total
   pub inside : w .spread + w .jump ≤ widest (stack-of k)
 

@@ -11,10 +11,15 @@ ghost use Rattle.writing.specs.Output.{Line-put-at};
 ghost use Rattle.writing.specs.TableText.{row-text};
 ghost use Rattle.table.specs.Walking.{Step-asks, Holding, Stepping, Table-put};
 use answer::fill_limits;
+use plan::plan_for;
 use rows::evaluate;
 use rows::place_row;
-use scan::most_total;
+use solver::ABOVE;
 use solver::Placement;
+use solver::Plan;
+use solver::SpanTable;
+use solver::StackLimits;
+use solver::Windows;
 use stack::Stack;
 use writing::put_head;
 use writing::put_row_at;
@@ -42,20 +47,20 @@ fn put_placed(stack: Stack, spread: u32, placement: Placement, out: &mut [u8], a
 // The first line, and the row of the longest strip's length.
 fn begin(
     stack: Stack,
-    limits: &[[[u64; Stack::SEPARATIONS]; 2]; Stack::MAX_CHANNELS],
-    lasts: &[usize; Stack::MAX_CHANNELS],
-    windows: &mut [[u64; 2]; Stack::STRIPS],
-    table: &mut [[[u64; Stack::TOTALS]; 2]; Stack::STRIPS],
+    limits: &StackLimits,
+    plan: &Plan,
+    windows: &mut Windows,
+    table: &mut SpanTable,
     out: &mut [u8],
 ) -> Walk
-    requires { ⌜ Holding stack (now limits) (now lasts) (now windows) (now table) ⌝ }
-    ensures { λ w. ⌜ Stepping stack (now (limits .entry)) (now (lasts .entry)) (now (windows .exit)) (now (table .exit)) (now (out .exit)) w ⌝ }
+    requires { ⌜ Holding stack (now limits) (now plan) (now windows) (now table) ⌝ }
+    ensures { λ w. ⌜ Stepping stack (now (limits .entry)) (now (plan .entry)) (now (windows .exit)) (now (table .exit)) (now (out .exit)) w ⌝ }
 {
     let k = stack.count;
     let spread = stack.longest();
-    let cap = most_total(lasts, k);
-    let scan = evaluate(stack, spread, cap, limits, lasts, windows, table);
-    let placement = place_row(stack, spread, scan, limits, lasts, windows, table);
+    let cap = plan[ABOVE][0];
+    let scan = evaluate(stack, spread, cap, limits, plan, windows, table);
+    let placement = place_row(stack, spread, scan, limits, plan, windows, table);
     let head = put_head(out, k);
     let at = put_placed(stack, spread, placement, out, head);
     Walk {
@@ -70,18 +75,18 @@ fn begin(
 fn step(
     stack: Stack,
     w: Walk,
-    limits: &[[[u64; Stack::SEPARATIONS]; 2]; Stack::MAX_CHANNELS],
-    lasts: &[usize; Stack::MAX_CHANNELS],
-    windows: &mut [[u64; 2]; Stack::STRIPS],
-    table: &mut [[[u64; Stack::TOTALS]; 2]; Stack::STRIPS],
+    limits: &StackLimits,
+    plan: &Plan,
+    windows: &mut Windows,
+    table: &mut SpanTable,
     out: &mut [u8],
 ) -> Walk
-    requires { ⌜ Step-asks stack w (now limits) (now lasts) (now windows) (now table) (now out) ⌝ }
-    ensures { λ r. ⌜ Stepping stack (now (limits .entry)) (now (lasts .entry)) (now (windows .exit)) (now (table .exit)) (now (out .exit)) r × (r .spread ≡ w .spread + w .jump) ⌝ }
+    requires { ⌜ Step-asks stack w (now limits) (now plan) (now windows) (now table) (now out) ⌝ }
+    ensures { λ r. ⌜ Stepping stack (now (limits .entry)) (now (plan .entry)) (now (windows .exit)) (now (table .exit)) (now (out .exit)) r × (r .spread ≡ w .spread + w .jump) ⌝ }
 {
     let next = (w.spread as u64 + w.jump) as u32;
     let cap = w.total - 1;
-    let scan = evaluate(stack, next, cap, limits, lasts, windows, table);
+    let scan = evaluate(stack, next, cap, limits, plan, windows, table);
     if cap < scan.total {
         return Walk {
             spread: next,
@@ -90,7 +95,7 @@ fn step(
             at: w.at,
         };
     }
-    let placement = place_row(stack, next, scan, limits, lasts, windows, table);
+    let placement = place_row(stack, next, scan, limits, plan, windows, table);
     let at = put_placed(stack, next, placement, out, w.at);
     Walk {
         spread: next,
@@ -106,18 +111,19 @@ pub fn put_table(stack: Stack, out: &mut [u8]) -> usize
     ensures { λ r. ⌜ Table-put (stack-of stack) (now (out .exit)) r ⌝ }
 {
     let mut limits = [[[0u64; Stack::SEPARATIONS]; 2]; Stack::MAX_CHANNELS];
-    let mut lasts = [0usize; Stack::MAX_CHANNELS];
+    let mut lasts = [0usize; Stack::STRIPS];
     fill_limits(stack, &mut limits, &mut lasts);
+    let plan = plan_for(&limits, lasts, stack.count);
     let mut windows = [[0u64; 2]; Stack::STRIPS];
     let mut table = [[[0u64; Stack::TOTALS]; 2]; Stack::STRIPS];
     let widest = stack.lengths_sum();
-    let mut w = begin(stack, &limits, &lasts, &mut windows, &mut table, out);
+    let mut w = begin(stack, &limits, &plan, &mut windows, &mut table, out);
     while 0 < w.total {
         let further = widest - w.spread as u64;
         if further < w.jump {
             return w.at;
         }
-        let stepped = step(stack, w, &limits, &lasts, &mut windows, &mut table, out);
+        let stepped = step(stack, w, &limits, &plan, &mut windows, &mut table, out);
         w = stepped;
     }
     w.at

@@ -28,10 +28,10 @@ fn are_tracks_zero(separations: [Tracks; Stack::MAX_CHANNELS], from: usize) -> b
 }
 
 // Positions are zero from a place on.
-fn are_columns_zero(positions: [Columns; Stack::MAX_CHANNELS + 1], from: usize) -> bool
+fn are_columns_zero(positions: [Columns; Stack::STRIPS], from: usize) -> bool
     ensures { λ r. ⌜ r ≡ all-zero (drop from (columns-of positions)) ⌝ }
 {
-    for i in from..Stack::MAX_CHANNELS + 1 {
+    for i in from..Stack::STRIPS {
         if positions[i].0 != 0 {
             return false;
         }
@@ -47,7 +47,7 @@ fn is_strip_within(position: Columns, strip: Strip, spread: u32) -> bool
 }
 
 // Every strip lies within the spread.
-fn is_in_spread(stack: Stack, spread: u32, positions: [Columns; Stack::MAX_CHANNELS + 1]) -> bool
+fn is_in_spread(stack: Stack, spread: u32, positions: [Columns; Stack::STRIPS]) -> bool
     requires { ⌜ within-limits (stack-of stack) ≡ true ⌝ }
     ensures { λ r. ⌜ r ≡ in-spread spread (stack-of stack .strips) (used-positions stack positions) ⌝ }
 {
@@ -64,7 +64,7 @@ fn is_in_spread(stack: Stack, spread: u32, positions: [Columns; Stack::MAX_CHANN
 fn are_channels_feasible(
     stack: Stack,
     separations: [Tracks; Stack::MAX_CHANNELS],
-    positions: [Columns; Stack::MAX_CHANNELS + 1],
+    positions: [Columns; Stack::STRIPS],
 ) -> bool
     requires { ⌜ within-limits (stack-of stack) ≡ true ⌝ }
     ensures { λ r. ⌜ r ≡ channels-good (stack-of stack .channels) (used-separations stack separations) (used-positions stack positions) ⌝ }
@@ -85,7 +85,7 @@ pub fn is_placement_legal(
     stack: Stack,
     spread: u32,
     separations: [Tracks; Stack::MAX_CHANNELS],
-    positions: [Columns; Stack::MAX_CHANNELS + 1],
+    positions: [Columns; Stack::STRIPS],
 ) -> bool
     requires { ⌜ within-limits (stack-of stack) ≡ true ⌝ }
     ensures { λ r. ⌜ r ≡ is-legal (stack-of stack) spread (tracks-of separations) (columns-of positions) ⌝ }

@@ -10,10 +10,10 @@ use Rattle.scan.proofs.scan_total.Statement.{statement}
 use Rattle.scan.proofs.scan_total.Tie as tie
 
 abbrev Inv-loop : tie.InvT-loop
-Inv-loop limits lasts windows plan empties₀ table₀ v jump₀ i₀ empties table jump i = (i ≤ i₀) × Scanning (given limits lasts windows) i₀ v i table jump × Empties-are i₀ v i table empties × Only-at v i table₀ table
+Inv-loop limits plan windows empties₀ table₀ v jump₀ i₀ empties table jump i = (i ≤ i₀) × Scanning (given limits plan windows) i₀ v i table jump × Empties-are i₀ v i table empties × Only-at v i table₀ table
 
 abbrev μ-loop : tie.MeasureT-loop
-μ-loop limits lasts windows plan empties₀ table₀ v jump₀ i₀ empties table jump i = i
+μ-loop limits plan windows empties₀ table₀ v jump₀ i₀ empties table jump i = i
 
 loop-holds : tie.Need-loop-holds Inv-loop μ-loop
 loop-holds c = (omega arith, c .pre .tables, c .pre .empties, only-start _ _ _)
@@ -42,12 +42,12 @@ element-copy-out-bound c = search needs
 add-bound-2 : tie.Need-add-bound-2 Inv-loop μ-loop
 add-bound-2 c =
     let b = c .before .before .before in
-    omega (arith, bound-room _ _ _ _ _ _ _ (b .before .pre) (b .loop .i) _ _ _ (c .before .before .loop-test .taken) (b .loop .inv .0) (b .loop .inv .1) (b .loop .inv .2) (b .loop .inv .3))
+    omega (arith, bound-room _ _ _ _ _ _ (b .before .pre) (b .loop .i) _ _ _ (c .before .before .loop-test .taken) (b .loop .inv .0) (b .loop .inv .1) (b .loop .inv .2) (b .loop .inv .3))
 
 returns : tie.Need-returns Inv-loop μ-loop
 returns c =
     let b = c .before .before .before .before in
-    total-none _ _ _ _ _ _ _ (b .before .pre) (b .loop .i) _ _ _ (c .before .before .before .loop-test .taken) (b .loop .inv .0) (b .loop .inv .1) (b .loop .inv .2) (b .loop .inv .3) (c .if1 .taken)
+    total-none _ _ _ _ _ _ (b .before .pre) (b .loop .i) _ _ _ (c .before .before .before .loop-test .taken) (b .loop .inv .0) (b .loop .inv .1) (b .loop .inv .2) (b .loop .inv .3) (c .if1 .taken)
 
 mul-if2 : tie.Need-mul-if2 Inv-loop μ-loop
 mul-if2 c = search needs
@@ -67,50 +67,53 @@ index-1-empties c = search needs
 index-2-empties : tie.Need-index-2-empties Inv-loop μ-loop
 index-2-empties c = search needs
 
-mul-t36 : tie.Need-mul-t36 Inv-loop μ-loop
-mul-t36 c = search needs
+mul-t37 : tie.Need-mul-t37 Inv-loop μ-loop
+mul-t37 c = search needs
 
-element-copy-out-t39 : tie.Need-element-copy-out-t39 Inv-loop μ-loop
-element-copy-out-t39 c = search needs
+index-1-t40 : tie.Need-index-1-t40 Inv-loop μ-loop
+index-1-t40 c = search needs
 
-add-t40 : tie.Need-add-t40 Inv-loop μ-loop
-add-t40 c = search needs
+index-2-t40 : tie.Need-index-2-t40 Inv-loop μ-loop
+index-2-t40 c = search needs
 
-mul-t43 : tie.Need-mul-t43 Inv-loop μ-loop
-mul-t43 c = search needs
+add-t41 : tie.Need-add-t41 Inv-loop μ-loop
+add-t41 c = search needs
 
-index-1-t46 : tie.Need-index-1-t46 Inv-loop μ-loop
-index-1-t46 c = search needs
+mul-t44 : tie.Need-mul-t44 Inv-loop μ-loop
+mul-t44 c = search needs
 
-index-2-t46 : tie.Need-index-2-t46 Inv-loop μ-loop
-index-2-t46 c = search needs
+index-1-t47 : tie.Need-index-1-t47 Inv-loop μ-loop
+index-1-t47 c = search needs
 
-add-t47 : tie.Need-add-t47 Inv-loop μ-loop
-add-t47 c = search needs
+index-2-t47 : tie.Need-index-2-t47 Inv-loop μ-loop
+index-2-t47 c = search needs
 
-mul-t48 : tie.Need-mul-t48 Inv-loop μ-loop
-mul-t48 c = search needs
+add-t48 : tie.Need-add-t48 Inv-loop μ-loop
+add-t48 c = search needs
 
-element-copy-out-t51 : tie.Need-element-copy-out-t51 Inv-loop μ-loop
-element-copy-out-t51 c = search needs
+mul-t49 : tie.Need-mul-t49 Inv-loop μ-loop
+mul-t49 c = search needs
 
-mul-t52 : tie.Need-mul-t52 Inv-loop μ-loop
-mul-t52 c = search needs
+element-copy-out-t52 : tie.Need-element-copy-out-t52 Inv-loop μ-loop
+element-copy-out-t52 c = search needs
 
-index-1-t57 : tie.Need-index-1-t57 Inv-loop μ-loop
-index-1-t57 c = search needs
+mul-t53 : tie.Need-mul-t53 Inv-loop μ-loop
+mul-t53 c = search needs
 
-index-2-t57 : tie.Need-index-2-t57 Inv-loop μ-loop
-index-2-t57 c = search needs
+index-1-t58 : tie.Need-index-1-t58 Inv-loop μ-loop
+index-1-t58 c = search needs
 
-mul-t58 : tie.Need-mul-t58 Inv-loop μ-loop
-mul-t58 c = search needs
+index-2-t58 : tie.Need-index-2-t58 Inv-loop μ-loop
+index-2-t58 c = search needs
 
-index-1-t63 : tie.Need-index-1-t63 Inv-loop μ-loop
-index-1-t63 c = search needs
+mul-t59 : tie.Need-mul-t59 Inv-loop μ-loop
+mul-t59 c = search needs
 
-index-2-t63 : tie.Need-index-2-t63 Inv-loop μ-loop
-index-2-t63 c = search needs
+index-1-t64 : tie.Need-index-1-t64 Inv-loop μ-loop
+index-1-t64 c = search needs
+
+index-2-t64 : tie.Need-index-2-t64 Inv-loop μ-loop
+index-2-t64 c = search needs
 
 mul-scan-strip : tie.Need-mul-scan-strip Inv-loop μ-loop
 mul-scan-strip c = search needs
@@ -121,7 +124,7 @@ index-1-scan-strip c = search needs
 scan-strip-requires : tie.Need-scan-strip-requires Inv-loop μ-loop
 scan-strip-requires c κs =
     let b = c .before .before .before .before .before .before .before .before .before .before .before .before .before .before in
-    total-strip-asks _ _ _ _ _ _ _ (b .before .pre) (b .loop .i) _ _ _ (c .before .before .before .before .before .before .before .before .before .before .before .before .before .loop-test .taken) (b .loop .inv .0) (b .loop .inv .1) (b .loop .inv .2) (b .loop .inv .3) (c .before .before .before .before .before .before .before .before .if2 .taken)
+    total-strip-asks _ _ _ _ _ _ (b .before .pre) (b .loop .i) _ _ _ (c .before .before .before .before .before .before .before .before .before .before .before .before .before .loop-test .taken) (b .loop .inv .0) (b .loop .inv .1) (b .loop .inv .2) (b .loop .inv .3) (c .before .before .before .before .before .before .before .before .if2 .taken)
 
 mul-count-empty : tie.Need-mul-count-empty Inv-loop μ-loop
 mul-count-empty c = search needs
@@ -147,7 +150,7 @@ loop-less c = search needs
 loop-again : tie.Need-loop-again Inv-loop μ-loop
 loop-again c =
     let b = c .before .before .before .before .before .before .before .before .before .before .before .before .before .before .before .before .before .before in
-    let p = total-strip _ _ _ _ _ _ _ (b .before .pre) (b .loop .i) _ _ _ (c .before .before .before .before .before .before .before .before .before .before .before .before .before .before .before .before .before .loop-test .taken) (b .loop .inv .0) (b .loop .inv .1) (b .loop .inv .2) (b .loop .inv .3) (c .before .before .before .before .before .before .before .before .before .before .before .before .if2 .taken) (c .before .before .before .before .before .before .before .before .before .before .before .before .before .before .if1 .left) _ (c .before .before .before .scan-strip .result) (c .shorter .result) (c .before .count-empty .result) (c .before .before .before .scan-strip .ensures) (c .before .count-empty .ensures) (c .shorter .ensures) in
+    let p = total-strip _ _ _ _ _ _ (b .before .pre) (b .loop .i) _ _ _ (c .before .before .before .before .before .before .before .before .before .before .before .before .before .before .before .before .before .loop-test .taken) (b .loop .inv .0) (b .loop .inv .1) (b .loop .inv .2) (b .loop .inv .3) (c .before .before .before .before .before .before .before .before .before .before .before .before .if2 .taken) (c .before .before .before .before .before .before .before .before .before .before .before .before .before .before .if1 .left) _ (c .before .before .before .scan-strip .result) (c .shorter .result) (c .before .count-empty .result) (c .before .before .before .scan-strip .ensures) (c .before .count-empty .ensures) (c .shorter .ensures) in
     (omega arith, p .0, p .1, p .2)
 
 loop-less-2 : tie.Need-loop-less-2 Inv-loop μ-loop
@@ -156,7 +159,7 @@ loop-less-2 c = search needs
 loop-again-2 : tie.Need-loop-again-2 Inv-loop μ-loop
 loop-again-2 c =
     let b = c .before .before .before .before .before .before in
-    let p = total-skip _ _ _ _ _ _ _ (b .before .pre) (b .loop .i) _ _ _ (c .before .before .before .before .before .loop-test .taken) (b .loop .inv .0) (b .loop .inv .1) (b .loop .inv .2) (b .loop .inv .3) (c .if2 .left) in
+    let p = total-skip _ _ _ _ _ _ (b .before .pre) (b .loop .i) _ _ _ (c .before .before .before .before .before .loop-test .taken) (b .loop .inv .0) (b .loop .inv .1) (b .loop .inv .2) (b .loop .inv .3) (c .if2 .left) in
     (omega arith, p .0, p .1, p .2)
 
 returns-2 : tie.Need-returns-2 Inv-loop μ-loop
@@ -184,21 +187,22 @@ scan-total-spec =
     mul-empties
     index-1-empties
     index-2-empties
-    mul-t36
-    element-copy-out-t39
-    add-t40
-    mul-t43
-    index-1-t46
-    index-2-t46
-    add-t47
-    mul-t48
-    element-copy-out-t51
-    mul-t52
-    index-1-t57
-    index-2-t57
-    mul-t58
-    index-1-t63
-    index-2-t63
+    mul-t37
+    index-1-t40
+    index-2-t40
+    add-t41
+    mul-t44
+    index-1-t47
+    index-2-t47
+    add-t48
+    mul-t49
+    element-copy-out-t52
+    mul-t53
+    index-1-t58
+    index-2-t58
+    mul-t59
+    index-1-t64
+    index-2-t64
     mul-scan-strip
     index-1-scan-strip
     scan-strip-requires

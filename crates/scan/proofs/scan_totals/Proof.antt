@@ -8,30 +8,19 @@ use Rattle.solver.specs.Arrays.{bias, given, window-of, levels}
 use Rattle.solver.specs.Loops.{Searching}
 use Rattle.scan.specs.Scan.{Scanning, Empties-are, Cleared}
 use Rattle.solver.proofs.Loops.{totalling-start}
-use Rattle.scan.proofs.Scans.{none-yet, above-sum, scanning-start, empties-start, cleared-start, cleared-here, scan-found, scanning-next, empties-next, cleared-next, totals-miss, scan-none}
+use Rattle.scan.proofs.Scans.{none-yet, scanning-start, empties-start, cleared-start, cleared-here, scan-found, scanning-next, empties-next, cleared-next, totals-miss, scan-none}
 use borrow.Author.Needs.{needs}
 use Rattle.scan.proofs.scan_totals.Statement.{statement}
 use Rattle.scan.proofs.scan_totals.Tie as tie
 
 abbrev Inv-loop : tie.InvT-loop
-Inv-loop limits lasts windows k cap table₀ plan above empties₀ jump₀ v₀ table empties jump v = (v ≤ cap + 1) × Scanning (given limits lasts windows) k v k table jump × Searching (λ u. nonempty (back bias (window-of (given limits lasts windows) 0) (levels (given limits lasts windows) 0 k) u)) (suc cap) v (first-total (back bias (window-of (given limits lasts windows) 0) (levels (given limits lasts windows) 0 k)) cap) × Empties-are k v k table empties × Cleared windows k v cap table
+Inv-loop limits plan windows k cap table₀ empties₀ jump₀ v₀ table empties jump v = (v ≤ cap + 1) × Scanning (given limits plan windows) k v k table jump × Searching (λ u. nonempty (back bias (window-of (given limits plan windows) 0) (levels (given limits plan windows) 0 k) u)) (suc cap) v (first-total (back bias (window-of (given limits plan windows) 0) (levels (given limits plan windows) 0 k)) cap) × Empties-are k v k table empties × Cleared windows k v cap table
 
 abbrev μ-loop : tie.MeasureT-loop
-μ-loop limits lasts windows k cap table₀ plan above empties₀ jump₀ v₀ table empties jump v = suc cap - v
-
-least-opens-requires : tie.Need-least-opens-requires Inv-loop μ-loop
-least-opens-requires c κs = record { channels = c .pre .stack .channels; listed = c .pre .stack .listed }
-
-sums-above-requires : tie.Need-sums-above-requires Inv-loop μ-loop
-sums-above-requires c κs = record { channels = c .before .pre .stack .channels; listed = c .before .pre .stack .listed }
-
-array-read-above : tie.Need-array-read-above Inv-loop μ-loop
-array-read-above c = search needs
+μ-loop limits plan windows k cap table₀ empties₀ jump₀ v₀ table empties jump v = suc cap - v
 
 clear-requires : tie.Need-clear-requires Inv-loop μ-loop
-clear-requires c κs =
-    let a = c .before .before .before in
-    (a .pre .stack .channels, a .pre .total, a .pre .sized)
+clear-requires c κs = (c .before .pre .stack .channels, c .before .pre .total, c .before .pre .sized)
 
 mul-table : tie.Need-mul-table Inv-loop μ-loop
 mul-table c = search needs
@@ -77,19 +66,18 @@ index-3-table-2 c = search needs
 
 loop-holds : tie.Need-loop-holds Inv-loop μ-loop
 loop-holds c =
-    let a = c .before .before .before .before .before .before in
+    let a = c .before .before .before .before in
     let cleared = c .before .before .clear .ensures in
     let none = none-yet _ _ _ _ _ (a .pre) cleared in
     (omega arith, scanning-start _ _ _ none, totalling-start _ (a .args .cap), empties-start _ _ _ none, cleared-start _ _ _ none (a .args .cap) cleared)
 
 scan-total-requires : tie.Need-scan-total-requires Inv-loop μ-loop
 scan-total-requires c κs =
-    let a = c .before .before .before .before .before .before .before .before .before .before .before in
-    let b = c .before .before .before .before .loop in
+    let a = c .before .before .before .before .before .before .before .before in
+    let b = c .before .before .before .loop in
     record {
       stack = a .pre .stack;
       total = omega (arith, a .pre .total);
-      planned = record { leasts = c .before .before .before .before .before .before .before .before .before .before .least-opens .ensures; mosts = c .before .before .before .before .before .before .before .before .before .sums-above .ensures };
       tables = b .inv .1;
       empties = b .inv .3;
       clear = cleared-here _ _ _ (a .args .cap) _ (omega arith) (b .inv .4);
@@ -121,10 +109,10 @@ index-3-if1-2 c = search needs
 
 returns : tie.Need-returns Inv-loop μ-loop
 returns c =
-    let a = c .before .before .before .before .before .before .before .before .before .before .before .before .before .before .before in
-    let b = c .before .before .before .before .before .before .before .before .loop in
+    let a = c .before .before .before .before .before .before .before .before .before .before .before .before in
+    let b = c .before .before .before .before .before .before .before .loop in
     let next = c .before .before .before .scan-total in
-    scan-found _ _ (a .args .cap) (b .v) (next .result) _ (next .ensures .0) (a .pre .of-use) (c .before .before .before .before .before .before .before .loop-test .taken) _ (b .inv .2) (b .jump) _ _ (b .inv .1) refl (above-sum _ _ _ (a .pre .stack) (c .before .before .before .before .before .before .before .before .before .before .before .before .before .sums-above .ensures)) (c .if1 .taken)
+    scan-found _ _ (a .args .cap) (b .v) (next .result) _ (next .ensures .0) (a .pre .of-use) (c .before .before .before .before .before .before .loop-test .taken) _ (b .inv .2) (b .jump) _ (b .inv .1) refl (c .if1 .taken)
 
 add-v : tie.Need-add-v Inv-loop μ-loop
 add-v c = search needs
@@ -134,21 +122,21 @@ loop-less c = search needs
 
 loop-again : tie.Need-loop-again Inv-loop μ-loop
 loop-again c =
-    let a = c .before .before .before .before .before .before .before .before .before .before .before .before .before .before .before in
-    let b = c .before .before .before .before .before .before .before .before .loop in
+    let a = c .before .before .before .before .before .before .before .before .before .before .before .before in
+    let b = c .before .before .before .before .before .before .before .loop in
     let next = c .before .before .before .scan-total in (
       omega arith,
       scanning-next _ _ (a .args .cap) (b .v) (next .result) _ (next .ensures .0),
-      totals-miss _ _ (a .args .cap) (b .v) (next .result) _ (next .ensures .0) (a .pre .of-use) (c .before .before .before .before .before .before .before .loop-test .taken) _ (b .inv .2) (c .if1 .left),
+      totals-miss _ _ (a .args .cap) (b .v) (next .result) _ (next .ensures .0) (a .pre .of-use) (c .before .before .before .before .before .before .loop-test .taken) _ (b .inv .2) (c .if1 .left),
       empties-next _ _ _ _ (next .ensures .1),
       cleared-next _ _ _ (a .args .cap) _ _ (next .ensures .0 .sized) (next .ensures .2) (b .inv .4),
     )
 
 returns-2 : tie.Need-returns-2 Inv-loop μ-loop
 returns-2 c =
-    let a = c .before .before .before .before .before .before .before .before in
+    let a = c .before .before .before .before .before .before in
     let b = c .before .loop in
-    scan-none _ _ (a .args .cap) (b .v) _ (b .jump) _ (above-sum _ _ _ (a .pre .stack) (c .before .before .before .before .before .before .sums-above .ensures)) (c .loop-test .left) (b .inv .0) (b .inv .1) (b .inv .2)
+    scan-none _ _ (a .args .cap) (b .v) (b .jump) _ (c .loop-test .left) (b .inv .0) (b .inv .1) (b .inv .2)
 
 pub scan-totals-spec : {M : Type 1} → statement M
 scan-totals-spec =
@@ -156,9 +144,6 @@ scan-totals-spec =
     (tie.spec
     Inv-loop
     μ-loop
-    least-opens-requires
-    sums-above-requires
-    array-read-above
     clear-requires
     mul-table
     index-1-table

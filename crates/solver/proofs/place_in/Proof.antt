@@ -11,12 +11,12 @@ separations-for-requires c κs = search needs
 positions-for-requires : tie.Need-positions-for-requires
 positions-for-requires c κs = position-asks _ _ _ (c .before .pre .0) _ (c .separations-for .ensures)
 
-cast-t8 : tie.Need-cast-t8
-cast-t8 c = search needs
+cast-t9 : tie.Need-cast-t9
+cast-t9 c = search needs
 
 returns : tie.Need-returns
-returns c = placement-is _ _ _ (c .before .before .before .pre .0) _ refl (c .before .before .separations-for .ensures) (c .before .positions-for .ensures)
+returns c = placement-is _ _ _ (c .before .before .pre .0) _ refl (c .before .separations-for .ensures) (c .positions-for .ensures)
 
 pub place-in-spec : {M : Type 1} → statement M
 place-in-spec =
-    tie.close (tie.spec separations-for-requires positions-for-requires cast-t8 returns)
+    tie.close (tie.spec separations-for-requires positions-for-requires cast-t9 returns)

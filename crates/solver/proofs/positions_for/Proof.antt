@@ -12,10 +12,10 @@ use Rattle.solver.proofs.positions_for.Statement.{statement}
 use Rattle.solver.proofs.positions_for.Tie as tie
 
 abbrev Inv-loop : tie.InvT-loop
-Inv-loop limits lasts windows k ts starts xs₀ x₀ i₀ xs x i = Positioning (given limits lasts windows) k (tracks-of ts) i x (columns-of xs)
+Inv-loop limits plan windows k ts starts xs₀ x₀ i₀ xs x i = Positioning (given limits plan windows) k (tracks-of ts) i x (columns-of xs)
 
 abbrev μ-loop : tie.MeasureT-loop
-μ-loop limits lasts windows k ts starts xs₀ x₀ i₀ xs x i = k - i
+μ-loop limits plan windows k ts starts xs₀ x₀ i₀ xs x i = k - i
 
 starts-for-requires : tie.Need-starts-for-requires Inv-loop μ-loop
 starts-for-requires c κs = search needs
@@ -50,8 +50,11 @@ index-2-next c = search needs
 mul-next-2 : tie.Need-mul-next-2 Inv-loop μ-loop
 mul-next-2 c = search needs
 
-element-copy-out-next : tie.Need-element-copy-out-next Inv-loop μ-loop
-element-copy-out-next c = search needs
+index-1-next-2 : tie.Need-index-1-next-2 Inv-loop μ-loop
+index-1-next-2 c = search needs
+
+index-2-next-2 : tie.Need-index-2-next-2 Inv-loop μ-loop
+index-2-next-2 c = search needs
 
 add-next : tie.Need-add-next Inv-loop μ-loop
 add-next c = search needs
@@ -70,8 +73,8 @@ next-requires c κs =
 add-i : tie.Need-add-i Inv-loop μ-loop
 add-i c = search needs
 
-cast-t39 : tie.Need-cast-t39 Inv-loop μ-loop
-cast-t39 c =
+cast-t41 : tie.Need-cast-t41 Inv-loop μ-loop
+cast-t41 c =
     let a = c .before .before .before .before in
     omega (
       arith,
@@ -115,13 +118,14 @@ positions-for-spec =
     index-1-next
     index-2-next
     mul-next-2
-    element-copy-out-next
+    index-1-next-2
+    index-2-next-2
     add-next
     mul-next-3
     array-read-next
     next-requires
     add-i
-    cast-t39
+    cast-t41
     mul-xs
     array-set-from-xs-2
     loop-less

@@ -1,8 +1,9 @@
 -- serving meets its contract: the least separation that serves with a total. Assumes nothing.
+use mathlib.Core.Path.{refl}
 use Prim.Native.Nat.{_-_, _≤_}
 use native.Mathlib.Omega.{arith}
 use Rattle.spans.specs.Spans.{span}
-use Rattle.spans.specs.Solver.{first-open, stop, serves, first-serving}
+use Rattle.spans.specs.Solver.{stop, serves, first-serving}
 use Rattle.solver.specs.Arrays.{bias, low-in, high-in, span-at}
 use Rattle.solver.specs.Loops.{Searching}
 use Rattle.solver.proofs.Loops.{serving-start, serves-full, serves-empty, searching-hit, searching-miss, searching-end}
@@ -11,22 +12,19 @@ use Rattle.solver.proofs.serving.Statement.{statement}
 use Rattle.solver.proofs.serving.Tie as tie
 
 abbrev Inv-loop : tie.InvT-loop
-Inv-loop limits spans last above s v end q₀ q = Searching (serves bias (low-in limits) (high-in limits) above (span-at spans) (span (s .from) (s .upto)) v) (stop last v) q (first-serving bias (low-in limits) (high-in limits) (first-open (low-in limits) (high-in limits) last) last above (span-at spans) (span (s .from) (s .upto)) v)
+Inv-loop limits spans least last above s v end q₀ q = Searching (serves bias (low-in limits) (high-in limits) above (span-at spans) (span (s .from) (s .upto)) v) (stop last v) q (first-serving bias (low-in limits) (high-in limits) least last above (span-at spans) (span (s .from) (s .upto)) v)
 
 abbrev μ-loop : tie.MeasureT-loop
-μ-loop limits spans last above s v end q₀ q = end - q
+μ-loop limits spans least last above s v end q₀ q = end - q
 
 stop-requires : tie.Need-stop-requires Inv-loop μ-loop
 stop-requires c κs = c .pre .listed
 
-least-open-requires : tie.Need-least-open-requires Inv-loop μ-loop
-least-open-requires c κs = c .before .pre .listed
-
 loop-holds : tie.Need-loop-holds Inv-loop μ-loop
-loop-holds c = serving-start _ _ _ _ _ _ _ _ _ _ (c .least-open .ensures)
+loop-holds c = serving-start _ _ _ _ _ _ _ _ _ _ refl
 
 sub-lesser : tie.Need-sub-lesser Inv-loop μ-loop
-sub-lesser c = omega (arith, c .before .before .before .stop .ensures)
+sub-lesser c = omega (arith, c .before .before .stop .ensures)
 
 lesser-requires : tie.Need-lesser-requires Inv-loop μ-loop
 lesser-requires c κs = search needs
@@ -70,15 +68,15 @@ index-2-forward-4 c = search needs
 forward-requires : tie.Need-forward-requires Inv-loop μ-loop
 forward-requires c κs =
     let a = c .before .before .before .before .before .before in
-    let p = a .before .before .before .pre in
+    let p = a .before .before .pre in
     let q = a .loop .q in
-    let m : q ≤ a .before .before .before .args .last = omega (arith, a .before .before .stop .ensures) in
+    let m : q ≤ a .before .before .args .last = omega (arith, a .before .stop .ensures) in
     (p .starts, p .ends, p .lows-small q m, p .highs-small q m)
 
 returns : tie.Need-returns Inv-loop μ-loop
 returns c =
     let a = c .before .before .before .before .before .before .before .before .before in
-    searching-hit _ _ _ _ (a .loop .inv) (omega (arith, a .before .before .stop .ensures))
+    searching-hit _ _ _ _ (a .loop .inv) (omega (arith, a .before .stop .ensures))
     (serves-full _ _ _ _ _ _ _ _ _ _ _ (c .before .before .before .before .before .before .before .lesser .ensures) (c .before .before .forward .ensures) (c .if1 .taken))
 
 add-q : tie.Need-add-q Inv-loop μ-loop
@@ -90,7 +88,7 @@ loop-less c = search needs
 loop-again : tie.Need-loop-again Inv-loop μ-loop
 loop-again c =
     let a = c .before .before .before .before .before .before .before .before .before in
-    searching-miss _ _ _ _ (a .loop .inv) (omega (arith, a .before .before .stop .ensures))
+    searching-miss _ _ _ _ (a .loop .inv) (omega (arith, a .before .stop .ensures))
     (serves-empty _ _ _ _ _ _ _ _ _ _ _ (c .before .before .before .before .before .before .before .lesser .ensures) (c .before .before .forward .ensures) (c .if1 .left))
 
 returns-2 : tie.Need-returns-2 Inv-loop μ-loop
@@ -103,7 +101,6 @@ serving-spec =
     Inv-loop
     μ-loop
     stop-requires
-    least-open-requires
     loop-holds
     sub-lesser
     lesser-requires

@@ -14,10 +14,10 @@ use Rattle.solver.proofs.starts_for.Statement.{statement}
 use Rattle.solver.proofs.starts_for.Tie as tie
 
 abbrev Inv-loop : tie.InvT-loop
-Inv-loop limits lasts windows k ts s₀ starts₀ i₀ s starts i = Fixing (given limits lasts windows) k (tracks-of ts) i (span (s .from) (s .upto)) starts
+Inv-loop limits plan windows k ts s₀ starts₀ i₀ s starts i = Fixing (given limits plan windows) k (tracks-of ts) i (span (s .from) (s .upto)) starts
 
 abbrev μ-loop : tie.MeasureT-loop
-μ-loop limits lasts windows k ts s₀ starts₀ i₀ s starts i = i
+μ-loop limits plan windows k ts s₀ starts₀ i₀ s starts i = i
 
 mul-t12 : tie.Need-mul-t12 Inv-loop μ-loop
 mul-t12 c = search needs
@@ -64,14 +64,17 @@ index-1-pull-back c = search needs
 mul-pull-back-2 : tie.Need-mul-pull-back-2 Inv-loop μ-loop
 mul-pull-back-2 c = search needs
 
-element-copy-out-pull-back : tie.Need-element-copy-out-pull-back Inv-loop μ-loop
-element-copy-out-pull-back c = search needs
+index-1-pull-back-2 : tie.Need-index-1-pull-back-2 Inv-loop μ-loop
+index-1-pull-back-2 c = search needs
+
+index-2-pull-back : tie.Need-index-2-pull-back Inv-loop μ-loop
+index-2-pull-back c = search needs
 
 mul-pull-back-3 : tie.Need-mul-pull-back-3 Inv-loop μ-loop
 mul-pull-back-3 c = search needs
 
-index-1-pull-back-2 : tie.Need-index-1-pull-back-2 Inv-loop μ-loop
-index-1-pull-back-2 c = search needs
+index-1-pull-back-3 : tie.Need-index-1-pull-back-3 Inv-loop μ-loop
+index-1-pull-back-3 c = search needs
 
 pull-back-requires : tie.Need-pull-back-requires Inv-loop μ-loop
 pull-back-requires c κs =
@@ -116,9 +119,10 @@ starts-for-spec =
     mul-pull-back
     index-1-pull-back
     mul-pull-back-2
-    element-copy-out-pull-back
-    mul-pull-back-3
     index-1-pull-back-2
+    index-2-pull-back
+    mul-pull-back-3
+    index-1-pull-back-3
     pull-back-requires
     mul-starts-2
     array-write-starts-2

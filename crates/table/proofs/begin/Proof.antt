@@ -1,11 +1,11 @@
 -- begin meets its contract: the first line and the first row. Assumes nothing.
 use Rattle.table.proofs.Events.{spread-fits}
-use mathlib.Core.Path.{sym}
+use mathlib.Core.Path.{refl, sym}
 use Rattle.stack.specs.Value.{stack-of}
 use Rattle.stack.proofs.Within.{stack-channels}
 use native.Mathlib.Omega.{arith}
 use Rattle.stack.proofs.Within.{few-channels}
-use Rattle.table.proofs.Events.{held-lasts, holds-on, event-stays, event-least, event-whole, event-place-asks}
+use Rattle.table.proofs.Events.{holds-on, event-stays, event-least, event-whole, event-place-asks}
 use Rattle.table.proofs.Walks.{begun-at}
 use borrow.Author.Needs.{needs}
 use Rattle.table.proofs.begin.Statement.{statement}
@@ -14,8 +14,11 @@ use Rattle.table.proofs.begin.Tie as tie
 longest-requires : tie.Need-longest-requires
 longest-requires c κs = few-channels (c .before .args .stack) (c .before .pre .held .good)
 
-most-total-requires : tie.Need-most-total-requires
-most-total-requires c κs = held-lasts (c .before .before .args .stack) _ _ (c .before .before .pre .held)
+index-1-cap : tie.Need-index-1-cap
+index-1-cap c = search needs
+
+index-2-cap : tie.Need-index-2-cap
+index-2-cap c = search needs
 
 evaluate-requires : tie.Need-evaluate-requires
 evaluate-requires c κs = search needs
@@ -24,11 +27,10 @@ place-row-requires : tie.Need-place-row-requires
 place-row-requires c κs =
     let a = c .before .before .before .before .before .before .before .before in
     let spread = c .before .before .before .before .before .before .longest in
-    let cap = c .before .before .before .before .before .most-total in
     let found = c .before .before .evaluate in
     let fits = spread-fits (stack-of (a .args .stack)) (spread .result) (a .pre .held .good) (spread .ensures) in
-    let whole = event-whole (a .args .stack) (spread .result) (cap .result) _ _ _ _ (found .result) fits (omega (arith, spread .ensures)) (a .pre .held) (found .ensures) (cap .ensures) in
-    event-place-asks (a .args .stack) (spread .result) (cap .result) _ _ _ _ (found .result) fits (omega (arith, spread .ensures)) (a .pre .held) (found .ensures) (omega (arith, cap .ensures)) whole
+    let whole = event-whole (a .args .stack) (spread .result) _ _ _ _ _ (found .result) fits (omega (arith, spread .ensures)) (a .pre .held) (found .ensures) refl in
+    event-place-asks (a .args .stack) (spread .result) _ _ _ _ _ (found .result) fits (omega (arith, spread .ensures)) (a .pre .held) (found .ensures) (omega arith) whole
 
 put-head-requires : tie.Need-put-head-requires
 put-head-requires c κs = omega (arith, few-channels (c .before .before .before .before .before .before .before .before .before .before .args .stack) (c .before .before .before .before .before .before .before .before .before .before .pre .held .good))
@@ -43,18 +45,17 @@ returns : tie.Need-returns
 returns c =
     let a = c .before .before .before .before .before .before .before .before .before .before .before .before .before .before .before .before .before in
     let spread = c .before .before .before .before .before .before .before .before .before .before .before .before .before .before .before .longest in
-    let cap = c .before .before .before .before .before .before .before .before .before .before .before .before .before .before .most-total in
     let found = c .before .before .before .before .before .before .before .before .before .before .before .evaluate in
     let fits = spread-fits (stack-of (a .args .stack)) (spread .result) (a .pre .held .good) (spread .ensures) in
-    let whole = event-whole (a .args .stack) (spread .result) (cap .result) _ _ _ _ (found .result) fits (omega (arith, spread .ensures)) (a .pre .held) (found .ensures) (cap .ensures) in
-    let least = event-least (a .args .stack) (spread .result) (cap .result) _ _ _ _ (found .result) fits (omega (arith, spread .ensures)) (a .pre .held) (found .ensures) (omega (arith, cap .ensures)) whole in
+    let whole = event-whole (a .args .stack) (spread .result) _ _ _ _ _ (found .result) fits (omega (arith, spread .ensures)) (a .pre .held) (found .ensures) refl in
+    let least = event-least (a .args .stack) (spread .result) _ _ _ _ _ (found .result) fits (omega (arith, spread .ensures)) (a .pre .held) (found .ensures) (omega arith) whole in
     let first = c .before .before .before .before .before .before .put-head in
     let row = c .before .before .put-placed in
     record {
       walking = begun-at (stack-of (a .args .stack)) (a .pre .held .good) (a .args .stack .count) (spread .result) (sym (stack-channels (a .args .stack))) (spread .ensures) (found .result .total) (found .result .jump) (first .result) (row .result) _ _ _
-          (sym least) (found .ensures .scanned .jump-some) (event-stays (a .args .stack) (spread .result) (cap .result) _ _ _ _ (found .result) fits (omega (arith, spread .ensures)) (a .pre .held) (found .ensures) (sym least)) (first .ensures) (row .ensures);
-      holding = holds-on (a .args .stack) (spread .result) (cap .result) _ _ _ _ (found .result) fits (omega (arith, spread .ensures)) (a .pre .held) (found .ensures);
-      capped = omega (arith, whole, cap .ensures);
+          (sym least) (found .ensures .scanned .jump-some) (event-stays (a .args .stack) (spread .result) _ _ _ _ _ (found .result) fits (omega (arith, spread .ensures)) (a .pre .held) (found .ensures) (sym least)) (first .ensures) (row .ensures);
+      holding = holds-on (a .args .stack) (spread .result) _ _ _ _ _ (found .result) fits (omega (arith, spread .ensures)) (a .pre .held) (found .ensures);
+      capped = omega (arith, whole);
     }
 
 pub begin-spec : {M : Type 1} → statement M
@@ -62,7 +63,8 @@ begin-spec =
     tie.close
     (tie.spec
     longest-requires
-    most-total-requires
+    index-1-cap
+    index-2-cap
     evaluate-requires
     place-row-requires
     put-head-requires

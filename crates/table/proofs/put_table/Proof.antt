@@ -8,7 +8,7 @@ use Prim.Native.Nat.{_-_}
 use native.Mathlib.Omega.{arith}
 use Rattle.stack.specs.Value.{stack-of}
 use Rattle.stack.proofs.Within.{few-channels}
-use Rattle.answer.proofs.Standing.{limits-start}
+use Rattle.answer.proofs.Standing.{limits-start, filled-lasts, held-made}
 use Rattle.table.specs.Walking.{Stepping}
 use Rattle.table.proofs.Walks.{ended-past, ended-zero}
 use borrow.Author.Needs.{needs}
@@ -16,19 +16,31 @@ use Rattle.table.proofs.put_table.Statement.{statement}
 use Rattle.table.proofs.put_table.Tie as tie
 
 abbrev Inv-loop : tie.InvT-loop
-Inv-loop stack out₀ limits lasts windows₀ table₀ widest w₀ out windows table w = Stepping stack limits lasts windows table out w × (length out ≡ length out₀)
+Inv-loop stack out₀ limits plan windows₀ table₀ widest w₀ out windows table w = Stepping stack limits plan windows table out w × (length out ≡ length out₀)
 
 abbrev μ-loop : tie.MeasureT-loop
-μ-loop stack out₀ limits lasts windows₀ table₀ widest w₀ out windows table w = widest - w .spread
+μ-loop stack out₀ limits plan windows₀ table₀ widest w₀ out windows table w = widest - w .spread
 
 fill-limits-requires : tie.Need-fill-limits-requires Inv-loop μ-loop
 fill-limits-requires c κs = (c .before .before .before .pre, limits-start (stack-of (c .before .before .before .args .stack)))
 
+plan-for-requires : tie.Need-plan-for-requires Inv-loop μ-loop
+plan-for-requires c κs =
+    let l = c .before in
+    let a = l .before .before .before .before in
+    filled-lasts (a .args .stack) _ _ (a .pre) (l .fill-limits .ensures)
+
 lengths-sum-requires : tie.Need-lengths-sum-requires Inv-loop μ-loop
-lengths-sum-requires c κs = few-channels (c .before .before .before .before .args .stack) (c .before .before .before .before .pre)
+lengths-sum-requires c κs =
+    let a = c .before .before .before .before .before .before in
+    few-channels (a .args .stack) (a .pre)
 
 begin-requires : tie.Need-begin-requires Inv-loop μ-loop
-begin-requires c κs = record { held = record { good = c .before .before .before .before .before .before .before .before .before .before .pre; filled = c .before .before .before .before .before .before .fill-limits .ensures }; sized-windows = refl; sized = sized-zeros }
+begin-requires c κs =
+    let p = c .before .before .before .before .before .before in
+    let l = p .before .before in
+    let a = l .before .before .before .before in
+    record { held = held-made (a .args .stack) _ _ (a .pre) (l .fill-limits .ensures) _ (p .plan-for .ensures); sized-windows = refl; sized = sized-zeros }
 
 loop-holds : tie.Need-loop-holds Inv-loop μ-loop
 loop-holds c = (c .before .before .begin .ensures, search needs)
@@ -37,18 +49,33 @@ cast-further : tie.Need-cast-further Inv-loop μ-loop
 cast-further c = search needs
 
 sub-further : tie.Need-sub-further Inv-loop μ-loop
-sub-further c = omega (arith, c .before .before .before .loop .inv .0 .walking .upto, sum-widest (c .before .before .before .before .before .before .before .before .before .before .before .before .before .before .before .before .before .args .stack) (c .before .before .before .before .before .before .before .before .before .before .before .before .lengths-sum .result) (c .before .before .before .before .before .before .before .before .before .before .before .before .lengths-sum .ensures))
+sub-further c =
+    let b = c .before .before .before in
+    let l = b .before .before .before .before .before .before .before .before .before in
+    let a = l .before .before .before .before .before .before .before in
+    omega (arith, b .loop .inv .0 .walking .upto, sum-widest (a .args .stack) (l .lengths-sum .result) (l .lengths-sum .ensures))
 
 same-length : tie.Need-same-length Inv-loop μ-loop
 same-length c = c .before .before .before .before .before .loop .inv .1 ∙ search needs
 
 returns : tie.Need-returns Inv-loop μ-loop
 returns c =
-    let a = c .before .before .before .before .before .before .before .before .before .before .before .before .before .before .before .before .before .before .before in
-    ended-past (stack-of (a .args .stack)) (a .pre) _ _ (c .before .before .before .before .before .loop .inv .0 .walking) (omega (arith, sum-widest (c .before .before .before .before .before .before .before .before .before .before .before .before .before .before .before .before .before .before .before .args .stack) (c .before .before .before .before .before .before .before .before .before .before .before .before .before .before .lengths-sum .result) (c .before .before .before .before .before .before .before .before .before .before .before .before .before .before .lengths-sum .ensures), c .if2))
+    let b = c .before .before .before .before .before in
+    let l = b .before .before .before .before .before .before .before .before .before in
+    let a = l .before .before .before .before .before .before .before in
+    ended-past (stack-of (a .args .stack)) (a .pre) _ _ (b .loop .inv .0 .walking)
+    (omega (arith, sum-widest (a .args .stack) (l .lengths-sum .result) (l .lengths-sum .ensures), c .if2))
 
 step-requires : tie.Need-step-requires Inv-loop μ-loop
-step-requires c κs = record { here = c .before .before .before .before .before .before .before .before .before .before .loop .inv .0; some = omega (arith, c .before .before .before .before .before .before .before .before .if1); inside = omega (arith, sum-widest (c .before .before .before .before .before .before .before .before .before .before .before .before .before .before .before .before .before .before .before .before .before .before .before .before .args .stack) (c .before .before .before .before .before .before .before .before .before .before .before .before .before .before .before .before .before .before .before .lengths-sum .result) (c .before .before .before .before .before .before .before .before .before .before .before .before .before .before .before .before .before .before .before .lengths-sum .ensures), c .before .before .before .before .before .if2) }
+step-requires c κs =
+    let b = c .before .before .before .before .before .before .before .before .before .before in
+    let l = b .before .before .before .before .before .before .before .before .before in
+    let a = l .before .before .before .before .before .before .before in
+    record {
+      here = b .loop .inv .0;
+      some = omega (arith, c .before .before .before .before .before .before .before .before .if1);
+      inside = omega (arith, sum-widest (a .args .stack) (l .lengths-sum .result) (l .lengths-sum .ensures), c .before .before .before .before .before .if2);
+    }
 
 loop-less : tie.Need-loop-less Inv-loop μ-loop
 loop-less c = omega (arith, c .before .before .step .ensures .1, c .before .before .before .before .before .before .before .before .before .before .before .before .before .loop .inv .0 .walking .jump-some, c .before .before .before .before .before .before .before .before .if2)
@@ -61,8 +88,9 @@ same-length-2 c = c .before .before .loop .inv .1 ∙ search needs
 
 returns-2 : tie.Need-returns-2 Inv-loop μ-loop
 returns-2 c =
-    let a = c .before .before .before .before .before .before .before .before .before .before .before .before .before .before .before .before in
-    ended-zero (stack-of (a .args .stack)) (a .pre) _ _ (c .before .before .loop .inv .0 .walking) (omega (arith, c .if1))
+    let b = c .before .before in
+    let a = b .before .before .before .before .before .before .before .before .before .before .before .before .before .before .before .before in
+    ended-zero (stack-of (a .args .stack)) (a .pre) _ _ (b .loop .inv .0 .walking) (omega (arith, c .if1))
 
 pub put-table-spec : {M : Type 1} → statement M
 put-table-spec =
@@ -71,6 +99,7 @@ put-table-spec =
     Inv-loop
     μ-loop
     fill-limits-requires
+    plan-for-requires
     lengths-sum-requires
     begin-requires
     loop-holds

@@ -2,11 +2,11 @@
 use mathlib.Core.Path.{_≡_}
 use Prim.Native.Nat.{_-_, _≤_}
 use native.Mathlib.Omega.{arith}
-use Rattle.scan.specs.Scan.{Leasts-are}
-use Rattle.scan.proofs.Sums.{leasts-start, leasts-step}
+use Rattle.solver.specs.Arrays.{Leasts-are}
+use Rattle.plan.proofs.Sums.{leasts-start, leasts-step}
 use borrow.Author.Needs.{needs}
-use Rattle.scan.proofs.least_opens.Statement.{statement}
-use Rattle.scan.proofs.least_opens.Tie as tie
+use Rattle.plan.proofs.least_opens.Statement.{statement}
+use Rattle.plan.proofs.least_opens.Tie as tie
 
 abbrev Inv-loop : tie.InvT-loop
 Inv-loop limits lasts k leasts₀ i₀ leasts i = (i ≤ k) × Leasts-are limits lasts i leasts

@@ -2,13 +2,13 @@
 use Prim.Native.Nat.{suc, _-_}
 use native.Mathlib.Omega.{arith}
 use borrow.Author.Tests.{le-leb, lt-leb}
 use Rattle.solver.specs.Arrays.{low-in, high-in}
 use Rattle.spans.specs.Solver.{opens, first-open}
 use Rattle.solver.specs.Loops.{Searching}
 use Rattle.solver.proofs.Loops.{opening-start, searching-hit, searching-miss, searching-end}
 use borrow.Author.Needs.{needs}
-use Rattle.solver.proofs.least_open.Statement.{statement}
-use Rattle.solver.proofs.least_open.Tie as tie
+use Rattle.plan.proofs.least_open.Statement.{statement}
+use Rattle.plan.proofs.least_open.Tie as tie
 
 abbrev Inv-loop : tie.InvT-loop
 Inv-loop limits last q₀ q = Searching (opens (low-in limits) (high-in limits)) (suc last) q (first-open (low-in limits) (high-in limits) last)

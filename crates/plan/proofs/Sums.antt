@@ -1,5 +1,5 @@
 -- The laws of the loops over channels: the sums of the last separations above each strip, and the least open separations. Assumes nothing.
-use mathlib.Core.Path.{_≡_, refl, ap, ap₂, _∙_}
+use mathlib.Core.Path.{_≡_, refl, ap, _∙_}
 use mathlib.Core.Logic.{_⊎_, inl, inr}
 use mathlib.Core.List.{List}
 use Prim.Native.Nat.{ℕ, zero, suc, _+_, _*_, _≤_, _<_}
@@ -9,17 +9,11 @@ use lib.ListN.{set, replicate, length-set, getD-replicate}
 use lib.Seq.{getD-set-same, getD-set-other}
 use Rattle.numbers.proofs.Orders.{lt-or-eq}
 use Rattle.stack.specs.Sizes.{strips-held, last-held}
-use Rattle.spans.specs.Solver.{first-open, most}
-use Rattle.solver.specs.Arrays.{entry, sides, low-in, high-in, Given, low-of, high-of, last-of, levels}
-use Rattle.scan.specs.Scan.{sums, Sums-are, Leasts-are, Lasts-ask}
-use Rattle.solver.proofs.Levels.{last-is}
+use Rattle.spans.specs.Solver.{first-open}
+use Rattle.solver.specs.Arrays.{entry, sides, low-in, high-in, sums, Sums-are, Leasts-are}
+use Rattle.plan.specs.Plan.{Lasts-ask}
 
 -- THE SUMS above each strip
-pub most-sums : (g : Given) (i n : ℕ) → most (levels g i n) ≡ sums (g .lasts) i n
-unfolding most levels sums
-most-sums g i zero = refl
-most-sums g i (suc n) = ap₂ _+_ (last-is (low-of g i) (high-of g i) (last-of g i)) (most-sums g (suc i) n)
-
 pub sums-start : (lasts : List ℕ) (k : ℕ) → Lasts-ask lasts k → Sums-are lasts k k (replicate strips-held 0)
 unfolding sums
 sums-start lasts k a =

@@ -2,11 +2,11 @@
 use mathlib.Core.Path.{_≡_}
 use Prim.Native.Nat.{_-_, _≤_}
 use native.Mathlib.Omega.{arith}
-use Rattle.scan.specs.Scan.{Sums-are}
-use Rattle.scan.proofs.Sums.{sums-start, sums-room, sums-step}
+use Rattle.solver.specs.Arrays.{Sums-are}
+use Rattle.plan.proofs.Sums.{sums-start, sums-room, sums-step}
 use borrow.Author.Needs.{needs}
-use Rattle.scan.proofs.sums_above.Statement.{statement}
-use Rattle.scan.proofs.sums_above.Tie as tie
+use Rattle.plan.proofs.sums_above.Statement.{statement}
+use Rattle.plan.proofs.sums_above.Tie as tie
 
 abbrev Inv-loop : tie.InvT-loop
 Inv-loop lasts k sums₀ i₀ sums i = (i ≤ k) × Sums-are lasts k i sums

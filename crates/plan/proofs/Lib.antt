@@ -1,0 +1,2 @@
+-- The laws of the loops over channels.
+pub mod Sums

@@ -1,0 +1,2 @@
+-- What the plan of a stack is made from.
+pub mod Plan
