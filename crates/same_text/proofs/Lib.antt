@@ -1,0 +1,2 @@
+-- The same values.
+pub mod Same

@@ -1,0 +1,2 @@
+-- Document 03.
+pub mod Old
