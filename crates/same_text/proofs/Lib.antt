@@ -1,2 +1,0 @@
--- The same values.
-pub mod Same

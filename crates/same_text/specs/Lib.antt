@@ -1,2 +1,0 @@
--- Document 03.
-pub mod Old
