@@ -1,6 +1,6 @@
 // Runs stacktable on this crate's stdin, for rt to hold what it prints to this crate's stdout. bin/stacktable is the program with its exit status.
-use stacktable::stacktable_run;
+use program::run;
 
 fn main() {
-    stacktable_run();
+    run();
 }

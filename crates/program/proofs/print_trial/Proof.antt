@@ -2,8 +2,8 @@
 use mathlib.Core.Logic.{inr}
 use Rattle.commands.proofs.Printing.{printed-counts}
 use borrow.Author.Needs.{needs}
-use Rattle.stacktable.proofs.print_trial.Statement.{statement}
-use Rattle.stacktable.proofs.print_trial.Tie as tie
+use Rattle.program.proofs.print_trial.Statement.{statement}
+use Rattle.program.proofs.print_trial.Tie as tie
 
 put-trial-requires : tie.Need-put-trial-requires
 put-trial-requires c κs = search needs

@@ -1,8 +1,8 @@
 -- run_table meets its contract: the status is one of three. Assumes nothing.
-use Rattle.stacktable.proofs.Passing.{passed-within, status-within}
+use Rattle.program.proofs.Passing.{passed-within, status-within}
 use borrow.Author.Needs.{needs}
-use Rattle.stacktable.proofs.run_table.Statement.{statement}
-use Rattle.stacktable.proofs.run_table.Tie as tie
+use Rattle.program.proofs.run_table.Statement.{statement}
+use Rattle.program.proofs.run_table.Tie as tie
 
 read-input-requires : tie.Need-read-input-requires
 read-input-requires c κs = search needs

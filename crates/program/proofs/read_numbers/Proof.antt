@@ -1,8 +1,8 @@
 -- read_numbers is safe and ends. Assumes nothing.
 use Prim.Native.Nat.{_-_, _≤_}
 use borrow.Author.Needs.{needs}
-use Rattle.stacktable.proofs.read_numbers.Statement.{statement}
-use Rattle.stacktable.proofs.read_numbers.Tie as tie
+use Rattle.program.proofs.read_numbers.Statement.{statement}
+use Rattle.program.proofs.read_numbers.Tie as tie
 
 abbrev Inv-loop : tie.InvT-loop
 Inv-loop first end values₀ i₀ values i = first ≤ i

@@ -4,8 +4,8 @@ use native.Mathlib.Omega.{arith}
 use lib.ListN.{length}
 use lib.Seq.{set-out}
 use borrow.Author.Needs.{needs}
-use Rattle.stacktable.proofs.number_stored.Statement.{statement}
-use Rattle.stacktable.proofs.number_stored.Tie as tie
+use Rattle.program.proofs.number_stored.Statement.{statement}
+use Rattle.program.proofs.number_stored.Tie as tie
 
 mul-values : tie.Need-mul-values
 mul-values c = search needs

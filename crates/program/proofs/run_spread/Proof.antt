@@ -1,8 +1,8 @@
 -- run_spread meets its contract: the status is one of three. Assumes nothing.
-use Rattle.stacktable.proofs.Passing.{passed-within, status-within}
+use Rattle.program.proofs.Passing.{passed-within, status-within}
 use borrow.Author.Needs.{needs}
-use Rattle.stacktable.proofs.run_spread.Statement.{statement}
-use Rattle.stacktable.proofs.run_spread.Tie as tie
+use Rattle.program.proofs.run_spread.Statement.{statement}
+use Rattle.program.proofs.run_spread.Tie as tie
 
 add-number-argument : tie.Need-add-number-argument
 add-number-argument c = search needs

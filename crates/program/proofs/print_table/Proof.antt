@@ -1,8 +1,8 @@
 -- print_table meets its contract: what is printed is a part of the output, and its status is passed on. Assumes nothing.
 use Rattle.commands.proofs.Printing.{printed-counts}
 use borrow.Author.Needs.{needs}
-use Rattle.stacktable.proofs.print_table.Statement.{statement}
-use Rattle.stacktable.proofs.print_table.Tie as tie
+use Rattle.program.proofs.print_table.Statement.{statement}
+use Rattle.program.proofs.print_table.Tie as tie
 
 put-table-requires : tie.Need-put-table-requires
 put-table-requires c κs = search needs

@@ -1,11 +1,11 @@
--- stacktable_run meets its contract: a trial has words, and the status is one of three. Assumes nothing.
+-- run meets its contract: a trial has words, and the status is one of three. Assumes nothing.
 use mathlib.Core.Path.{sym, _∙_}
 use native.Mathlib.Omega.{arith}
 use Rattle.commands.proofs.Arguments.{trial-words}
-use Rattle.stacktable.proofs.Passing.{passed-within}
+use Rattle.program.proofs.Passing.{passed-within}
 use borrow.Author.Needs.{needs}
-use Rattle.stacktable.proofs.stacktable_run.Statement.{statement}
-use Rattle.stacktable.proofs.stacktable_run.Tie as tie
+use Rattle.program.proofs.run.Statement.{statement}
+use Rattle.program.proofs.run.Tie as tie
 
 command-place-requires : tie.Need-command-place-requires
 command-place-requires c κs = search needs
@@ -97,8 +97,8 @@ returns-6 c = passed-within (omega arith) (c .print-version .ensures)
 returns-7 : tie.Need-returns-7
 returns-7 c = search needs
 
-pub stacktable-run-spec : {M : Type 1} → statement M
-stacktable-run-spec =
+pub run-spec : {M : Type 1} → statement M
+run-spec =
     tie.close
     (tie.spec
     command-place-requires

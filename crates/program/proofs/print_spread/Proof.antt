@@ -1,8 +1,8 @@
 -- print_spread meets its contract: what is printed is a part of the output, and its status is passed on. Assumes nothing.
 use Rattle.commands.proofs.Printing.{printed-counts}
 use borrow.Author.Needs.{needs}
-use Rattle.stacktable.proofs.print_spread.Statement.{statement}
-use Rattle.stacktable.proofs.print_spread.Tie as tie
+use Rattle.program.proofs.print_spread.Statement.{statement}
+use Rattle.program.proofs.print_spread.Tie as tie
 
 put-spread-requires : tie.Need-put-spread-requires
 put-spread-requires c κs = search needs

@@ -7,7 +7,7 @@ use native.Mathlib.Omega.{arith}
 use lib.Dec.{eqb}
 use Rattle.text.specs.Text.{Refusal, text-refusal}
 use Rattle.commands.specs.Output.{status-of, channels, trial-status}
-use Rattle.stacktable.specs.Status.{Passed-on}
+use Rattle.program.specs.Status.{Passed-on}
 
 pub passed-within : {s r : ℕ} → s ≤ 2 → Passed-on s r → r ≤ 2
 passed-within h (inl e) = omega arith

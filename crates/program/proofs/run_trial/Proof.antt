@@ -1,8 +1,8 @@
 -- run_trial meets its contract: the status is one of three. Assumes nothing.
-use Rattle.stacktable.proofs.Passing.{passed-within, trial-status-within}
+use Rattle.program.proofs.Passing.{passed-within, trial-status-within}
 use borrow.Author.Needs.{needs}
-use Rattle.stacktable.proofs.run_trial.Statement.{statement}
-use Rattle.stacktable.proofs.run_trial.Tie as tie
+use Rattle.program.proofs.run_trial.Statement.{statement}
+use Rattle.program.proofs.run_trial.Tie as tie
 
 add-first : tie.Need-add-first
 add-first c = search needs

@@ -2,8 +2,8 @@
 use mathlib.Core.Path.{refl}
 use mathlib.Core.Logic.{inl, inr}
 use borrow.Author.Needs.{needs}
-use Rattle.stacktable.proofs.print.Statement.{statement}
-use Rattle.stacktable.proofs.print.Tie as tie
+use Rattle.program.proofs.print.Statement.{statement}
+use Rattle.program.proofs.print.Tie as tie
 
 write-all-requires : tie.Need-write-all-requires
 write-all-requires c κs = search needs

@@ -4,8 +4,8 @@ use Prim.Native.Nat.{_-_, _≤_}
 use lib.ListN.{length as size}
 use Rattle.io.proofs.Counting.{counts}
 use borrow.Author.Needs.{needs}
-use Rattle.stacktable.proofs.read_text.Statement.{statement}
-use Rattle.stacktable.proofs.read_text.Tie as tie
+use Rattle.program.proofs.read_text.Statement.{statement}
+use Rattle.program.proofs.read_text.Tie as tie
 
 abbrev Inv-loop : tie.InvT-loop
 Inv-loop fd text₀ length₀ text length = (size text ≡ size text₀) × (length ≤ size text)

@@ -1,0 +1,364 @@
+// The program stacktable: it prints the table of a stack, the answer for one spread, or the verdict on a placement. No contract can say what is read or
+// written, so what is printed and the status that goes with it come from crate commands; the functions here read, write and pass the status on.
+ghost use mathlib.Core.Path.{_≡_};
+ghost use mathlib.Core.Bool.{false};
+ghost use Prim.Native.Nat.{_≤_, _<_};
+ghost use lib.ListN.{set};
+ghost use Rattle.io.specs.Counts.{Counts};
+ghost use Rattle.text.specs.Text.{text-refusal};
+ghost use Rattle.nabetsu.specs.Entry.{spread-refusal};
+ghost use Rattle.commands.specs.Output.{status-of, trial-status};
+ghost use Rattle.program.specs.Status.{Passed-on};
+use commands::ANSWERED;
+use commands::Command;
+use commands::FAILED;
+use commands::NUMBERS;
+use commands::Number;
+use commands::put_spread;
+use commands::put_table;
+use commands::put_trial;
+use commands::read_command;
+use commands::read_number;
+use libc::STDERR_FILENO;
+use libc::STDIN_FILENO;
+use libc::STDOUT_FILENO;
+use lines::is_word;
+use nabetsu::TABLE_BYTES;
+use text::Reading;
+
+// One byte more than an accepted text has, so that a longer one is seen to be.
+const TEXT_BYTES: usize = Reading::MAX_BYTES + 1;
+
+// Says what failed, and why.
+fn fail(what: &[u8]) -> u32
+    ensures { λ r. ⌜ r ≡ 2 ⌝ }
+{
+    io::write_all(STDERR_FILENO, b"stacktable: ");
+    os::fail(what);
+    FAILED
+}
+
+// Prints what a status goes with.
+fn print(bytes: &[u8], status: u32) -> u32
+    ensures { λ r. ⌜ Passed-on status r ⌝ }
+{
+    if !io::write_all(STDOUT_FILENO, bytes) {
+        return fail(b"standard output");
+    }
+    status
+}
+
+fn print_usage(fd: i32) {
+    io::write_all(fd, b"usage: stacktable [-f FILE]\n");
+    io::write_all(fd, b"       stacktable [-f FILE] spread N\n");
+    io::write_all(fd, b"       stacktable [-f FILE] trial N T1..TK X0..XK\n");
+    io::write_all(fd, b"       stacktable help | -h | --help\n");
+    io::write_all(fd, b"       stacktable --version\n");
+}
+
+// How the program is used, with an example.
+fn print_help() -> u32
+    ensures { λ r. ⌜ Passed-on 0 r ⌝ }
+{
+    print_usage(STDOUT_FILENO);
+    io::write_all(
+        STDOUT_FILENO,
+        b"Reads a stack from FILE, or from standard input, and prints\n",
+    );
+    io::write_all(STDOUT_FILENO, b"  its table;\n");
+    io::write_all(
+        STDOUT_FILENO,
+        b"  spread: the answer for spread N, as a row of a table;\n",
+    );
+    io::write_all(
+        STDOUT_FILENO,
+        b"  trial: legal or not legal, for separations T1..TK and positions X0..XK in spread N.\n",
+    );
+    io::write_all(
+        STDOUT_FILENO,
+        b"For a refused stack it prints the refusal's number, line and field.\n",
+    );
+    io::write_all(
+        STDOUT_FILENO,
+        b"A number is 1 to 10 decimal digits, at most 4294967295.\n",
+    );
+    io::write_all(
+        STDOUT_FILENO,
+        b"It exits with 0 for an answer, 1 for a refusal, 2 for anything said on standard error.\n",
+    );
+    io::write_all(
+        STDOUT_FILENO,
+        b"Example: two strips of 4 columns and two pairs, in a spread of 5\n",
+    );
+    print(
+        b"  printf 'STACK\\t1\\nPART\\t4\\nPART\\t4\\nNETS\\t0\\t2\\t2\\t4\\n' | stacktable spread 5\n",
+        ANSWERED,
+    )
+}
+
+// The version is kept here.
+fn print_version() -> u32
+    ensures { λ r. ⌜ Passed-on 0 r ⌝ }
+{
+    print(b"stacktable 1.0\n", ANSWERED)
+}
+
+// Says what is wrong with the arguments, and how the program is used.
+fn print_wrong(what: &[u8]) -> u32
+    ensures { λ r. ⌜ r ≡ 2 ⌝ }
+{
+    io::write_all(STDERR_FILENO, b"stacktable: ");
+    io::write_all(STDERR_FILENO, what);
+    io::write_all(STDERR_FILENO, b"\n");
+    print_usage(STDERR_FILENO);
+    FAILED
+}
+
+// How many bytes of a text were read, and whether that went well.
+struct Input {
+    good: bool,
+    length: usize,
+}
+
+// Reads to the end of the input, or until the space is full.
+fn read_text(fd: i32, text: &mut [u8]) -> Input
+    ensures { λ r. ⌜ Counts (r .length) (now (text .exit)) ⌝ }
+{
+    let mut length = 0;
+    while length < text.len() {
+        let got = libc::read(fd, &mut text[length..]);
+        if got < 0 {
+            return Input {
+                good: false,
+                length: 0,
+            };
+        }
+        let more = io::count(got, &text[length..]);
+        if more == 0 {
+            return Input { good: true, length };
+        }
+        length += more;
+    }
+    Input { good: true, length }
+}
+
+// Reads a text; where that fails, it says why.
+fn read_from(fd: i32, name: &[u8], text: &mut [u8; TEXT_BYTES]) -> Input
+    ensures { λ r. ⌜ Counts (r .length) (now (text .exit)) ⌝ }
+{
+    let input = read_text(fd, text);
+    if !input.good {
+        fail(name);
+    }
+    input
+}
+
+// Says that there is no input, and why.
+fn no_input(name: &[u8]) -> Input
+    ensures { λ r. ⌜ (r .good ≡ false) × (r .length ≡ 0) ⌝ }
+{
+    fail(name);
+    Input {
+        good: false,
+        length: 0,
+    }
+}
+
+// Reads the file that the second argument names.
+fn read_file(text: &mut [u8; TEXT_BYTES]) -> Input
+    ensures { λ r. ⌜ Counts (r .length) (now (text .exit)) ⌝ }
+{
+    let mut path = io::buffer();
+    let n = os::arg(2, &mut path);
+    if os::errno() != 0 {
+        return no_input(b"FILE");
+    }
+    let fd = os::open_read(&path[..n]);
+    if fd < 0 {
+        return no_input(&path[..n]);
+    }
+    let input = read_from(fd, &path[..n], text);
+    libc::close(fd);
+    input
+}
+
+// The place of an argument behind -f and a file.
+const BEHIND_FILE: usize = 3;
+
+// Where the command stands among the arguments: behind -f and a file, or first.
+fn command_place() -> usize
+    ensures { λ r. ⌜ r ≤ 3 ⌝ }
+{
+    let mut word = io::buffer();
+    let n = os::arg(1, &mut word);
+    if is_word(&word[..n], b"-f") {
+        BEHIND_FILE
+    } else {
+        1
+    }
+}
+
+// Reads the file behind -f, or else standard input.
+fn read_input(place: usize, text: &mut [u8; TEXT_BYTES]) -> Input
+    ensures { λ r. ⌜ Counts (r .length) (now (text .exit)) ⌝ }
+{
+    if place == BEHIND_FILE {
+        return read_file(text);
+    }
+    read_from(STDIN_FILENO, b"standard input", text)
+}
+
+// The number that is argument i; where it is none, it says so.
+fn number_argument(i: usize) -> Number {
+    let mut word = io::buffer();
+    let n = os::arg(i, &mut word);
+    let number = read_number(&word[..n]);
+    if !number.good {
+        io::write_all(
+            STDERR_FILENO,
+            b"stacktable: not a number of 1 to 10 digits, at most 4294967295: ",
+        );
+        io::write_all(STDERR_FILENO, &word[..n]);
+        io::write_all(STDERR_FILENO, b"\n");
+    }
+    number
+}
+
+// The number in its place, where there is one.
+fn number_stored(mut values: [u32; NUMBERS], i: usize, x: u32) -> [u32; NUMBERS]
+    ensures { λ r. ⌜ r ≡ set values i x ⌝ }
+{
+    if i < NUMBERS {
+        values[i] = x;
+    }
+    values
+}
+
+// Whether the arguments are all numbers, and the first of them.
+struct Numbers {
+    good: bool,
+    values: [u32; NUMBERS],
+}
+
+// The numbers that are the arguments from a place on.
+fn read_numbers(first: usize, end: usize) -> Numbers {
+    let mut values = [0u32; NUMBERS];
+    for i in first..end {
+        let number = number_argument(i);
+        if !number.good {
+            return Numbers {
+                good: false,
+                values,
+            };
+        }
+        let kept = number_stored(values, i - first, number.value);
+        values = kept;
+    }
+    Numbers { good: true, values }
+}
+
+// The table of the stack in a text.
+fn print_table(text: &[u8]) -> u32
+    ensures { λ r. ⌜ Passed-on (status-of (text-refusal (now (text .entry)))) r ⌝ }
+{
+    let mut output = [0u8; TABLE_BYTES];
+    let reply = put_table(text, &mut output);
+    let length = reply.length;
+    print(&output[..length], reply.status)
+}
+
+// The answer for one spread.
+fn print_spread(text: &[u8], spread: u32) -> u32
+    ensures { λ r. ⌜ Passed-on (status-of (spread-refusal (now (text .entry)) spread)) r ⌝ }
+{
+    let mut output = [0u8; TABLE_BYTES];
+    let reply = put_spread(text, spread, &mut output);
+    let length = reply.length;
+    print(&output[..length], reply.status)
+}
+
+// The verdict on a trial of so many numbers.
+fn print_trial(text: &[u8], count: usize, numbers: [u32; NUMBERS]) -> u32
+    ensures { λ r. ⌜ Passed-on (trial-status (now (text .entry)) count) r ⌝ }
+{
+    let mut output = [0u8; TABLE_BYTES];
+    let reply = put_trial(text, count, numbers, &mut output);
+    if reply.status == FAILED {
+        return print_wrong(b"trial: a stack of K channels takes 2K + 2 numbers");
+    }
+    let length = reply.length;
+    print(&output[..length], reply.status)
+}
+
+// Reads the text, and prints its table.
+fn run_table(place: usize) -> u32
+    ensures { λ r. ⌜ r ≤ 2 ⌝ }
+{
+    let mut text = [0u8; TEXT_BYTES];
+    let input = read_input(place, &mut text);
+    if !input.good {
+        return FAILED;
+    }
+    let length = input.length;
+    print_table(&text[..length])
+}
+
+// Reads the spread and the text, and prints the answer.
+fn run_spread(place: usize) -> u32
+    requires { ⌜ place ≤ 3 ⌝ }
+    ensures { λ r. ⌜ r ≤ 2 ⌝ }
+{
+    let number = number_argument(place + 1);
+    if !number.good {
+        return FAILED;
+    }
+    let mut text = [0u8; TEXT_BYTES];
+    let input = read_input(place, &mut text);
+    if !input.good {
+        return FAILED;
+    }
+    let length = input.length;
+    print_spread(&text[..length], number.value)
+}
+
+// Reads the numbers and the text, and prints the verdict.
+fn run_trial(place: usize, end: usize) -> u32
+    requires { ⌜ place < end ⌝ }
+    ensures { λ r. ⌜ r ≤ 2 ⌝ }
+{
+    let first = place + 1;
+    let numbers = read_numbers(first, end);
+    if !numbers.good {
+        return FAILED;
+    }
+    let mut text = [0u8; TEXT_BYTES];
+    let input = read_input(place, &mut text);
+    if !input.good {
+        return FAILED;
+    }
+    let length = input.length;
+    let values = numbers.values;
+    print_trial(&text[..length], end - first, values)
+}
+
+// Runs the program on its arguments, and answers its exit status: 0 where an answer was printed, 1 where a refusal was, 2 where something was said on standard
+// error.
+pub fn run() -> u32
+    ensures { λ r. ⌜ r ≤ 2 ⌝ }
+{
+    let place = command_place();
+    let end = os::arg_count();
+    if end < place {
+        return print_wrong(b"wrong arguments");
+    }
+    let mut word = io::buffer();
+    let n = os::arg(place, &mut word);
+    match read_command(&word[..n], end - place) {
+        Command::Table => run_table(place),
+        Command::Spread => run_spread(place),
+        Command::Trial => run_trial(place, end),
+        Command::Help => print_help(),
+        Command::Version => print_version(),
+        Command::Wrong => print_wrong(b"wrong arguments"),
+    }
+}
