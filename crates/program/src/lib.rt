@@ -48,50 +48,37 @@ fn print(bytes: &[u8], status: u32) -> u32
     status
 }
 
-fn print_usage(fd: i32) {
-    io::write_all(fd, b"usage: stacktable [-f FILE]\n");
-    io::write_all(fd, b"       stacktable [-f FILE] spread N\n");
-    io::write_all(fd, b"       stacktable [-f FILE] trial N T1..TK X0..XK\n");
-    io::write_all(fd, b"       stacktable help | -h | --help\n");
-    io::write_all(fd, b"       stacktable --version\n");
+// How the program is used; answers whether that could be written.
+fn print_usage(fd: i32) -> bool {
+    io::write_all(
+        fd,
+        b"usage: stacktable [-f FILE]
+       stacktable [-f FILE] spread N
+       stacktable [-f FILE] trial N T1..TK X0..XK
+       stacktable help | -h | --help
+       stacktable --version
+",
+    )
 }
 
-// How the program is used, with an example.
+// How the program is used, what it prints, and an example.
 fn print_help() -> u32
     ensures { λ r. ⌜ Passed-on 0 r ⌝ }
 {
-    print_usage(STDOUT_FILENO);
-    io::write_all(
-        STDOUT_FILENO,
-        b"Reads a stack from FILE, or from standard input, and prints\n",
-    );
-    io::write_all(STDOUT_FILENO, b"  its table;\n");
-    io::write_all(
-        STDOUT_FILENO,
-        b"  spread: the answer for spread N, as a row of a table;\n",
-    );
-    io::write_all(
-        STDOUT_FILENO,
-        b"  trial: legal or not legal, for separations T1..TK and positions X0..XK in spread N.\n",
-    );
-    io::write_all(
-        STDOUT_FILENO,
-        b"For a refused stack it prints the refusal's number, line and field.\n",
-    );
-    io::write_all(
-        STDOUT_FILENO,
-        b"A number is 1 to 10 decimal digits, at most 4294967295.\n",
-    );
-    io::write_all(
-        STDOUT_FILENO,
-        b"It exits with 0 for an answer, 1 for a refusal, 2 for anything said on standard error.\n",
-    );
-    io::write_all(
-        STDOUT_FILENO,
-        b"Example: two strips of 4 columns and two pairs, in a spread of 5\n",
-    );
+    if !print_usage(STDOUT_FILENO) {
+        return fail(b"standard output");
+    }
     print(
-        b"  printf 'STACK\\t1\\nPART\\t4\\nPART\\t4\\nNETS\\t0\\t2\\t2\\t4\\n' | stacktable spread 5\n",
+        b"Reads a stack from FILE, or from standard input, and prints
+  its table;
+  spread: the answer for spread N, as a row of a table;
+  trial: legal or not legal, for separations T1..TK and positions X0..XK in spread N.
+For a refused stack it prints the refusal's number, line and field.
+A number is 1 to 10 decimal digits, at most 4294967295.
+It exits with 0 for an answer, 1 for a refusal, 2 for anything said on standard error.
+Example: two strips of 4 columns and two pairs, in a spread of 5
+  printf 'STACK\\t1\\nPART\\t4\\nPART\\t4\\nNETS\\t0\\t2\\t2\\t4\\n' | stacktable spread 5
+",
         ANSWERED,
     )
 }
