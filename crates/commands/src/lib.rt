@@ -244,11 +244,11 @@ fn separations(numbers: [u32; NUMBERS], k: usize) -> [Tracks; Stack::MAX_CHANNEL
 }
 
 // A trial's first k + 1 positions, behind its separations, and zeros.
-fn positions(numbers: [u32; NUMBERS], k: usize) -> [Columns; Stack::MAX_CHANNELS + 1]
+fn positions(numbers: [u32; NUMBERS], k: usize) -> [Columns; Stack::STRIPS]
     requires { ⌜ k ≤ 8 ⌝ }
     ensures { λ r. ⌜ columns-of r ≡ positions-in k numbers ⌝ }
 {
-    let mut positions = [Columns(0); Stack::MAX_CHANNELS + 1];
+    let mut positions = [Columns(0); Stack::STRIPS];
     for i in 0..k + 1 {
         positions[i] = Columns(numbers[1 + k + i]);
     }
