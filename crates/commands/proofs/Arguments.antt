@@ -1,34 +1,18 @@
--- The laws of the arguments: digits within 64 bits, what is a number and what is none, which command words are, and a trial's arrays filled. Assumes nothing.
+-- The laws of the arguments: what is a number and what is none, which command words are, and a trial's arrays filled. Assumes nothing.
 use mathlib.Core.Path.{_≡_, refl, sym, _∙_}
 use mathlib.Core.Bool.{Bool, true, false}
 use mathlib.Core.List.{List, map}
-use Prim.Native.Nat.{ℕ, zero, suc, _+_, _^_, _≤_, _<_}
-use native.Mathlib.Nat.{pow-le-pow-right}
+use Prim.Native.Nat.{ℕ, zero, suc, _+_, _≤_, _<_}
 use native.Mathlib.Omega.{arith}
-use lib.ListN.{length, getD, set}
+use lib.ListN.{length, set}
 use borrow.Author.Tests.{le-leb, lt-leb, eq-eqb, ne-eqb}
 use Rattle.numbers.specs.Lists.{filled}
 use Rattle.numbers.proofs.Lists.{map-set, filled-steps}
-use Rattle.lines.specs.Lines.{is-digit, all-digits, value, same-bytes}
-use Rattle.lines.specs.Numbers.{Counting}
-use Rattle.lines.proofs.Digits.{counting-refuses, counting-ends}
-use Rattle.commands.specs.Words.{is-number, number-in, Number-read, Digits-read, help-word, short-help, long-help, version-option, trial-word, spread-word, is-help, command-alone, command-in}
-use Rattle.commands.specs.declared.Digits.{Digits}
+use Rattle.lines.specs.Lines.{all-digits, value, same-bytes}
+use Rattle.lines.specs.Numbers.{Digits-read}
+use Rattle.lines.specs.declared.DigitsRead.{DigitsRead}
+use Rattle.commands.specs.Words.{is-number, number-in, Number-read, help-word, short-help, long-help, version-option, trial-word, spread-word, is-help, command-alone, command-in}
 use Rattle.commands.specs.declared.Command.the-variants.{Table, Spread, Trial, Help, Version, Wrong}
-
--- DIGITS
-module _ (xs : List ℕ) (i v : ℕ) (m : Counting xs i v) where
-  pub counted-small : i < 10 → v < 1000000000
-  counted-small h =
-      let p : 10 ^ i ≤ 10 ^ 9 = pow-le-pow-right {n = 10} (omega arith) {i = i} {j = 9} (omega arith) in
-      let q : 10 ^ 9 ≡ 1000000000 = refl in
-      omega (arith, m .small)
-
-  pub digits-refused : i < length xs → is-digit (getD xs i 0) ≡ false → Digits-read xs (record { good = false; value = 0 })
-  digits-refused h d = let r = counting-refuses xs i v m h d in record { good = r .good; value = r .value }
-
-  pub digits-end : length xs ≤ i → Digits-read xs (record { good = true; value = v })
-  digits-end h = let r = counting-ends xs i v m h in record { good = r .good; value = r .value }
 
 -- NUMBERS
 none : (xs : List ℕ) → is-number xs ≡ false → Number-read xs (record { good = false; value = 0 })
@@ -44,7 +28,7 @@ module _ (xs : List ℕ) (some : 1 ≤ length xs) where
   unfolding is-number
   number-long h = none xs (rw (le-leb 1 (length xs) some, lt-leb (length xs) 10 h))
 
-  module _ (few : length xs ≤ 10) (r : Digits) (d : Digits-read xs r) where
+  module _ (few : length xs ≤ 10) (r : DigitsRead) (d : Digits-read xs r) where
     pub number-other : r .good ≡ false → Number-read xs (record { good = false; value = 0 })
     unfolding is-number
     number-other h = none xs (rw (le-leb 1 (length xs) some, le-leb (length xs) 10 few, sym (d .good) ∙ h))

@@ -6,7 +6,6 @@ use Prim.Native.Nat.{ℕ}
 use lib.Dec.{leb, eqb}
 use lib.ListN.{length}
 use Rattle.lines.specs.Lines.{all-digits, value, same-bytes}
-use Rattle.commands.specs.declared.Digits.{Digits}
 use Rattle.commands.specs.declared.Number.{Number}
 use Rattle.commands.specs.declared.Command.{Command}
 use Rattle.commands.specs.declared.Command.the-variants.{Table, Spread, Trial, Help, Version, Wrong}
@@ -22,11 +21,6 @@ number-in xs = cond (is-number xs) (value xs) 0
 pub record Number-read (xs : List ℕ) (r : Number) : Type 0 where
   pub good : r .good ≡ is-number xs
   pub value : r .value ≡ number-in xs
-
--- digits, and their value; 0 where one is no digit
-pub record Digits-read (xs : List ℕ) (r : Digits) : Type 0 where
-  pub good : r .good ≡ all-digits xs
-  pub value : r .value ≡ cond (all-digits xs) (value xs) 0
 
 -- the words help, trial and spread, and the options -h, --help and --version
 unfoldable pub help-word : List ℕ

@@ -2,11 +2,10 @@
 ghost use mathlib.Core.Path.{_≡_};
 ghost use mathlib.Core.List.{[]};
 ghost use Prim.Native.Nat.{_≤_};
-ghost use lib.ListN.{length};
 ghost use Rattle.stack.specs.Value.{tracks-of, columns-of};
 ghost use Rattle.text.specs.Outcome.{refusal-of};
 ghost use Rattle.writing.specs.Output.{Line-put};
-ghost use Rattle.commands.specs.Words.{Digits-read, Number-read, is-help, command-alone, command-in};
+ghost use Rattle.commands.specs.Words.{Number-read, is-help, command-alone, command-in};
 ghost use Rattle.commands.specs.Output.{
   Printed,
   Replied,
@@ -18,8 +17,8 @@ ghost use Rattle.commands.specs.Output.{
   trial-text,
   trial-status,
 };
-use lines::is_digit;
 use lines::is_word;
+use lines::read_digits;
 use nabetsu::TABLE_BYTES;
 use nabetsu::answer_spread;
 use nabetsu::try_placement;
@@ -47,36 +46,10 @@ const MAX_DIGITS: usize = 10;
 
 const MAX_NUMBER: u64 = 4294967295;
 
-const ZERO: u8 = 48;
-
-// Whether a word's bytes are all digits, and their value; 0 where they are not.
-struct Digits {
-    good: bool,
-    value: u64,
-}
-
 // Whether a word is a number, and which; 0 where it is none.
 pub struct Number {
     pub good: bool,
     pub value: u32,
-}
-
-fn read_digits(word: &[u8]) -> Digits
-    requires { ⌜ length (now word) ≤ 10 ⌝ }
-    ensures { λ r. ⌜ Digits-read (now (word .entry)) r ⌝ }
-{
-    let mut value: u64 = 0;
-    for i in 0..word.len() {
-        let x = word[i];
-        if !is_digit(x) {
-            return Digits {
-                good: false,
-                value: 0,
-            };
-        }
-        value = 10 * value + (x as u64 - ZERO as u64);
-    }
-    Digits { good: true, value }
 }
 
 // A number: 1 to 10 decimal digits, at most 4294967295.

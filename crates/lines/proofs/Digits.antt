@@ -4,7 +4,7 @@ use mathlib.Core.Path.{_≡_, refl, ap, sym, _∙_}
 use mathlib.Core.Bool.{Bool, true, false, _&&_, not}
 use mathlib.Core.List.{List, [], _∷_}
 use Prim.Native.Nat.{ℕ, zero, suc, _+_, _*_, _-_, _^_, _≤_, _<_}
-use native.Mathlib.Nat.{pow-succ'}
+use native.Mathlib.Nat.{pow-succ', pow-le-pow-right}
 use native.Mathlib.Numerals.{add-one}
 use native.Mathlib.Omega.{arith}
 use lib.Dec.{leb, eqb}
@@ -14,7 +14,7 @@ use borrow.Author.Tests.{leb-true, le-leb, lt-leb, eq-eqb, ne-eqb}
 use Rattle.numbers.proofs.Bools.{ands}
 use Rattle.lines.specs.Lines.{is-digit, all-digits, is-number, value-of, value, same-bytes}
 use Rattle.lines.specs.Numbers.{Matching, sized, Digits-read, Counting, number-in, Field-read}
-use Rattle.lines.specs.declared.FieldRead.{FieldRead}
+use Rattle.lines.specs.declared.DigitsRead.{DigitsRead}
 
 -- BYTE STRINGS
 pub other-lengths : (xs ys : List ℕ) → (length xs ≡ length ys → ⊥) → false ≡ same-bytes xs ys
@@ -94,17 +94,13 @@ pub counting-starts : (xs : List ℕ) → Counting xs 0 0
 unfolding value
 counting-starts xs = record { below = omega arith; small = omega arith; digits = refl; value = refl }
 
-power : (i : ℕ) → i ≤ 4 → 10 ^ i ≤ 10000
-power zero h = omega arith
-power (suc zero) h = omega arith
-power (suc (suc zero)) h = omega arith
-power (suc (suc (suc zero))) h = omega arith
-power (suc (suc (suc (suc zero)))) h = omega arith
-power (suc (suc (suc (suc (suc i))))) h = absurd (omega arith)
+-- fewer digits make a smaller power
+power : (i n : ℕ) → i ≤ n → 10 ^ i ≤ 10 ^ n
+power i n h = pow-le-pow-right {n = 10} (omega arith) {i = i} {j = n} h
 
 module _ (xs : List ℕ) (i v : ℕ) (m : Counting xs i v) where
-  pub counted-small : i ≤ 4 → v < 10000
-  counted-small h = omega (arith, m .small, power i h)
+  pub counted-small : i < 10 → v < 1000000000
+  counted-small h = let p : 10 ^ 9 ≡ 1000000000 = refl in omega (arith, m .small, power i 9 (omega arith))
 
   pub counting-steps : i < length xs → is-digit (getD xs i 0) ≡ true → Counting xs (i + 1) (10 * v + (getD xs i 0 - 48))
   unfolding all-digits value-of
@@ -121,18 +117,18 @@ module _ (xs : List ℕ) (i v : ℕ) (m : Counting xs i v) where
   unfolding all-digits
   counting-refuses h d =
       let bad : all-digits xs ≡ false = m .digits ∙ rw (drop-cons xs i 0 h, d) in
-      record { good = sym bad; value = rw bad }
+      record { good = sym bad; value = rw bad; small = omega (arith, power 0 (length xs) (omega arith)) }
 
   pub counting-ends : length xs ≤ i → Digits-read xs (record { good = true; value = v })
   unfolding all-digits value-of
   counting-ends h =
       let none : drop i xs ≡ [] = drop-of-length-le xs {i = i} h in
       let all : all-digits xs ≡ true = m .digits ∙ rw none in
-      record { good = sym all; value = rw all (sym (m .value ∙ rw none)) }
+      record { good = sym all; value = rw all (sym (m .value ∙ rw none)); small = omega (arith, m .small, power i (length xs) (m .below)) }
 
 -- A FIELD
-pub digits-few : (xs : List ℕ) (s : Bool) → s ≡ sized xs → s ≡ true → length xs ≤ 4
-digits-few xs s e h = sized-few xs (sym e ∙ h)
+pub digits-few : (xs : List ℕ) (s : Bool) → s ≡ sized xs → s ≡ true → length xs ≤ 10
+digits-few xs s e h = omega (arith, sized-few xs (sym e ∙ h))
 
 number-by : (xs : List ℕ) → is-number xs ≡ (all-digits xs && sized xs)
 unfolding is-number sized
@@ -152,8 +148,12 @@ not-sized xs s e h =
     let ill : is-number xs ≡ false = number-by xs ∙ rw (sym e ∙ h) (and-no (all-digits xs)) in
     record { good = sym ill; value = rw ill }
 
-pub sized-read : (xs : List ℕ) (s : Bool) (r : FieldRead) → s ≡ sized xs → s ≡ true → Digits-read xs r → Field-read xs r
-unfolding number-in
-sized-read xs s r e h d =
-    let same : is-number xs ≡ all-digits xs = number-by xs ∙ rw (sym e ∙ h) (and-yes (all-digits xs)) in
-    record { good = d .good ∙ sym same; value = d .value ∙ rw same }
+module _ (xs : List ℕ) (s : Bool) (r : DigitsRead) (e : s ≡ sized xs) (h : s ≡ true) (d : Digits-read xs r) where
+  pub value-small : r .value < 10000
+  value-small = let p : 10 ^ 4 ≡ 10000 = refl in omega (arith, d .small, power (length xs) 4 (sized-few xs (sym e ∙ h)))
+
+  pub sized-read : Field-read xs (record { good = r .good; value = r .value })
+  unfolding number-in
+  sized-read =
+      let same : is-number xs ≡ all-digits xs = number-by xs ∙ rw (sym e ∙ h) (and-yes (all-digits xs)) in
+      record { good = d .good ∙ sym same; value = d .value ∙ rw same }

@@ -6,6 +6,7 @@ use Prim.Native.Nat.{ℕ, zero, suc, _+_, _^_, _≤_, _<_}
 use lib.Dec.{leb, eqb}
 use lib.ListN.{length, getD, set, drop}
 use Rattle.lines.specs.Lines.{Line, fields, number-fields, same-bytes, has-word, all-digits, is-number, ill-formed, value-of, value, numbers-of}
+use Rattle.lines.specs.declared.DigitsRead.{DigitsRead}
 use Rattle.lines.specs.declared.FieldRead.{FieldRead}
 use Rattle.lines.specs.declared.Numbers.{Numbers}
 use Rattle.lines.specs.declared.LineRead.{LineRead}
@@ -21,9 +22,10 @@ unfoldable pub sized : List ℕ → Bool
 sized xs = (leb 1 (length xs) && leb (length xs) 4) && (eqb (length xs) 1 || not (eqb (getD xs 0 48) 48))
 
 -- digits, and their value; 0 where one is no digit
-pub record Digits-read (xs : List ℕ) (r : FieldRead) : Type 0 where
+pub record Digits-read (xs : List ℕ) (r : DigitsRead) : Type 0 where
   pub good : r .good ≡ all-digits xs
   pub value : r .value ≡ cond (all-digits xs) (value xs) 0
+  pub small : r .value < 10 ^ length xs
 
 -- while digits are read: the first i are digits, and v is their value
 pub record Counting (xs : List ℕ) (i v : ℕ) : Type 0 where

@@ -80,28 +80,34 @@ fn is_sized(field: &[u8]) -> bool
     field[0] != ZERO
 }
 
-// Whether a field is a number, and which; 0 where it is none.
-struct FieldRead {
-    good: bool,
-    value: u32,
+// Whether bytes are all digits, and their value; 0 where they are not.
+pub struct DigitsRead {
+    pub good: bool,
+    pub value: u64,
 }
 
-fn read_digits(field: &[u8]) -> FieldRead
-    requires { ⌜ length (now field) ≤ 4 ⌝ }
-    ensures { λ r. ⌜ Digits-read (now (field .entry)) r ⌝ }
+pub fn read_digits(bytes: &[u8]) -> DigitsRead
+    requires { ⌜ length (now bytes) ≤ 10 ⌝ }
+    ensures { λ r. ⌜ Digits-read (now (bytes .entry)) r ⌝ }
 {
-    let mut value: u32 = 0;
-    for i in 0..field.len() {
-        let x = field[i];
+    let mut value: u64 = 0;
+    for i in 0..bytes.len() {
+        let x = bytes[i];
         if !is_digit(x) {
-            return FieldRead {
+            return DigitsRead {
                 good: false,
                 value: 0,
             };
         }
-        value = 10 * value + (x as u32 - ZERO as u32);
+        value = 10 * value + (x as u64 - ZERO as u64);
     }
-    FieldRead { good: true, value }
+    DigitsRead { good: true, value }
+}
+
+// Whether a field is a number, and which; 0 where it is none.
+struct FieldRead {
+    good: bool,
+    value: u32,
 }
 
 fn read_field(field: &[u8]) -> FieldRead
@@ -113,7 +119,11 @@ fn read_field(field: &[u8]) -> FieldRead
             value: 0,
         };
     }
-    read_digits(field)
+    let digits = read_digits(field);
+    FieldRead {
+        good: digits.good,
+        value: digits.value as u32,
+    }
 }
 
 // So many numbers of a line are kept, as many as a channel may have terminals.

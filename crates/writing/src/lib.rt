@@ -24,10 +24,6 @@ const LINE_FEED: u8 = 10;
 
 const ZERO: u8 = 48;
 
-const CHANNELS: usize = Stack::MAX_CHANNELS;
-
-const STRIPS: usize = CHANNELS + 1;
-
 // The longest line's bytes: ROW, a line feed, and 19 numbers of ten digits, each behind a tab.
 const LINE_BYTES: usize = 213;
 
@@ -92,7 +88,7 @@ fn separations_before(
     room: &mut [u8],
     end: usize,
     k: usize,
-    separations: [Tracks; CHANNELS],
+    separations: [Tracks; Stack::MAX_CHANNELS],
 ) -> usize
     requires { ⌜ (k ≤ 8) × Space 88 (now room) end ⌝ }
     ensures { λ r. ⌜ Prepended 88 (tabbed (take k (tracks-of separations))) (now (room .entry)) end (now (room .exit)) r ⌝ }
@@ -108,7 +104,12 @@ fn separations_before(
 }
 
 // The first n positions in front of a place.
-fn positions_before(room: &mut [u8], end: usize, n: usize, positions: [Columns; STRIPS]) -> usize
+fn positions_before(
+    room: &mut [u8],
+    end: usize,
+    n: usize,
+    positions: [Columns; Stack::STRIPS],
+) -> usize
     requires { ⌜ (n ≤ 9) × Space 99 (now room) end ⌝ }
     ensures { λ r. ⌜ Prepended 99 (tabbed (take n (columns-of positions))) (now (room .entry)) end (now (room .exit)) r ⌝ }
 {
@@ -152,8 +153,8 @@ fn row_before(
     k: usize,
     spread: u32,
     total: u32,
-    separations: [Tracks; CHANNELS],
-    positions: [Columns; STRIPS],
+    separations: [Tracks; Stack::MAX_CHANNELS],
+    positions: [Columns; Stack::STRIPS],
 ) -> usize
     requires { ⌜ (length (now room) ≡ line-bytes) × Row-asks k total separations ⌝ }
     ensures { λ r. ⌜ Line-made (row-text (row-of k spread separations positions)) (now (room .exit)) r ⌝ }
@@ -193,8 +194,8 @@ pub fn put_row(
     k: usize,
     spread: u32,
     total: u32,
-    separations: [Tracks; CHANNELS],
-    positions: [Columns; STRIPS],
+    separations: [Tracks; Stack::MAX_CHANNELS],
+    positions: [Columns; Stack::STRIPS],
 ) -> usize
     requires { ⌜ Row-asks k total separations ⌝ }
     ensures { λ r. ⌜ Line-put (row-text (row-of k spread separations positions)) (now (out .entry)) (now (out .exit)) r ⌝ }
@@ -220,8 +221,8 @@ pub fn put_row_at(
     k: usize,
     spread: u32,
     total: u32,
-    separations: [Tracks; CHANNELS],
-    positions: [Columns; STRIPS],
+    separations: [Tracks; Stack::MAX_CHANNELS],
+    positions: [Columns; Stack::STRIPS],
 ) -> usize
     requires { ⌜ (at ≤ 2 ^ 32) × Row-asks k total separations ⌝ }
     ensures { λ r. ⌜ Line-put-at at (row-text (row-of k spread separations positions)) (now (out .entry)) (now (out .exit)) r ⌝ }

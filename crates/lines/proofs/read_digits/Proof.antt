@@ -1,5 +1,4 @@
 -- read_digits meets its contract: the loop keeps Counting. Assumes nothing.
-use Rattle.lines.proofs.Digits.{digit-says, counting-starts, counted-small, counting-steps, counting-refuses, counting-ends}
 use mathlib.Core.Path.{sym, _∙_}
 use lib.ListN.{getD}
 use borrow.Author.Tests.{not-true, not-false}
@@ -12,13 +11,13 @@ use Rattle.lines.proofs.read_digits.Statement.{statement}
 use Rattle.lines.proofs.read_digits.Tie as tie
 
 abbrev Inv-loop : tie.InvT-loop
-Inv-loop field value₀ i₀ i-end value i = Counting field i value
+Inv-loop bytes value₀ i₀ i-end value i = Counting bytes i value
 
 abbrev μ-loop : tie.MeasureT-loop
-μ-loop field value₀ i₀ i-end value i = i-end - i
+μ-loop bytes value₀ i₀ i-end value i = i-end - i
 
 loop-holds : tie.Need-loop-holds Inv-loop μ-loop
-loop-holds c = counting-starts (c .before .args .field .now)
+loop-holds c = counting-starts (c .before .args .bytes .now)
 
 shared-slice-read-x : tie.Need-shared-slice-read-x Inv-loop μ-loop
 shared-slice-read-x c = search needs
@@ -33,13 +32,13 @@ returns c =
     let loop-test = c .before .before .before .loop-test in
     let is-digit = c .before .is-digit in
     let if1 = c .if1 in
-    counting-refuses (start .args .field .now) (loop .i) (loop .value) (loop .inv) (loop-test .taken) (sym (is-digit .ensures) ∙ not-true _ (if1 .taken))
+    counting-refuses (start .args .bytes .now) (loop .i) (loop .value) (loop .inv) (loop-test .taken) (sym (is-digit .ensures) ∙ not-true _ (if1 .taken))
 
 mul-value : tie.Need-mul-value Inv-loop μ-loop
 mul-value c =
     let start = c .before .before .before .before .before .before in
     let loop = c .before .before .before .before .loop in
-    omega (arith, counted-small (start .args .field .now) (loop .i) (loop .value) (loop .inv) (omega arith))
+    omega (arith, counted-small (start .args .bytes .now) (loop .i) (loop .value) (loop .inv) (omega arith))
 
 cast-value : tie.Need-cast-value Inv-loop μ-loop
 cast-value c =
@@ -47,7 +46,7 @@ cast-value c =
     let loop = c .before .before .before .before .loop in
     let is-digit = c .before .is-digit in
     let if1 = c .if1 in
-    omega (arith, digit-says (getD (start .args .field .now) (loop .i) 0) (sym (is-digit .ensures) ∙ not-false _ (if1 .left)))
+    omega (arith, digit-says (getD (start .args .bytes .now) (loop .i) 0) (sym (is-digit .ensures) ∙ not-false _ (if1 .left)))
 
 cast-value-2 : tie.Need-cast-value-2 Inv-loop μ-loop
 cast-value-2 c = search needs
@@ -58,7 +57,7 @@ sub-value c =
     let loop = c .before .before .before .before .loop in
     let is-digit = c .before .is-digit in
     let if1 = c .if1 in
-    omega (arith, digit-says (getD (start .args .field .now) (loop .i) 0) (sym (is-digit .ensures) ∙ not-false _ (if1 .left)))
+    omega (arith, digit-says (getD (start .args .bytes .now) (loop .i) 0) (sym (is-digit .ensures) ∙ not-false _ (if1 .left)))
 
 add-value : tie.Need-add-value Inv-loop μ-loop
 add-value c =
@@ -66,7 +65,7 @@ add-value c =
     let loop = c .before .before .before .before .loop in
     let is-digit = c .before .is-digit in
     let if1 = c .if1 in
-    omega (arith, counted-small (start .args .field .now) (loop .i) (loop .value) (loop .inv) (omega arith), digit-says (getD (start .args .field .now) (loop .i) 0) (sym (is-digit .ensures) ∙ not-false _ (if1 .left)))
+    omega (arith, counted-small (start .args .bytes .now) (loop .i) (loop .value) (loop .inv) (omega arith), digit-says (getD (start .args .bytes .now) (loop .i) 0) (sym (is-digit .ensures) ∙ not-false _ (if1 .left)))
 
 add-i : tie.Need-add-i Inv-loop μ-loop
 add-i c = search needs
@@ -81,14 +80,14 @@ loop-again c =
     let loop-test = c .before .before .before .loop-test in
     let is-digit = c .before .is-digit in
     let if1 = c .if1 in
-    counting-steps (start .args .field .now) (loop .i) (loop .value) (loop .inv) (loop-test .taken) (sym (is-digit .ensures) ∙ not-false _ (if1 .left))
+    counting-steps (start .args .bytes .now) (loop .i) (loop .value) (loop .inv) (loop-test .taken) (sym (is-digit .ensures) ∙ not-false _ (if1 .left))
 
 returns-2 : tie.Need-returns-2 Inv-loop μ-loop
 returns-2 c =
     let start = c .before .before .before in
     let loop = c .before .loop in
     let loop-test = c .loop-test in
-    counting-ends (start .args .field .now) (loop .i) (loop .value) (loop .inv) (loop-test .left)
+    counting-ends (start .args .bytes .now) (loop .i) (loop .value) (loop .inv) (loop-test .left)
 
 pub read-digits-spec : {M : Type 1} → statement M
 read-digits-spec =
