@@ -4,7 +4,7 @@ use mathlib.Core.Path.{_≡_}
 use mathlib.Core.Bool.{Bool, true, false}
 use mathlib.Core.Logic.{_⊎_}
 use mathlib.Core.List.{List}
-use Prim.Native.Nat.{ℕ, zero, suc, _+_, _-_, _*_, _≤_, _<_, min, max}
+use Prim.Native.Nat.{ℕ, suc, _+_, _-_, _*_, _≤_, _<_, min, max}
 use lib.ListN.{length, set}
 use Rattle.stack.specs.Sizes.{channels-held, strips-held, separations-held, totals-held}
 use Rattle.spans.specs.Spans.{Span, span}

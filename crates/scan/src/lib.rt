@@ -9,7 +9,7 @@ ghost use lib.Dec.{ltb, eqb};
 ghost use Rattle.stack.specs.Sizes.{channels-held, separations-held, totals-held};
 ghost use Rattle.spans.specs.Spans.{span};
 ghost use Rattle.spans.specs.Jump.{min-if, max-if};
-ghost use Rattle.solver.specs.Arrays.{bias, given, levels, Two-rows, Sized};
+ghost use Rattle.solver.specs.Arrays.{bias, given, Two-rows, Sized};
 ghost use Rattle.scan.specs.Scan.{Ends-ask, Ends-are, Ends-serve, window-in, Strip-asks, Strip-done, jump-if, Empty-on, Empties-are, Row-is, Cleared, Only-at, Total-asks, Scanning, Scan-asks, Scan-is};
 use solver::ABOVE;
 use solver::ChannelLimits;

@@ -7,7 +7,7 @@ use native.Mathlib.Omega.{arith}
 use lib.ListN.{set, replicate}
 use Rattle.stack.specs.Sizes.{channels-held, last-held, separations-held}
 use Rattle.spans.specs.Spans.{Span, cut, shift-on}
-use Rattle.spans.specs.Solver.{first, opens, first-open, most, stop, back, serves, first-serving, least-serving, forward, separations}
+use Rattle.spans.specs.Solver.{opens, first-open, most, stop, back, serves, first-serving, least-serving, forward, separations}
 use Rattle.solver.specs.Arrays.{bias, entry, sides, leasts-in, sums-in, Given, low-of, high-of, last-of, window-of, level-of, levels, span-in, Stack-asks, Serve-asks, Separate-asks, store}
 use Rattle.solver.specs.Loops.{Separating}
 use Rattle.spans.proofs.First.{first-upto}

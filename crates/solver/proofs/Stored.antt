@@ -1,7 +1,7 @@
 -- A list stored into an array of zeros, and read back. Assumes nothing.
 use mathlib.Core.Path.{_≡_, refl, ap, _∙_}
 use mathlib.Core.List.{List, [], _∷_, _++_, append-assoc}
-use Prim.Native.Nat.{ℕ, zero, suc, _+_, _-_, _≤_}
+use Prim.Native.Nat.{ℕ, zero, suc, _-_, _≤_}
 use native.Mathlib.Nat.{sub-zero, suc-sub-suc}
 use native.Mathlib.Omega.{arith}
 use lib.ListN.{length, replicate, length-append}

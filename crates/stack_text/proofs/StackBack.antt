@@ -11,6 +11,7 @@ use borrow.Author.Tests.{leb-true, ltb-true, le-ltb, lt-leb, lt-ltb, eq-eqb}
 use Rattle.numbers.proofs.Bools.{ands}
 use Rattle.stack.specs.Stack.{Pair, pair, Stack, stack}
 use Rattle.stack.specs.Limits.{rises-above, rising, on-strips, channel-within, channels-within, strips-within, within-limits}
+use Rattle.stack.proofs.Within.{channel-in-limits, strips-count, channels-few}
 use Rattle.text.specs.Text.{fine, stack-word, part-word, nets-word, exactly, in-pairs, entry, first-of, part-content, terminals-refusal, nets-content, text-refusal, file, pairs-of, stack-in-file, stack-in}
 use Rattle.stack_text.specs.StackText.{line-text, lines-text, file-text, terminals-of, file-of, stack-text, Stack-text-read}
 use Rattle.stack_text.proofs.LineBack.{small, line-short, lines-short}
@@ -91,23 +92,6 @@ channel-good lo hi c h k l =
       good = λ n. rw (le-ltb 64 (length (terminals-of c)) short) (terminals-fine lo hi 2 n c (search ands) (search ands));
     }
 
-strips-count : (ls : List ℕ) (cs : List (List Pair)) → channels-within ls cs ≡ true → length ls ≡ suc (length cs)
-unfolding channels-within
-strips-count [] cs h = let z : _≡_ {A = ℕ} 0 1 = cc in absurd (omega arith)
-strips-count (a ∷ []) [] h = refl
-strips-count (a ∷ []) (c ∷ cs) h = let z : _≡_ {A = ℕ} 0 1 = cc in absurd (omega arith)
-strips-count (a ∷ b ∷ ls) [] h = let z : _≡_ {A = ℕ} 0 1 = cc in absurd (omega arith)
-strips-count (a ∷ b ∷ ls) (c ∷ cs) h = ap suc (strips-count (b ∷ ls) cs (search ands))
-
-channel-at : (ls : List ℕ) (cs : List (List Pair)) (c : ℕ) → channels-within ls cs ≡ true → c < length cs →
-    channel-within (getD ls c 0) (getD ls (suc c) 0) (getD cs c []) ≡ true
-unfolding channels-within
-channel-at ls [] c h k = absurd (omega arith)
-channel-at [] (d ∷ cs) c h k = let z : _≡_ {A = ℕ} 0 1 = cc in absurd (omega arith)
-channel-at (a ∷ []) (d ∷ cs) c h k = let z : _≡_ {A = ℕ} 0 1 = cc in absurd (omega arith)
-channel-at (a ∷ b ∷ ls) (d ∷ cs) zero h k = search ands
-channel-at (a ∷ b ∷ ls) (d ∷ cs) (suc c) h k = channel-at (b ∷ ls) cs c (search ands) (omega arith)
-
 strips-back : (ls : List ℕ) → map (λ ns. getD ns 0 0) (map (λ l. l ∷ []) ls) ≡ ls
 strips-back [] = refl
 strips-back (l ∷ ls) = rw (strips-back ls)
@@ -141,11 +125,10 @@ module _ (k : Stack) (h : within-limits k ≡ true) where
   some = leb-true 1 (length (k .channels)) (search ands)
 
   most : length (k .channels) ≤ 8
-  unfolding within-limits
-  most = leb-true (length (k .channels)) 8 (search ands)
+  most = channels-few k h
 
   strips-long : length (k .strips) ≡ suc (length (k .channels))
-  strips-long = strips-count (k .strips) (k .channels) channels-good
+  strips-long = strips-count k h
 
   parts-long : length (parts-in k) ≡ suc (length (k .channels))
   parts-long = length-map (k .strips) (λ l. l ∷ []) ∙ strips-long
@@ -167,7 +150,7 @@ module _ (k : Stack) (h : within-limits k ≡ true) where
       let m : c < length (k .channels) = rw nets-long at l in
       let lower = part-good c (omega arith) .most in
       let upper = part-good (suc c) (omega arith) .most in
-      rw (getD-map (λ c. terminals-of c) (k .channels) c [] [] m) (channel-good _ _ (getD (k .channels) c []) lower upper (channel-at (k .strips) (k .channels) c channels-good m))
+      rw (getD-map (λ c. terminals-of c) (k .channels) c [] [] m) (channel-good _ _ (getD (k .channels) c []) lower upper (channel-in-limits (k .strips) (k .channels) c channels-good m))
 
   shaped : Shaped (file-of k)
   unfolding file-of file
