@@ -18,9 +18,9 @@ use Rattle.channel.specs.Limits.{low-limit, low-term, high-limit, Between}
 use Rattle.channel.proofs.Between.{Biased, greatest-at-most, feasible-between, between-feasible, low-widens, high-widens, low-open, high-open}
 use Rattle.spans.specs.Spans.{In, Fits, last, low-at, high-at}
 use Rattle.spans.specs.Placed.{Placed, alone, under, Widens, Widening, none, more}
-use Rattle.solver.specs.Arrays.{limits-from}
+use Rattle.arrays.specs.Arrays.{limits-from}
 use Rattle.spans.proofs.Limits.{low-capped, high-capped}
-use Rattle.solver.proofs.Levels.{last-is, low-at-of, high-at-of}
+use Rattle.arrays.proofs.Levels.{last-is, low-at-of, high-at-of}
 use Rattle.answer.specs.Solve.{last-use, window, channel-limits, stack-levels}
 
 -- past the count of pairs the limits are those at it

@@ -3,7 +3,7 @@ use mathlib.Core.Path.{_≡_, refl, sym, ap, ap₂, _∙_}
 use mathlib.Core.Bool.{true}
 use mathlib.Core.Logic.{_⊎_, inl, inr}
 use mathlib.Core.List.{List, [], _∷_}
-use Prim.Native.Nat.{ℕ, zero, suc, _+_, _-_, _≤_, _<_}
+use Prim.Native.Nat.{ℕ, zero, suc, _+_, _-_, _≤_, _<_, min}
 use native.Mathlib.Omega.{arith}
 use lib.ListN.{length, getD, set, drop, length-set, replicate, length-replicate, getD-replicate, drop-of-length-le}
 use lib.Seq.{getD-set-same, getD-set-other, set-set, drop-cons}
@@ -27,10 +27,10 @@ use Rattle.plan.specs.Plan.{Lasts-ask, Planned}
 use Rattle.scan.specs.Scan.{Scan-asks, Scan-is}
 use Rattle.scan.specs.declared.Scan.{Scan}
 use Rattle.solver.specs.declared.Placement.{Placement}
-use Rattle.solver.proofs.Separating.{most-small}
-use Rattle.solver.proofs.Levels.{above-at}
-use Rattle.scan.proofs.Serving.{scan-separate-asks}
-use Rattle.solver.specs.Arrays.{bias, entry, sides, lasts-in, sums-in, Given, given, low-of, high-of, last-of, window-of, limits-from, level-of, levels, Sized, Plan-is, Stack-asks, Separate-asks, separations-of, Place-asks, Placement-is}
+use Rattle.arrays.proofs.Levels.{most-small}
+use Rattle.arrays.proofs.Levels.{above-at}
+use Rattle.arrays.specs.Arrays.{bias, entry, sides, lasts-in, sums-in, Given, given, low-of, high-of, last-of, window-of, limits-from, level-of, levels, Sized, Plan-is, Stack-asks}
+use Rattle.solver.specs.Placing.{Separate-asks, separations-of, Place-asks, Placement-is}
 use Rattle.answer.specs.Solve.{last-use, window, channel-limits, stack-levels, bottom, levels-of, total-with, separations-with, positions-with, answer-separations}
 use Rattle.answer.specs.Arrays.{channel-in, strip-in, Limits-in, Held, Windows-in, Answer-is}
 use Rattle.answer.proofs.Legal.{low-bounded}
@@ -228,6 +228,17 @@ module _ (k : Stack) (s : ℕ) (g : Given) (st : Stands k s g) (fits : s < 42949
         separations-are = p .separations-are ∙ ap (padded channels-held) ts;
         positions-are = p .positions-are ∙ ap (padded strips-held) (rw (e, bottom-is k s g st, levels-are k s g st) (one .1));
       }
+
+-- the table that a scan leaves serves for the total that it found
+scan-separate-asks : (g : Given) (k cap : ℕ) (t : List (List (List ℕ))) (r : Scan) → Stack-asks g k → Scan-is g k cap t r → r .total ≤ cap → cap < totals-held → Separate-asks g k (r .total) t
+scan-separate-asks g k cap t r a s h m =
+    record {
+      stack = a;
+      cap = min (r .total) cap;
+      table = record { sized = s .table .sized; filled = λ j n v i e c l. s .table .filled j n v (omega arith) e c l };
+      enough = omega arith;
+      fits = omega arith;
+    }
 
 -- what the plan is made from, and what is held then
 module _ (k : Stack-struct) (limits : List (List (List ℕ))) (lasts : List ℕ) (e : within-limits (stack-of k) ≡ true) (l : Limits-in (stack-of k) (k .count) limits lasts) where

@@ -12,7 +12,7 @@ use Rattle.stack.specs.declared.Stack.{Stack as Stack-struct}
 use Rattle.stack.specs.Sizes.{channels-held, strips-held, separations-held}
 use Rattle.spans.specs.Spans.{Span}
 use Rattle.channel.specs.Limits.{low-limit, high-limit}
-use Rattle.solver.specs.Arrays.{bias, entry, row, sides, lasts-in, Plan-is}
+use Rattle.arrays.specs.Arrays.{bias, entry, row, sides, lasts-in, Plan-is}
 use Rattle.solver.specs.declared.Placement.{Placement}
 use Rattle.answer.specs.Solve.{last-use, window, answer-total, answer-separations, answer-positions}
 

@@ -7,7 +7,7 @@ use Rattle.stack.specs.Stack.{Pair, Stack}
 use Rattle.channel.specs.Limits.{low-limit, high-limit}
 use Rattle.spans.specs.Spans.{Span, span, Limit}
 use Rattle.spans.specs.Solver.{Level, level, least-total, separations, positions}
-use Rattle.solver.specs.Arrays.{limits-from}
+use Rattle.arrays.specs.Arrays.{limits-from}
 
 -- the WINDOW of a strip: its positions within the spread
 unfoldable pub window : (s length : ℕ) → Span

@@ -10,7 +10,7 @@ use Rattle.stack.specs.Stack.{Stack}
 use Rattle.channel.specs.Limits as limits
 use Rattle.spans.specs.Spans as spans
 use Rattle.spans.specs.Solver as solver
-use Rattle.solver.specs.Arrays.{limits-from}
+use Rattle.arrays.specs.Arrays.{limits-from}
 use Rattle.answer.specs.Solve as solve
 use Rattle.rows.specs.Walk as walk
 use Rattle.lines.specs.Lines as lines

@@ -10,7 +10,7 @@ use lib.Seq.{getD-set-same, getD-set-other}
 use Rattle.numbers.proofs.Orders.{lt-or-eq}
 use Rattle.stack.specs.Sizes.{strips-held, last-held}
 use Rattle.spans.specs.Solver.{first-open}
-use Rattle.solver.specs.Arrays.{entry, sides, low-in, high-in, sums, Sums-are, Leasts-are}
+use Rattle.arrays.specs.Arrays.{entry, sides, low-in, high-in, sums, Sums-are, Leasts-are}
 use Rattle.plan.specs.Plan.{Lasts-ask}
 
 -- THE SUMS above each strip

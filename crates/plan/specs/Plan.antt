@@ -3,7 +3,7 @@ use mathlib.Core.Path.{_≡_}
 use mathlib.Core.List.{List}
 use Prim.Native.Nat.{ℕ, _≤_, _<_}
 use Rattle.stack.specs.Sizes.{channels-held, separations-held}
-use Rattle.solver.specs.Arrays.{entry, lasts-in, Plan-is}
+use Rattle.arrays.specs.Arrays.{entry, lasts-in, Plan-is}
 
 -- k channels whose last separations are within the arrays
 pub record Lasts-ask (lasts : List ℕ) (k : ℕ) : Type 0 where

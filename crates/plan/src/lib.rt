@@ -3,13 +3,13 @@ ghost use mathlib.Core.Path.{_≡_};
 ghost use Prim.Native.Nat.{_<_};
 ghost use Rattle.stack.specs.Sizes.{separations-held};
 ghost use Rattle.spans.specs.Solver.{first-open};
-ghost use Rattle.solver.specs.Arrays.{low-in, high-in, Sums-are, Leasts-are};
+ghost use Rattle.arrays.specs.Arrays.{low-in, high-in, Sums-are, Leasts-are};
 ghost use Rattle.plan.specs.Plan.{Lasts-ask, Planned};
-use solver::ChannelLimits;
-use solver::HIGH;
-use solver::LOW;
-use solver::Plan;
-use solver::StackLimits;
+use arrays::ChannelLimits;
+use arrays::HIGH;
+use arrays::LOW;
+use arrays::Plan;
+use arrays::StackLimits;
 use stack::Stack;
 
 // The least separation whose limit is open, or one past the last.

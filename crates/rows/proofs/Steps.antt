@@ -11,7 +11,7 @@ use Rattle.stack.specs.Stack.{Stack, longest}
 use Rattle.spans.specs.Spans.{nonempty}
 use Rattle.spans.specs.Solver.{most, back, first, first-total, least-total}
 use Rattle.spans.specs.Jump.{None-within}
-use Rattle.solver.specs.Arrays.{bias, Given, window-of, levels}
+use Rattle.arrays.specs.Arrays.{bias, Given, window-of, levels}
 use Rattle.scan.specs.Scan.{short-of, Scan-is}
 use Rattle.scan.specs.declared.Scan.{Scan}
 use Rattle.spans.proofs.First.{first-upto, first-holds, first-least}

@@ -7,7 +7,7 @@ use Rattle.stack.specs.Stack.{longest}
 use Rattle.stack.specs.Value.{stack-of}
 use Rattle.stack.specs.declared.Stack.{Stack as Stack-struct}
 use Rattle.stack.specs.Sizes.{strips-held}
-use Rattle.solver.specs.Arrays.{entry, sums-in, given, Sized}
+use Rattle.arrays.specs.Arrays.{entry, sums-in, given, Sized}
 use Rattle.scan.specs.Scan.{Scan-is}
 use Rattle.scan.specs.declared.Scan.{Scan}
 use Rattle.answer.specs.Arrays.{Held, Windows-in}

@@ -3,13 +3,13 @@ ghost use Rattle.stack.specs.Value.{stack-of};
 ghost use Rattle.answer.specs.Arrays.{Answer-is};
 ghost use Rattle.rows.specs.Evaluate.{Evaluate-asks, Evaluated, Place-row-asks};
 use answer::fill_windows;
+use arrays::Plan;
+use arrays::SpanTable;
+use arrays::StackLimits;
+use arrays::Windows;
 use scan::Scan;
 use scan::scan_totals;
 use solver::Placement;
-use solver::Plan;
-use solver::SpanTable;
-use solver::StackLimits;
-use solver::Windows;
 use solver::place_in;
 use stack::Stack;
 

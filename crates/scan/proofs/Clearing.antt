@@ -8,7 +8,7 @@ use lib.ListN.{set}
 use Rattle.numbers.proofs.Orders.{lt-or-eq}
 use Rattle.stack.specs.Sizes.{strips-held, totals-held}
 use Rattle.spans.specs.Spans.{Span, span}
-use Rattle.solver.specs.Arrays.{row, span-at, window-at, Two-rows, Sized, span-in}
+use Rattle.arrays.specs.Arrays.{row, span-at, window-at, Two-rows, Sized, span-in}
 use Rattle.scan.specs.Scan.{span-put, none-in, Row-is, Cleared}
 use Rattle.scan.proofs.Tables.{span-same, span-other, two-rows-put, rows-same, rows-other, sized-set}
 

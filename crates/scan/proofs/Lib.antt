@@ -1,6 +1,5 @@
--- The laws of the scan: cells, strips, totals, and what its tables serve for.
+-- The laws of the scan: cells, strips, totals.
 pub mod Tables
 pub mod Scanning
 pub mod Clearing
 pub mod Scans
-pub mod Serving

@@ -13,11 +13,11 @@ use Rattle.numbers.proofs.Orders.{lt-or-eq}
 use Rattle.spans.specs.Spans.{Span, span, nonempty}
 use Rattle.spans.specs.Solver.{start, stop, cell}
 use Rattle.spans.specs.Jump.{min-if, max-if, nearest, furthest, between, shortfall, near-of, reach-of, cell-short}
-use Rattle.solver.specs.Arrays.{bias, sides, low-in, high-in, span-at, span-in}
+use Rattle.arrays.specs.Arrays.{bias, sides, low-in, high-in, span-at, span-in}
 use Rattle.scan.specs.Scan.{put-span, Ends-ask, Ends-are, Ends-serve, Stretching, window-in, Strip-asks, Strip-done, none-in, Empty-on}
 use Rattle.scan.specs.declared.Cell.{Cell}
 use Rattle.scan.specs.declared.Ends.{Ends}
-use Rattle.solver.proofs.Loops.{one-left, none-left}
+use Rattle.arrays.proofs.Searches.{one-left, none-left}
 use Rattle.spans.proofs.Jump.{cell-ends}
 
 -- one span taken in, or left out

@@ -15,15 +15,15 @@ use Rattle.stack.specs.Sizes.{strips-held, totals-held}
 use Rattle.spans.specs.Spans.{Span, nonempty}
 use Rattle.spans.specs.Solver.{opens, first-open, most, start, stop, cell, back, first-total}
 use Rattle.spans.specs.Jump.{nearest, furthest, shortfall, cell-short}
-use Rattle.solver.specs.Arrays.{bias, entry, sides, leasts-in, sums-in, Given, low-of, high-of, last-of, window-of, levels, Sized, span-in, Stack-asks, Filled}
+use Rattle.arrays.specs.Arrays.{bias, entry, sides, leasts-in, sums-in, Given, low-of, high-of, last-of, window-of, levels, Sized, span-in, Stack-asks, Filled}
 use Rattle.scan.specs.declared.Cell.{Cell}
 use Rattle.scan.specs.Scan.{put-span, Strip-asks, Strip-done, jump-if, short-of, Empty-on, none-in, Cleared, Only-at, Empties-are, Scanning, Total-asks, Scan-asks, Scan-is}
-use Rattle.solver.specs.Loops.{Searching}
-use Rattle.solver.proofs.Loops.{searching-hit, searching-miss, searching-end, ends-full, ends-empty}
+use Rattle.arrays.specs.Search.{Searching}
+use Rattle.arrays.proofs.Searches.{searching-hit, searching-miss, searching-end, ends-full, ends-empty}
 use Rattle.scan.proofs.Tables.{put-same, put-apart, sized-put}
 use Rattle.spans.proofs.First.{first-upto}
 use Rattle.scan.proofs.Scanning.{cell-none, short-empty}
-use Rattle.solver.proofs.Levels.{last-is, least-at, above-at, cell-back, back-ends, open-of, low-at-of, high-at-of, in-use as use-within}
+use Rattle.arrays.proofs.Levels.{last-is, least-at, above-at, cell-back, back-ends, open-of, low-at-of, high-at-of, in-use as use-within}
 
 -- A SHORTFALL from the arrays is that of the levels
 nearest-same : (b : ℕ) (high₁ high₂ : ℕ → ℕ) (f₁ f₂ : ℕ → Span) (q n t : ℕ) → ((j : ℕ) → q ≤ j → j < q + n → (high₁ j ≡ high₂ j) × (f₁ j ≡ f₂ j)) →

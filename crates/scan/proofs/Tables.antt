@@ -1,15 +1,15 @@
--- A span written into two rows, and two rows into a table. Assumes nothing.
+-- A span written into two rows, two rows into a table, and a table of zeros. Assumes nothing.
 use mathlib.Core.Path.{_≡_, ap, ap₂, _∙_}
 use mathlib.Core.Logic.{_⊎_, inl, inr}
 use mathlib.Core.List.{List, []}
 use Prim.Native.Nat.{ℕ, zero, suc, _<_}
 use native.Mathlib.Omega.{arith}
-use lib.ListN.{length, set, length-set}
+use lib.ListN.{length, set, replicate, length-set, length-replicate, getD-replicate}
 use lib.Seq.{getD-set-same, getD-set-other, set-set}
 use Rattle.numbers.proofs.Orders.{eq-or-not}
 use Rattle.stack.specs.Sizes.{strips-held, totals-held}
 use Rattle.spans.specs.Spans.{Span, span}
-use Rattle.solver.specs.Arrays.{row, sides, span-at, Two-rows, Sized, span-in}
+use Rattle.arrays.specs.Arrays.{row, sides, span-at, Two-rows, Sized, span-in}
 use Rattle.scan.specs.Scan.{cell-put, span-put, put-span}
 
 -- A SPAN WRITTEN into two rows
@@ -79,3 +79,21 @@ module _ (t : List (List (List ℕ))) (s : Sized t) (i v : ℕ) (w : Span) (h : 
 
   pub sized-put : Sized (put-span t i v w)
   sized-put = rw put-rows (sized-set t s i h (span-put (sides t i) v w) (two-rows-put (sides t i) (s .rows i h) v w))
+
+-- a table of zeros is of the right size
+abbrev zeros : List ℕ
+zeros = replicate totals-held 0
+
+pub sized-zeros : Sized (replicate strips-held (replicate 2 zeros))
+sized-zeros =
+    record {
+      strips = length-replicate strips-held (replicate 2 zeros);
+      rows = λ i h. rw (getD-replicate strips-held i (replicate 2 zeros) [] h) zero-rows;
+    }
+  where
+    zero-rows : Two-rows (replicate 2 zeros)
+    zero-rows =
+        record {
+          two = length-replicate 2 zeros;
+          cells = λ s h. rw (getD-replicate 2 s zeros [] h) (length-replicate {A = ℕ} totals-held 0);
+        }

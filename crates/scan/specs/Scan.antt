@@ -10,7 +10,7 @@ use Rattle.stack.specs.Sizes.{channels-held, strips-held, separations-held, tot
 use Rattle.spans.specs.Spans.{Span, span}
 use Rattle.spans.specs.Solver.{most, cell, back, first-total}
 use Rattle.spans.specs.Jump.{nearest, furthest, between, shortfall, cell-short, short-at}
-use Rattle.solver.specs.Arrays.{bias, entry, row, sides, low-in, high-in, span-at, window-at, Given, window-of, level-of, levels, Two-rows, Sized, span-in, Stack-asks, Filled}
+use Rattle.arrays.specs.Arrays.{bias, entry, row, sides, low-in, high-in, span-at, window-at, Given, window-of, level-of, levels, Two-rows, Sized, span-in, Stack-asks, Filled}
 use Rattle.scan.specs.declared.Cell.{Cell}
 use Rattle.scan.specs.declared.Ends.{Ends}
 use Rattle.scan.specs.declared.Scan.{Scan}

@@ -9,21 +9,21 @@ ghost use lib.Dec.{ltb, eqb};
 ghost use Rattle.stack.specs.Sizes.{channels-held, separations-held, totals-held};
 ghost use Rattle.spans.specs.Spans.{span};
 ghost use Rattle.spans.specs.Jump.{min-if, max-if};
-ghost use Rattle.solver.specs.Arrays.{bias, given, Two-rows, Sized};
+ghost use Rattle.arrays.specs.Arrays.{bias, given, Two-rows, Sized};
 ghost use Rattle.scan.specs.Scan.{Ends-ask, Ends-are, Ends-serve, window-in, Strip-asks, Strip-done, jump-if, Empty-on, Empties-are, Row-is, Cleared, Only-at, Total-asks, Scanning, Scan-asks, Scan-is};
-use solver::ABOVE;
-use solver::ChannelLimits;
-use solver::FROM;
-use solver::HIGH;
-use solver::LAST;
-use solver::LEAST;
-use solver::LOW;
-use solver::Plan;
-use solver::SpanTable;
-use solver::StackLimits;
-use solver::StripSpans;
-use solver::UPTO;
-use solver::Windows;
+use arrays::ABOVE;
+use arrays::ChannelLimits;
+use arrays::FROM;
+use arrays::HIGH;
+use arrays::LAST;
+use arrays::LEAST;
+use arrays::LOW;
+use arrays::Plan;
+use arrays::SpanTable;
+use arrays::StackLimits;
+use arrays::StripSpans;
+use arrays::UPTO;
+use arrays::Windows;
 
 // Of spans shifted back: the nearest start and the furthest end, each raised by the bias once more.
 struct Ends {

@@ -1,6 +1,5 @@
 -- The theorems of the solver.
-pub mod Loops
-pub mod Levels
+pub mod Serves
 pub mod Separating
 pub mod Fixing
 pub mod Positioning

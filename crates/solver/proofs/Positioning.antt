@@ -9,11 +9,12 @@ use Rattle.stack.specs.Sizes.{strips-held}
 use Rattle.spans.specs.Spans.{Span, low-at}
 use Rattle.spans.specs.Solver.{Level, lowest, positions-on, positions}
 use Rattle.spans.specs.Placed.{Placed, under}
-use Rattle.solver.specs.Arrays.{bias, entry, row, sides, Given, low-of, high-of, last-of, window-of, level-of, levels, store, taken, fixed-from, Starts-are, Next-asks, Position-asks}
+use Rattle.arrays.specs.Arrays.{bias, entry, row, sides, Given, low-of, high-of, last-of, window-of, level-of, levels}
+use Rattle.solver.specs.Placing.{store, taken, fixed-from, Starts-are, Next-asks, Position-asks}
 use Rattle.solver.specs.Loops.{Positioning}
 use Rattle.spans.proofs.Separations.{bottom-in}
 use Rattle.spans.proofs.Positions.{lowest-placed}
-use Rattle.solver.proofs.Levels.{low-at-any}
+use Rattle.arrays.proofs.Levels.{low-at-any}
 
 above-placed : {b : ℕ} {w : Span} {c : Level} {cs : List Level} {t x y : ℕ} {ts ys : List ℕ} → Placed b w (c ∷ cs) (t ∷ ts) x (y ∷ ys) → Placed b (c .window) cs ts y ys
 above-placed (under i f r) = r

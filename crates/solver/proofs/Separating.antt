@@ -1,17 +1,18 @@
 -- The loop that finds the separations, from the bottom channel up. Assumes nothing.
 use mathlib.Core.Path.{_≡_, _∙_}
 use mathlib.Core.List.{List}
-use Prim.Native.Nat.{ℕ, zero, suc, _+_, _-_, _*_, _≤_, _<_, min, max}
+use Prim.Native.Nat.{ℕ, zero, suc, _+_, _-_, _≤_, _<_, min, max}
 use native.Mathlib.Numerals.{add-one}
 use native.Mathlib.Omega.{arith}
 use lib.ListN.{set, replicate}
-use Rattle.stack.specs.Sizes.{channels-held, last-held, separations-held}
+use Rattle.stack.specs.Sizes.{channels-held, separations-held}
 use Rattle.spans.specs.Spans.{Span, cut, shift-on}
 use Rattle.spans.specs.Solver.{opens, first-open, most, stop, back, serves, first-serving, least-serving, forward, separations}
-use Rattle.solver.specs.Arrays.{bias, entry, sides, leasts-in, sums-in, Given, low-of, high-of, last-of, window-of, level-of, levels, span-in, Stack-asks, Serve-asks, Separate-asks, store}
+use Rattle.arrays.specs.Arrays.{bias, entry, sides, leasts-in, sums-in, Given, low-of, high-of, last-of, window-of, level-of, levels, span-in}
+use Rattle.solver.specs.Placing.{Serve-asks, Separate-asks, store}
 use Rattle.solver.specs.Loops.{Separating}
 use Rattle.spans.proofs.First.{first-upto}
-use Rattle.solver.proofs.Levels.{last-is, most-fewer, least-at, above-at, serving-back, forward-back}
+use Rattle.arrays.proofs.Levels.{most-small, most-fewer, least-at, above-at, serving-back, forward-back}
 
 -- what is found is at most one past the last separation
 pub open-bound : (low high : ℕ → ℕ) (m : ℕ) → first-open low high m ≤ suc m
@@ -21,13 +22,6 @@ open-bound low high m = omega (arith, first-upto (opens low high) 0 (suc m))
 pub serving-bound : (b : ℕ) (low high : ℕ → ℕ) (o m a : ℕ) (f : ℕ → Span) (s : Span) (v : ℕ) → o ≤ suc m → first-serving b low high o m a f s v ≤ suc m
 unfolding first-serving
 serving-bound b low high o m a f s v h = omega (arith, first-upto (serves b low high a f s v) o (stop m v - o))
-
--- the last separations of a stack sum to what the tables hold
-pub most-small : (g : Given) (k : ℕ) → Stack-asks g k → (i n : ℕ) → i + n ≡ k → most (levels g i n) ≤ last-held * n
-unfolding most levels
-most-small g k s i zero e = omega arith
-most-small g k s i (suc n) e =
-    omega (arith, most-small g k s (suc i) n (omega arith), last-is (low-of g i) (high-of g i) (last-of g i), s .listed i (omega arith))
 
 -- to pass a span on asks nothing of what is above
 pub pass-on-asks : (c : List (List ℕ)) (last above from upto : ℕ) → Serve-asks c last above from upto → Serve-asks c last 0 from upto

@@ -1,3 +1,3 @@
--- The solver: windows and limit lists in, least total and placement out.
-pub mod Arrays
+-- The placement for a total, from windows, limit lists and a table of spans.
+pub mod Placing
 pub mod Loops

@@ -1,18 +1,14 @@
--- The invariants of the solver's loops over separations, totals and strips: what is still to be done from q on gives the whole. Assumes nothing: these are definitions.
+-- The invariants of the loops over channels and strips: what is still to be done from one on gives the whole. Assumes nothing: these are definitions.
 use mathlib.Core.Path.{_≡_}
-use mathlib.Core.Bool.{Bool}
 use mathlib.Core.List.{List}
-use Prim.Native.Nat.{ℕ, suc, _+_, _-_, _*_, _≤_, _<_}
+use Prim.Native.Nat.{ℕ, suc, _+_, _*_, _≤_, _<_}
 use lib.ListN.{replicate}
 use Rattle.stack.specs.Sizes.{channels-held, strips-held}
 use Rattle.spans.specs.Spans.{Span}
-use Rattle.spans.specs.Solver.{first, separations, positions-on, positions}
+use Rattle.spans.specs.Solver.{separations, positions-on, positions}
 use Rattle.spans.specs.Placed.{Placed}
-use Rattle.solver.specs.Arrays.{bias, Given, window-of, levels, store, taken, fixed-from, Starts-are}
-
--- a search for the first number below stop at which f is true, at q
-pub record Searching (f : ℕ → Bool) (stop q found : ℕ) : Type 0 where
-  pub left : first f q (stop - q) ≡ found
+use Rattle.arrays.specs.Arrays.{bias, Given, window-of, levels}
+use Rattle.solver.specs.Placing.{store, taken, fixed-from, Starts-are}
 
 -- the separations of the channels below i written, strip i in the span s, the total v left for the channels from i on
 pub record Separating (g : Given) (k total i v : ℕ) (s : Span) (ts : List ℕ) : Type 0 where

@@ -1,4 +1,18 @@
 // The placement of a stack for a total, from windows, limit lists and a table of spans.
+use arrays::ABOVE;
+use arrays::ChannelLimits;
+use arrays::FROM;
+use arrays::HIGH;
+use arrays::LAST;
+use arrays::LEAST;
+use arrays::LOW;
+use arrays::Plan;
+use arrays::SpanTable;
+use arrays::StackLimits;
+use arrays::StripSpans;
+use arrays::UPTO;
+use arrays::Window;
+use arrays::Windows;
 use numbers::difference;
 use numbers::greater;
 use numbers::lesser;
@@ -12,39 +26,8 @@ ghost use Rattle.stack.specs.Value.{tracks-of, columns-of};
 ghost use Rattle.stack.specs.Sizes.{channels-held, strips-held, separations-held};
 ghost use Rattle.spans.specs.Spans.{span, cut, shift-back, shift-on};
 ghost use Rattle.spans.specs.Solver.{stop, first-serving, separations, positions};
-ghost use Rattle.solver.specs.Arrays.{bias, entry, low-in, high-in, span-at, window-at, given, window-of, levels, Stack-asks, Serve-asks, Separate-asks, store, taken, Starts-are, Next-asks, Position-asks, Place-asks, Placement-is};
-
-// The two rows of a channel's limits, with a place for each separation.
-pub const LOW: usize = 0;
-
-pub const HIGH: usize = 1;
-
-pub type ChannelLimits = [[u64; Stack::SEPARATIONS]; 2];
-
-pub type StackLimits = [ChannelLimits; Stack::MAX_CHANNELS];
-
-// The three rows of a plan, which holds for every spread: of each channel the last separation of use and the least open one, of each strip the sum of the last
-// separations above it.
-pub const LAST: usize = 0;
-
-pub const LEAST: usize = 1;
-
-pub const ABOVE: usize = 2;
-
-pub type Plan = [[usize; Stack::STRIPS]; 3];
-
-// The two ends of a window, and the two rows of a strip's spans, with a place for each total.
-pub const FROM: usize = 0;
-
-pub const UPTO: usize = 1;
-
-pub type Window = [u64; 2];
-
-pub type Windows = [Window; Stack::STRIPS];
-
-pub type StripSpans = [[u64; Stack::TOTALS]; 2];
-
-pub type SpanTable = [StripSpans; Stack::STRIPS];
+ghost use Rattle.arrays.specs.Arrays.{bias, entry, low-in, high-in, span-at, window-at, given, window-of, levels, Stack-asks};
+ghost use Rattle.solver.specs.Placing.{Serve-asks, Separate-asks, store, taken, Starts-are, Next-asks, Position-asks, Place-asks, Placement-is};
 
 // A span of positions: from ≤ x < upto.
 struct Span {

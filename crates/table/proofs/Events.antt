@@ -10,7 +10,7 @@ use Rattle.stack.specs.Limits.{within-limits}
 use Rattle.stack.specs.Value.{stack-of}
 use Rattle.stack.specs.declared.Stack.{Stack as Stack-struct}
 use Rattle.stack.proofs.Within.{stack-channels}
-use Rattle.solver.specs.Arrays.{entry, sums-in, given}
+use Rattle.arrays.specs.Arrays.{entry, sums-in, given}
 use Rattle.scan.specs.Scan.{Scan-is}
 use Rattle.scan.specs.declared.Scan.{Scan}
 use Rattle.answer.specs.Solve.{answer-total}

@@ -7,7 +7,7 @@ use Rattle.stack.specs.Stack.{Stack, longest}
 use Rattle.stack.specs.Value.{stack-of}
 use Rattle.stack.specs.declared.Stack.{Stack as Stack-struct}
 use Rattle.stack.specs.Sizes.{strips-held}
-use Rattle.solver.specs.Arrays.{entry, sums-in, Sized}
+use Rattle.arrays.specs.Arrays.{entry, sums-in, Sized}
 use Rattle.answer.specs.Solve.{answer-total}
 use Rattle.rows.specs.Walk.{rows-walk, widest, rows-of}
 use Rattle.answer.specs.Arrays.{Held}

@@ -2,7 +2,7 @@
 use mathlib.Core.Path.{refl}
 use native.Mathlib.Omega.{arith}
 use Rattle.stack.specs.Value.{stack-of}
-use Rattle.scan.proofs.Serving.{sized-zeros}
+use Rattle.scan.proofs.Tables.{sized-zeros}
 use Rattle.answer.proofs.Standing.{limits-start, windows-start, filled-lasts, held-made, held-scan-asks, whole-place-asks, whole-answers}
 use borrow.Author.Needs.{needs}
 use Rattle.answer.proofs.answer.Statement.{statement}

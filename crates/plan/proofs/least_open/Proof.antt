@@ -2,10 +2,10 @@
 use Prim.Native.Nat.{suc, _-_}
 use native.Mathlib.Omega.{arith}
 use borrow.Author.Tests.{le-leb, lt-leb}
-use Rattle.solver.specs.Arrays.{low-in, high-in}
+use Rattle.arrays.specs.Arrays.{low-in, high-in}
 use Rattle.spans.specs.Solver.{opens, first-open}
-use Rattle.solver.specs.Loops.{Searching}
-use Rattle.solver.proofs.Loops.{opening-start, searching-hit, searching-miss, searching-end}
+use Rattle.arrays.specs.Search.{Searching}
+use Rattle.arrays.proofs.Searches.{opening-start, searching-hit, searching-miss, searching-end}
 use borrow.Author.Needs.{needs}
 use Rattle.plan.proofs.least_open.Statement.{statement}
 use Rattle.plan.proofs.least_open.Tie as tie

@@ -2,7 +2,7 @@
 use mathlib.Core.Path.{_≡_}
 use Prim.Native.Nat.{_-_, _≤_}
 use native.Mathlib.Omega.{arith}
-use Rattle.solver.specs.Arrays.{Leasts-are}
+use Rattle.arrays.specs.Arrays.{Leasts-are}
 use Rattle.plan.proofs.Sums.{leasts-start, leasts-step}
 use borrow.Author.Needs.{needs}
 use Rattle.plan.proofs.least_opens.Statement.{statement}

@@ -2,7 +2,7 @@
 use mathlib.Core.Path.{_≡_}
 use Prim.Native.Nat.{_-_, _≤_}
 use native.Mathlib.Omega.{arith}
-use Rattle.solver.specs.Arrays.{Sums-are}
+use Rattle.arrays.specs.Arrays.{Sums-are}
 use Rattle.plan.proofs.Sums.{sums-start, sums-room, sums-step}
 use borrow.Author.Needs.{needs}
 use Rattle.plan.proofs.sums_above.Statement.{statement}

@@ -3,7 +3,7 @@ use mathlib.Core.Path.{refl}
 use Prim.Native.Nat.{ℕ, _-_, _≤_}
 use native.Mathlib.Omega.{arith}
 use Rattle.spans.specs.Jump.{nearest, furthest}
-use Rattle.solver.specs.Arrays.{bias, low-in, high-in, span-at}
+use Rattle.arrays.specs.Arrays.{bias, low-in, high-in, span-at}
 use Rattle.scan.specs.Scan.{Stretching}
 use Rattle.scan.proofs.Scanning.{stretching-starts, stretching-raised, stretching-ends}
 use borrow.Author.Needs.{needs}

@@ -2,7 +2,7 @@
 use mathlib.Core.Path.{_≡_}
 use Prim.Native.Nat.{_≤_}
 use native.Mathlib.Omega.{arith}
-use Rattle.solver.specs.Arrays.{given}
+use Rattle.arrays.specs.Arrays.{given}
 use Rattle.scan.specs.Scan.{Scanning, Empties-are, Only-at}
 use Rattle.scan.proofs.Scans.{only-start, total-strip-asks, bound-room, total-strip, total-skip, total-none}
 use borrow.Author.Needs.{needs}

@@ -4,10 +4,10 @@ use Prim.Native.Nat.{suc, _+_, _-_, _≤_}
 use native.Mathlib.Omega.{arith}
 use Rattle.spans.specs.Spans.{nonempty}
 use Rattle.spans.specs.Solver.{back, first-total}
-use Rattle.solver.specs.Arrays.{bias, given, window-of, levels}
-use Rattle.solver.specs.Loops.{Searching}
+use Rattle.arrays.specs.Arrays.{bias, given, window-of, levels}
+use Rattle.arrays.specs.Search.{Searching}
 use Rattle.scan.specs.Scan.{Scanning, Empties-are, Cleared}
-use Rattle.solver.proofs.Loops.{totalling-start}
+use Rattle.arrays.proofs.Searches.{totalling-start}
 use Rattle.scan.proofs.Scans.{none-yet, scanning-start, empties-start, cleared-start, cleared-here, scan-found, scanning-next, empties-next, cleared-next, totals-miss, scan-none}
 use borrow.Author.Needs.{needs}
 use Rattle.scan.proofs.scan_totals.Statement.{statement}

@@ -1,5 +1,5 @@
 -- stretch meets its contract. Assumes nothing.
-use Rattle.solver.specs.Arrays.{bias}
+use Rattle.arrays.specs.Arrays.{bias}
 use Rattle.scan.proofs.Scanning.{stretched, not-stretched}
 use borrow.Author.Needs.{needs}
 use Rattle.scan.proofs.stretch.Statement.{statement}

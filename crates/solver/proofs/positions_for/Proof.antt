@@ -3,7 +3,7 @@ use Prim.Native.Nat.{_-_}
 use native.Mathlib.Omega.{arith}
 use Rattle.stack.specs.Value.{tracks-of, columns-of}
 use Rattle.numbers.proofs.Lists.{map-set}
-use Rattle.solver.specs.Arrays.{given}
+use Rattle.arrays.specs.Arrays.{given}
 use Rattle.solver.specs.Loops.{Positioning}
 use Rattle.solver.proofs.Fixing.{track-at}
 use Rattle.solver.proofs.Positioning.{positioning-start, position-small, next-asks, positioning-step, positioning-end}

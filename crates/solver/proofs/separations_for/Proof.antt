@@ -4,7 +4,7 @@ use native.Mathlib.Omega.{arith}
 use Rattle.stack.specs.Value.{tracks-of}
 use Rattle.numbers.proofs.Lists.{map-set}
 use Rattle.spans.specs.Spans.{span}
-use Rattle.solver.specs.Arrays.{given}
+use Rattle.arrays.specs.Arrays.{given}
 use Rattle.solver.specs.Loops.{Separating}
 use Rattle.solver.proofs.Separating.{pass-on-asks, separating-start, separating-asks, separation-small, separating-step, separating-end}
 use borrow.Author.Needs.{needs}

@@ -4,9 +4,10 @@ use Prim.Native.Nat.{_-_, _≤_}
 use native.Mathlib.Omega.{arith}
 use Rattle.spans.specs.Spans.{span}
 use Rattle.spans.specs.Solver.{stop, serves, first-serving}
-use Rattle.solver.specs.Arrays.{bias, low-in, high-in, span-at}
-use Rattle.solver.specs.Loops.{Searching}
-use Rattle.solver.proofs.Loops.{serving-start, serves-full, serves-empty, searching-hit, searching-miss, searching-end}
+use Rattle.arrays.specs.Arrays.{bias, low-in, high-in, span-at}
+use Rattle.arrays.specs.Search.{Searching}
+use Rattle.arrays.proofs.Searches.{searching-hit, searching-miss, searching-end}
+use Rattle.solver.proofs.Serves.{serving-start, serves-full, serves-empty}
 use borrow.Author.Needs.{needs}
 use Rattle.solver.proofs.serving.Statement.{statement}
 use Rattle.solver.proofs.serving.Tie as tie

@@ -6,7 +6,7 @@ use lib.ListN.{replicate}
 use Rattle.stack.specs.Value.{tracks-of}
 use Rattle.stack.specs.Sizes.{strips-held}
 use Rattle.spans.specs.Spans.{span}
-use Rattle.solver.specs.Arrays.{given}
+use Rattle.arrays.specs.Arrays.{given}
 use Rattle.solver.specs.Loops.{Fixing}
 use Rattle.solver.proofs.Fixing.{track-at, fixing-start, fixing-asks, fixing-step, fixing-end}
 use borrow.Author.Needs.{needs}

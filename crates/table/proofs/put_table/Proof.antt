@@ -1,7 +1,7 @@
 -- put_table meets its contract: the walk from event to event up to the sum of the lengths. Assumes nothing.
 use mathlib.Core.Path.{_≡_, _∙_}
 use Rattle.table.proofs.Events.{sum-widest}
-use Rattle.scan.proofs.Serving.{sized-zeros}
+use Rattle.scan.proofs.Tables.{sized-zeros}
 use lib.ListN.{length}
 use mathlib.Core.Path.{refl}
 use Prim.Native.Nat.{_-_}

@@ -2,16 +2,17 @@
 use mathlib.Core.Path.{_≡_, refl, sym, ap, ap₂, _∙_}
 use mathlib.Core.Bool.{Bool, true, false}
 use mathlib.Core.List.{List, [], _∷_}
-use Prim.Native.Nat.{ℕ, zero, suc, _+_, _-_, _≤_, _<_, min, max}
+use Prim.Native.Nat.{ℕ, zero, suc, _+_, _-_, _*_, _≤_, _<_, min, max}
 use native.Mathlib.Omega.{arith}
 use native.Mathlib.Nat.{add-zero}
 use lib.Dec.{leb}
 use lib.ListN.{length, getD}
+use Rattle.stack.specs.Sizes.{last-held}
 use Rattle.spans.specs.Spans.{Span, span, Limit, limit, last, low-at, high-at, cut, shift-on, nonempty, join-if, gather}
 use Rattle.spans.specs.Solver.{Level, first, first-open, least-open, most, start, stop, cell, back, serves, first-serving, least-serving, forward}
 use Rattle.spans.proofs.Limits.{low-capped, high-capped}
 use Rattle.spans.proofs.First.{first-hit, first-miss}
-use Rattle.solver.specs.Arrays.{bias, entry, lasts-in, leasts-in, sums-in, Given, low-of, high-of, last-of, window-of, limits-from, level-of, levels, sums, Plan-is}
+use Rattle.arrays.specs.Arrays.{bias, entry, lasts-in, leasts-in, sums-in, Given, low-of, high-of, last-of, window-of, limits-from, level-of, levels, sums, Plan-is, Stack-asks}
 
 module _ (low high : ℕ → ℕ) where
   limits-length : (q n : ℕ) → length (limits-from low high q n) ≡ n
@@ -100,6 +101,13 @@ pub most-fewer : (g : Given) (d i n : ℕ) → most (levels g (i + d) n) ≤ mos
 unfolding most levels
 most-fewer g zero i n = let z : 0 + n ≡ n = omega arith in rw (add-zero, z) (omega arith)
 most-fewer g (suc d) i n = let z : i + suc d ≡ suc i + d = omega arith in let y : suc d + n ≡ suc (d + n) = omega arith in rw (z, y) (omega (arith, most-fewer g d (suc i) n))
+
+-- the last separations of a stack sum to what the tables hold
+pub most-small : (g : Given) (k : ℕ) → Stack-asks g k → (i n : ℕ) → i + n ≡ k → most (levels g i n) ≤ last-held * n
+unfolding most levels
+most-small g k s i zero e = omega arith
+most-small g k s i (suc n) e =
+    omega (arith, most-small g k s (suc i) n (omega arith), last-is (low-of g i) (high-of g i) (last-of g i), s .listed i (omega arith))
 
 -- what a plan says of the levels
 module _ (g : Given) (k : ℕ) (p : Plan-is (g .limits) k (g .plan)) where

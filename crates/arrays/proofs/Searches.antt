@@ -1,14 +1,14 @@
--- The laws of the invariants of Loops: how each starts, goes on by one and ends. Assumes nothing.
-use mathlib.Core.Path.{_≡_, refl, sym, ap, _∙_}
+-- The laws of a search: how it starts, goes on by one and ends. Assumes nothing.
+use mathlib.Core.Path.{_≡_, sym, ap, _∙_}
 use mathlib.Core.Bool.{Bool, true, false}
-use Prim.Native.Nat.{ℕ, suc, _+_, _-_, _≤_, _<_, min}
+use Prim.Native.Nat.{ℕ, suc, _+_, _-_, _≤_, _<_}
 use native.Mathlib.Nat.{sub-zero}
 use native.Mathlib.Numerals.{add-one}
 use native.Mathlib.Omega.{arith}
 use borrow.Author.Tests.{lt-ltb, le-ltb}
-use Rattle.spans.specs.Spans.{Span, span, cut, shift-on, nonempty}
-use Rattle.spans.specs.Solver.{opens, first, first-open, first-total, stop, serves, first-serving}
-use Rattle.solver.specs.Loops.{Searching}
+use Rattle.spans.specs.Spans.{Span, span, nonempty}
+use Rattle.spans.specs.Solver.{opens, first, first-open, first-total}
+use Rattle.arrays.specs.Search.{Searching}
 use Rattle.spans.proofs.First.{first-hit, first-miss}
 
 pub one-left : (stop q : ℕ) → q < stop → suc (stop - suc q) ≡ stop - q
@@ -47,18 +47,3 @@ module _ (x y : ℕ) (s : Span) (e : span x y ≡ s) where
 
   pub ends-empty : y ≤ x → nonempty s ≡ false
   ends-empty h = rw (← e) (le-ltb x y h)
-
--- the search for a separation that serves
-module _ (b : ℕ) (low high : ℕ → ℕ) (a : ℕ) (f : ℕ → Span) (s : Span) (v q : ℕ) where
-  pub serving-start : (m o : ℕ) → q ≡ o → Searching (serves b low high a f s v) (stop m v) q (first-serving b low high o m a f s v)
-  unfolding first-serving
-  serving-start m o e = rw e (record { left = refl })
-
-  module _ (u x y : ℕ) (e : u ≡ min (v - q) a) (k : span x y ≡ cut (f u) (shift-on b (low q) (high q) s)) where
-    pub serves-full : x < y → serves b low high a f s v q ≡ true
-    unfolding serves
-    serves-full h = ends-full x y _ (rw e at k) h
-
-    pub serves-empty : y ≤ x → serves b low high a f s v q ≡ false
-    unfolding serves
-    serves-empty h = ends-empty x y _ (rw e at k) h
