@@ -8,12 +8,13 @@ use native.Mathlib.Nat.{zero-add}
 use native.Mathlib.Numerals.{add-one}
 use native.Mathlib.Omega.{arith}
 use lib.Dec.{eqb}
-use lib.ListN.{length, getD, set, take, drop, length-append, length-drop}
+use lib.ListN.{length, getD, set, take, drop, replicate, length-append, length-drop}
 use lib.Seq.{take-all}
 use borrow.Author.Tests.{le-leb, lt-leb, ne-eqb}
 use Rattle.lines.specs.Lines.{Line, line, into-field, fields, word-of, number-fields, same-bytes, has-word, is-number, ill-formed, value, values, numbers-of}
 use Rattle.lines.specs.Cut.{run}
-use Rattle.lines.specs.Numbers.{number-in, numbers-in, in-places, Numbers-read, first-ill, Field-added, fields-from, Taking, Line-read}
+use Rattle.lines.specs.Numbers.{number-in, numbers-in, in-places, Field-read, Numbers-read, first-ill, fields-from, Taking, Line-read}
+use Rattle.lines.specs.declared.FieldRead.{FieldRead}
 use Rattle.lines.specs.declared.Numbers.{Numbers}
 use Rattle.lines.proofs.Cutting.{run-below, fields-cut, fields-behind}
 
@@ -55,12 +56,17 @@ ill-more k (g ∷ fs) f = go (is-number g) (ill-more (suc k) fs f)
     go false e = rw (ne-eqb (suc k) 0 (omega arith))
 
 -- one field more
-field-read-more : (fs : List (List ℕ)) (f : List ℕ) (n r : Numbers) → Numbers-read fs n → Field-added n f r → Numbers-read (fs ++ (f ∷ [])) r
-field-read-more fs f n r m a = record {
-  ill = a .ill ∙ rw (m .ill, m .count) (sym (ill-more 1 fs f));
-  count = a .count ∙ rw (m .count, length-append fs (f ∷ []));
-  values = a .values ∙ rw (m .values, m .count, ← numbers-length fs, set-in-places 64 (numbers-in fs) (number-in f), numbers-more fs f);
-}
+module _ (f : List ℕ) (n : Numbers) (g : FieldRead) (ill : ℕ) (values : List ℕ) (read : Field-read f g) (first : ill ≡ first-ill (n .ill) (g .good) (n .count + 2))
+    (put : values ≡ set (n .values) (n .count) (g .value)) where
+  abbrev more : Numbers
+  more = record { ill = ill; count = n .count + 1; values = values }
+
+  field-read-more : (fs : List (List ℕ)) → Numbers-read fs n → Numbers-read (fs ++ (f ∷ [])) more
+  field-read-more fs m = record {
+    ill = first ∙ rw (read .good, m .ill, m .count) (sym (ill-more 1 fs f));
+    count = rw (m .count, length-append fs (f ∷ []));
+    values = put ∙ rw (read .value, m .values, m .count, ← numbers-length fs, set-in-places 64 (numbers-in fs) (number-in f), numbers-more fs f);
+  }
 
 fields-on : (at j : ℕ) (xs : List ℕ) → at ≤ length xs → fields-from j (drop at xs) ≡ fields-from (at + j) xs
 fields-on zero j xs h = rw zero-add
@@ -73,8 +79,22 @@ fields-on (suc at) j (x ∷ xs) h =
 pub rest-of : (xs : List ℕ) (at : ℕ) → take (length xs - at) (drop at xs) ≡ drop at xs
 rest-of xs at = take-all (length xs - at) (drop at xs) (omega (arith, length-drop at xs))
 
-pub taking-starts : (xs : List ℕ) (from : ℕ) (n : Numbers) → from ≤ suc (length xs) → Numbers-read [] n → Taking xs from from n
-taking-starts xs from n h e = record { seen = []; rest = refl; few = omega arith; below = h; read = e }
+none-read : Numbers-read [] (record { ill = 0; count = 0; values = replicate 64 0 })
+unfolding ill-formed numbers-in in-places
+none-read = record { ill = refl; count = refl; values = refl }
+
+pub taking-starts : (xs : List ℕ) (from : ℕ) → from ≤ suc (length xs) → Taking xs from from (record { ill = 0; count = 0; values = replicate 64 0 })
+taking-starts xs from h = record { seen = []; rest = refl; few = omega arith; below = h; read = none-read }
+
+-- while fields are read, the numbers kept have their places
+places-length : (n : ℕ) (vs : List ℕ) → length (in-places n vs) ≡ n
+unfolding in-places
+places-length zero vs = refl
+places-length (suc n) [] = ap suc (places-length n [])
+places-length (suc n) (v ∷ vs) = ap suc (places-length n vs)
+
+pub taking-long : (xs : List ℕ) (from at : ℕ) (n : Numbers) → Taking xs from at n → length (n .values) ≡ 64
+taking-long xs from at n t = rw (t .read .values) (places-length 64 (numbers-in (t .seen)))
 
 -- the field at a place ends at the first tab behind it
 module _ (xs : List ℕ) (at r : ℕ) (here : at ≤ length xs) (e : r ≡ run 9 (take (length xs - at) (drop at xs))) where
@@ -92,15 +112,17 @@ module _ (xs : List ℕ) (at r : ℕ) (here : at ≤ length xs) (e : r ≡ run 9
       let q : r ≡ run 9 (drop at xs) = e ∙ rw (rest-of xs at) in
       rw (s, n, ← fields-on at (suc r) xs here, q) (field-whole ∙ fields-cut (drop at xs))
 
-  pub taking-steps : (from : ℕ) (n n′ : Numbers) → Taking xs from at n → Field-added n (take (at + r - at) (drop at xs)) n′ → Taking xs from (at + r + 1) n′
-  taking-steps from n n′ t a =
+  pub taking-steps : (from : ℕ) (n : Numbers) (g : FieldRead) (ill : ℕ) (values : List ℕ) → Taking xs from at n → Field-read (take (at + r - at) (drop at xs)) g →
+      ill ≡ first-ill (n .ill) (g .good) (n .count + 2) → values ≡ set (n .values) (n .count) (g .value) →
+      Taking xs from (at + r + 1) (record { ill = ill; count = n .count + 1; values = values })
+  taking-steps from n g ill values t a p q =
       let f = take (at + r - at) (drop at xs) in
       record {
         seen = t .seen ++ (f ∷ []);
         rest = t .rest ∙ rw (field-cut, append-assoc (t .seen) (f ∷ []) (fields-from (at + r + 1) xs));
         few = omega (arith, t .few, length-append (t .seen) (f ∷ []));
         below = omega (arith, field-end);
-        read = field-read-more (t .seen) f n n′ (t .read) a;
+        read = field-read-more f n g ill values a p q (t .seen) (t .read);
       }
 
 pub taking-ends : (xs : List ℕ) (from at : ℕ) (n : Numbers) → length xs < at → Taking xs from at n → Numbers-read (fields-from from xs) n

@@ -4,7 +4,7 @@ use mathlib.Core.Bool.{Bool, _&&_, _||_, not, cond}
 use mathlib.Core.List.{List, [], _∷_, _++_}
 use Prim.Native.Nat.{ℕ, zero, suc, _+_, _^_, _≤_, _<_}
 use lib.Dec.{leb, eqb}
-use lib.ListN.{length, getD, set, drop}
+use lib.ListN.{length, getD, drop}
 use Rattle.lines.specs.Lines.{Line, fields, number-fields, same-bytes, has-word, all-digits, is-number, ill-formed, value-of, value, numbers-of}
 use Rattle.lines.specs.declared.DigitsRead.{DigitsRead}
 use Rattle.lines.specs.declared.FieldRead.{FieldRead}
@@ -61,12 +61,6 @@ pub record Numbers-read (fs : List (List ℕ)) (r : Numbers) : Type 0 where
 -- the first ill-formed field, where one more is looked at
 unfoldable pub first-ill : (before : ℕ) → (good : Bool) → (field : ℕ) → ℕ
 first-ill b g f = cond (eqb b 0) (cond g 0 f) b
-
--- one field more
-pub record Field-added (n : Numbers) (f : List ℕ) (r : Numbers) : Type 0 where
-  pub ill : r .ill ≡ first-ill (n .ill) (is-number f) (n .count + 2)
-  pub count : r .count ≡ n .count + 1
-  pub values : r .values ≡ set (n .values) (n .count) (number-in f)
 
 -- the fields from a place on; none past the end
 unfoldable pub fields-from : (at : ℕ) → List ℕ → List (List ℕ)

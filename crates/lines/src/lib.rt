@@ -1,7 +1,6 @@
 // A text's lines: where each ends, and one reader for the lines of every word.
 ghost use mathlib.Core.Path.{_≡_};
-ghost use mathlib.Core.List.{[]};
-ghost use Prim.Native.Nat.{suc, _≤_, _<_, _^_};
+ghost use Prim.Native.Nat.{suc, _≤_};
 ghost use lib.ListN.{length, set};
 ghost use Rattle.lines.specs.Lines.{line, is-digit, same-bytes};
 ghost use Rattle.lines.specs.Cut.{run, Line-from};
@@ -11,7 +10,6 @@ ghost use Rattle.lines.specs.Numbers.{
   Field-read,
   Numbers-read,
   first-ill,
-  Field-added,
   fields-from,
   Line-read,
 };
@@ -136,14 +134,14 @@ struct Numbers {
     values: [u32; KEPT],
 }
 
-// The number in its place, where there is one.
-fn number_stored(mut values: [u32; KEPT], i: usize, x: u32) -> [u32; KEPT]
-    ensures { λ r. ⌜ r ≡ set values i x ⌝ }
+// Puts the number in its place, where there is one.
+fn put_number(values: &mut [u32; KEPT], i: usize, x: u32)
+    requires { ⌜ length (now values) ≡ 64 ⌝ }
+    ensures { λ _. ⌜ now (values .exit) ≡ set (now (values .entry)) i x ⌝ }
 {
     if i < KEPT {
         values[i] = x;
     }
-    values
 }
 
 // The first ill-formed field, where one more is looked at.
@@ -159,45 +157,24 @@ fn first_ill(before: usize, good: bool, field: usize) -> usize
     field
 }
 
-impl Numbers {
-    fn none() -> Numbers
-        ensures { λ r. ⌜ Numbers-read [] r ⌝ }
-    {
-        Numbers {
-            ill: 0,
-            count: 0,
-            values: [0u32; KEPT],
-        }
-    }
-
-    fn with_field(self, field: &[u8]) -> Numbers
-        requires { ⌜ self .count < 2 ^ 63 ⌝ }
-        ensures { λ r. ⌜ Field-added self (now (field .entry)) r ⌝ }
-    {
-        let read = read_field(field);
-        let old = self.values;
-        let values = number_stored(old, self.count, read.value);
-        Numbers {
-            ill: first_ill(self.ill, read.good, self.count + 2),
-            count: self.count + 1,
-            values,
-        }
-    }
-}
-
 // The numbers of a line's fields from a place on.
 fn numbers_from(line: &[u8], from: usize) -> Numbers
     requires { ⌜ from ≤ suc (length (now line)) ⌝ }
     ensures { λ r. ⌜ Numbers-read (fields-from from (now (line .entry))) r ⌝ }
 {
-    let mut numbers = Numbers::none();
+    let mut values = [0u32; KEPT];
+    let mut ill = 0;
+    let mut count = 0;
     let mut at = from;
     while at <= line.len() {
         let end = at + run(&line[at..], TAB);
-        numbers = numbers.with_field(&line[at..end]);
+        let field = read_field(&line[at..end]);
+        put_number(&mut values, count, field.value);
+        ill = first_ill(ill, field.good, count + 2);
+        count += 1;
         at = end + 1;
     }
-    numbers
+    Numbers { ill, count, values }
 }
 
 // A line as one of a word: whether it is ended and has the word; of the fields behind it the first that is no number, 0 where all are numbers, how many they are,

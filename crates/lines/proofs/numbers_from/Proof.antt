@@ -1,27 +1,21 @@
 -- numbers_from meets its contract: the loop keeps Taking. Assumes nothing.
-use native.Mathlib.Omega.{arith}
-use Rattle.lines.proofs.Fields.{field-end, taking-starts, taking-steps, taking-ends}
-use borrow.Author.Needs.{needs}
 use Prim.Native.Nat.{suc, _-_}
+use native.Mathlib.Omega.{arith}
 use lib.ListN.{length}
 use Rattle.lines.specs.Numbers.{Taking}
+use Rattle.lines.proofs.Fields.{field-end, taking-starts, taking-long, taking-steps, taking-ends}
+use borrow.Author.Needs.{needs}
 use Rattle.lines.proofs.numbers_from.Statement.{statement}
 use Rattle.lines.proofs.numbers_from.Tie as tie
 
 abbrev Inv-loop : tie.InvT-loop
-Inv-loop line from numbers₀ at₀ numbers at = Taking line from at numbers
+Inv-loop line from values₀ ill₀ count₀ at₀ values ill count at = Taking line from at (record { ill = ill; count = count; values = values })
 
 abbrev μ-loop : tie.MeasureT-loop
-μ-loop line from numbers₀ at₀ numbers at = suc (length line) - at
-
-none-requires : tie.Need-none-requires Inv-loop μ-loop
-none-requires c κs = search needs
+μ-loop line from values₀ ill₀ count₀ at₀ values ill count at = suc (length line) - at
 
 loop-holds : tie.Need-loop-holds Inv-loop μ-loop
-loop-holds c =
-    let start = c .before .before in
-    let none = c .none in
-    taking-starts (start .args .line .now) (start .args .from) (none .result) (start .pre) (none .ensures)
+loop-holds c = taking-starts (c .before .args .line .now) (c .before .args .from) (c .before .pre)
 
 sub-run : tie.Need-sub-run Inv-loop μ-loop
 sub-run c = search needs
@@ -37,63 +31,72 @@ run-requires c κs = search needs
 
 add-end : tie.Need-add-end Inv-loop μ-loop
 add-end c =
-    let start = c .before .before .before .before .before .before in
-    let loop = c .before .before .before .loop in
-    let loop-test = c .before .before .loop-test in
-    let run = c .run in
-    omega (arith, field-end (start .args .line .now) (loop .at) (run .result) (loop-test .taken) (run .ensures))
+    let b = c .before .before .before in
+    let start = b .before .before in
+    omega (arith, field-end (start .args .line .now) (b .loop .at) (c .run .result) (c .before .before .loop-test .taken) (c .run .ensures))
 
-sub-with-field : tie.Need-sub-with-field Inv-loop μ-loop
-sub-with-field c = search needs
+sub-read-field : tie.Need-sub-read-field Inv-loop μ-loop
+sub-read-field c = search needs
 
-part-with-field-start : tie.Need-part-with-field-start Inv-loop μ-loop
-part-with-field-start c = search needs
+part-read-field-start : tie.Need-part-read-field-start Inv-loop μ-loop
+part-read-field-start c = search needs
 
-part-with-field-end : tie.Need-part-with-field-end Inv-loop μ-loop
-part-with-field-end c =
-    let start = c .before .before .before .before .before .before in
-    let loop = c .before .before .before .loop in
-    let loop-test = c .before .before .loop-test in
-    let run = c .run in
-    omega (arith, field-end (start .args .line .now) (loop .at) (run .result) (loop-test .taken) (run .ensures))
+part-read-field-end : tie.Need-part-read-field-end Inv-loop μ-loop
+part-read-field-end c =
+    let b = c .before .before .before in
+    let start = b .before .before in
+    omega (arith, field-end (start .args .line .now) (b .loop .at) (c .run .result) (c .before .before .loop-test .taken) (c .run .ensures))
 
-with-field-requires : tie.Need-with-field-requires Inv-loop μ-loop
-with-field-requires c κs =
-    let start = c .before .before .before .before .before .before .before in
-    let loop = c .before .before .before .before .loop in
-    omega (arith, loop .inv .few, loop .inv .read .count, start .good .0)
+read-field-requires : tie.Need-read-field-requires Inv-loop μ-loop
+read-field-requires c κs = search needs
+
+put-number-requires : tie.Need-put-number-requires Inv-loop μ-loop
+put-number-requires c κs =
+    let b = c .before .before .before .before .before .before in
+    let start = b .before .before in
+    taking-long (start .args .line .now) (start .args .from) (b .loop .at) _ (b .loop .inv)
+
+add-first-ill : tie.Need-add-first-ill Inv-loop μ-loop
+add-first-ill c =
+    let b = c .before .before .before .before .before .before .before in
+    omega (arith, b .loop .inv .few, b .loop .inv .read .count, b .before .before .good .0)
+
+first-ill-requires : tie.Need-first-ill-requires Inv-loop μ-loop
+first-ill-requires c κs = search needs
+
+add-count : tie.Need-add-count Inv-loop μ-loop
+add-count c =
+    let b = c .before .before .before .before .before .before .before .before in
+    omega (arith, b .loop .inv .few, b .loop .inv .read .count, b .before .before .good .0)
 
 add-at : tie.Need-add-at Inv-loop μ-loop
 add-at c =
-    let start = c .before .before .before .before .before .before .before .before in
-    let loop = c .before .before .before .before .before .loop in
-    let loop-test = c .before .before .before .before .loop-test in
-    let run = c .before .before .run in
-    omega (arith, field-end (start .args .line .now) (loop .at) (run .result) (loop-test .taken) (run .ensures), start .good .0)
+    let r = c .before .before .before .before .before in
+    let b = r .before .before .before in
+    let start = b .before .before in
+    omega (arith, field-end (start .args .line .now) (b .loop .at) (r .run .result) (r .before .before .loop-test .taken) (r .run .ensures), start .good .0)
 
 loop-less : tie.Need-loop-less Inv-loop μ-loop
 loop-less c =
-    let start = c .before .before .before .before .before .before .before .before in
-    let loop = c .before .before .before .before .before .loop in
-    let loop-test = c .before .before .before .before .loop-test in
-    let run = c .before .before .run in
-    omega (arith, field-end (start .args .line .now) (loop .at) (run .result) (loop-test .taken) (run .ensures))
+    let r = c .before .before .before .before .before in
+    let b = r .before .before .before in
+    let start = b .before .before in
+    omega (arith, field-end (start .args .line .now) (b .loop .at) (r .run .result) (r .before .before .loop-test .taken) (r .run .ensures))
 
 loop-again : tie.Need-loop-again Inv-loop μ-loop
 loop-again c =
-    let start = c .before .before .before .before .before .before .before .before in
-    let loop = c .before .before .before .before .before .loop in
-    let loop-test = c .before .before .before .before .loop-test in
-    let run = c .before .before .run in
-    let with-field = c .with-field in
-    taking-steps (start .args .line .now) (loop .at) (run .result) (loop-test .taken) (run .ensures) (start .args .from) (loop .numbers) (with-field .result) (loop .inv) (with-field .ensures)
+    let put = c .before in
+    let field = put .before .before in
+    let r = field .before .before in
+    let b = r .before .before .before in
+    let start = b .before .before in
+    taking-steps (start .args .line .now) (b .loop .at) (r .run .result) (r .before .before .loop-test .taken) (r .run .ensures) (start .args .from) _ (field .read-field .result) (c .first-ill .result) _ (b .loop .inv) (field .read-field .ensures) (c .first-ill .ensures) (put .put-number .ensures)
 
 returns : tie.Need-returns Inv-loop μ-loop
 returns c =
-    let start = c .before .before .before .before in
-    let loop = c .before .loop in
-    let loop-test = c .loop-test in
-    taking-ends (start .args .line .now) (start .args .from) (loop .at) (loop .numbers) (loop-test .left) (loop .inv)
+    let b = c .before in
+    let start = b .before .before in
+    taking-ends (start .args .line .now) (start .args .from) (b .loop .at) _ (c .loop-test .left) (b .loop .inv)
 
 pub numbers-from-spec : {M : Type 1} → statement M
 numbers-from-spec =
@@ -101,17 +104,20 @@ numbers-from-spec =
     (tie.spec
     Inv-loop
     μ-loop
-    none-requires
     loop-holds
     sub-run
     part-run-start
     part-run-end
     run-requires
     add-end
-    sub-with-field
-    part-with-field-start
-    part-with-field-end
-    with-field-requires
+    sub-read-field
+    part-read-field-start
+    part-read-field-end
+    read-field-requires
+    put-number-requires
+    add-first-ill
+    first-ill-requires
+    add-count
     add-at
     loop-less
     loop-again
