@@ -30,7 +30,8 @@ use Rattle.solver.specs.declared.Placement.{Placement}
 use Rattle.arrays.proofs.Levels.{most-small}
 use Rattle.arrays.proofs.Levels.{above-at}
 use Rattle.arrays.specs.Arrays.{bias, entry, sides, lasts-in, sums-in, Given, given, low-of, high-of, last-of, window-of, limits-from, level-of, levels, Sized, Plan-is, Stack-asks}
-use Rattle.solver.specs.Placing.{Separate-asks, separations-of, Place-asks, Placement-is}
+use Rattle.separations.specs.Separations.{Separate-asks}
+use Rattle.solver.specs.Placing.{separations-of, Place-asks, Placement-is}
 use Rattle.answer.specs.Solve.{last-use, window, channel-limits, stack-levels, bottom, levels-of, total-with, separations-with, positions-with, answer-separations}
 use Rattle.answer.specs.Arrays.{channel-in, strip-in, Limits-in, Held, Windows-in, Answer-is}
 use Rattle.answer.proofs.Legal.{low-bounded}

@@ -2,7 +2,7 @@
 use mathlib.Core.Path.{_≡_}
 use mathlib.Core.List.{List, [], _∷_}
 use Prim.Native.Nat.{ℕ, zero, suc, _+_, _*_, _≤_, _<_}
-use lib.ListN.{length, getD}
+use lib.ListN.{length, getD, set}
 use Rattle.stack.specs.Sizes.{channels-held, strips-held, last-held, separations-held, totals-held}
 use Rattle.spans.specs.Spans.{Span, span, Limit, limit}
 use Rattle.spans.specs.Solver.{Level, level, first-open, most, back}
@@ -80,6 +80,16 @@ level-of g i = level (limits-from (low-of g i) (high-of g i) 0 (suc (last-of g i
 unfoldable pub levels : Given → (i n : ℕ) → List Level
 levels g i zero = []
 levels g i (suc n) = level-of g i ∷ levels g (suc i) n
+
+-- xs written over ys from place i on
+unfoldable pub store : (ys : List ℕ) → (i : ℕ) → (xs : List ℕ) → List ℕ
+store ys i [] = ys
+store ys i (x ∷ xs) = store (set ys i x) (suc i) xs
+
+-- n entries from place i on
+unfoldable pub taken : List ℕ → (i n : ℕ) → List ℕ
+taken xs i zero = []
+taken xs i (suc n) = entry xs i ∷ taken xs (suc i) n
 
 -- two rows, in each a cell for each total
 pub record Two-rows (r : List (List ℕ)) : Type 0 where

@@ -1,4 +1,4 @@
-// The arrays that the solver's functions share: references to them are covered by the prover, references to structs are not. No code.
+// The arrays that the solver's functions share: references to them are covered by the prover, references to structs are not.
 use stack::Stack;
 
 // The two rows of a channel's limits, with a place for each separation.
@@ -32,3 +32,9 @@ pub type Windows = [Window; Stack::STRIPS];
 pub type StripSpans = [[u64; Stack::TOTALS]; 2];
 
 pub type SpanTable = [StripSpans; Stack::STRIPS];
+
+// A span of positions: from ≤ x < upto.
+pub struct Span {
+    pub from: u64,
+    pub upto: u64,
+}

@@ -8,7 +8,8 @@ use Rattle.stack.specs.Value.{stack-of}
 use Rattle.stack.specs.declared.Stack.{Stack as Stack-struct}
 use Rattle.stack.proofs.Within.{stack-channels}
 use Rattle.arrays.specs.Arrays.{bias, entry, sums-in, given}
-use Rattle.solver.specs.Placing.{Separate-asks, Place-asks, Placement-is}
+use Rattle.separations.specs.Separations.{Separate-asks}
+use Rattle.solver.specs.Placing.{Place-asks, Placement-is}
 use Rattle.scan.specs.Scan.{Scan-is}
 use Rattle.scan.specs.declared.Scan.{Scan}
 use Rattle.solver.specs.declared.Placement.{Placement}

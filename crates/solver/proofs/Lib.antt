@@ -1,7 +1,3 @@
--- The theorems of the solver.
-pub mod Serves
-pub mod Separating
-pub mod Fixing
-pub mod Positioning
+-- A list stored and read back, and the placement put together.
 pub mod Stored
 pub mod Placing

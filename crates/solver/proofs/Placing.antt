@@ -10,8 +10,9 @@ use Rattle.stack.specs.Sizes.{channels-held, strips-held}
 use Rattle.spans.specs.Spans.{Span}
 use Rattle.spans.specs.Solver.{Level, separations, positions-on, positions}
 use Rattle.spans.specs.Placed.{Chosen}
-use Rattle.arrays.specs.Arrays.{bias, Given, window-of, levels}
-use Rattle.solver.specs.Placing.{store, taken, Position-asks, separations-of, Place-asks, Placement-is}
+use Rattle.arrays.specs.Arrays.{bias, Given, window-of, levels, store, taken}
+use Rattle.positions.specs.Positions.{Position-asks}
+use Rattle.solver.specs.Placing.{separations-of, Place-asks, Placement-is}
 use Rattle.solver.specs.declared.Placement.{Placement}
 use Rattle.solver.proofs.Stored.{store-padded, taken-padded}
 use Rattle.spans.proofs.Best.{chosen}

@@ -7,8 +7,7 @@ use native.Mathlib.Omega.{arith}
 use lib.ListN.{length, replicate, length-append}
 use lib.Seq.{set-at, append-snoc}
 use Rattle.numbers.specs.Lists.{padded}
-use Rattle.arrays.specs.Arrays.{entry}
-use Rattle.solver.specs.Placing.{store, taken}
+use Rattle.arrays.specs.Arrays.{entry, store, taken}
 
 -- stored behind what is written already
 store-behind : (xs ys : List ℕ) (n i : ℕ) → length ys ≡ i → length xs ≤ n → store (ys ++ replicate n 0) i xs ≡ ys ++ (xs ++ replicate (n - length xs) 0)

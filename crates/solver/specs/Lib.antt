@@ -1,3 +1,2 @@
--- The placement for a total, from windows, limit lists and a table of spans.
+-- The placement for a total.
 pub mod Placing
-pub mod Loops

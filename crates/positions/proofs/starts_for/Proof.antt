@@ -7,11 +7,11 @@ use Rattle.stack.specs.Value.{tracks-of}
 use Rattle.stack.specs.Sizes.{strips-held}
 use Rattle.spans.specs.Spans.{span}
 use Rattle.arrays.specs.Arrays.{given}
-use Rattle.solver.specs.Loops.{Fixing}
-use Rattle.solver.proofs.Fixing.{track-at, fixing-start, fixing-asks, fixing-step, fixing-end}
+use Rattle.positions.specs.Positions.{Fixing}
+use Rattle.positions.proofs.Fixing.{track-at, fixing-start, fixing-asks, fixing-step, fixing-end}
 use borrow.Author.Needs.{needs}
-use Rattle.solver.proofs.starts_for.Statement.{statement}
-use Rattle.solver.proofs.starts_for.Tie as tie
+use Rattle.positions.proofs.starts_for.Statement.{statement}
+use Rattle.positions.proofs.starts_for.Tie as tie
 
 abbrev Inv-loop : tie.InvT-loop
 Inv-loop limits plan windows k ts s₀ starts₀ i₀ s starts i = Fixing (given limits plan windows) k (tracks-of ts) i (span (s .from) (s .upto)) starts

@@ -1,7 +1,7 @@
 -- pull_back meets its contract: the span of the strip below. Assumes nothing.
 use borrow.Author.Needs.{needs}
-use Rattle.solver.proofs.pull_back.Statement.{statement}
-use Rattle.solver.proofs.pull_back.Tie as tie
+use Rattle.positions.proofs.pull_back.Statement.{statement}
+use Rattle.positions.proofs.pull_back.Tie as tie
 
 lesser-requires : tie.Need-lesser-requires
 lesser-requires c κs = search needs

@@ -5,11 +5,11 @@ use Rattle.stack.specs.Value.{tracks-of}
 use Rattle.numbers.proofs.Lists.{map-set}
 use Rattle.spans.specs.Spans.{span}
 use Rattle.arrays.specs.Arrays.{given}
-use Rattle.solver.specs.Loops.{Separating}
-use Rattle.solver.proofs.Separating.{pass-on-asks, separating-start, separating-asks, separation-small, separating-step, separating-end}
+use Rattle.separations.specs.Separations.{Separating}
+use Rattle.separations.proofs.Separating.{pass-on-asks, separating-start, separating-asks, separation-small, separating-step, separating-end}
 use borrow.Author.Needs.{needs}
-use Rattle.solver.proofs.separations_for.Statement.{statement}
-use Rattle.solver.proofs.separations_for.Tie as tie
+use Rattle.separations.proofs.separations_for.Statement.{statement}
+use Rattle.separations.proofs.separations_for.Tie as tie
 
 abbrev Inv-loop : tie.InvT-loop
 Inv-loop limits plan windows k total table ts₀ s₀ v₀ i₀ ts s v i = Separating (given limits plan windows) k total i v (span (s .from) (s .upto)) (tracks-of ts)

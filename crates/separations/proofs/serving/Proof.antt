@@ -7,10 +7,10 @@ use Rattle.spans.specs.Solver.{stop, serves, first-serving}
 use Rattle.arrays.specs.Arrays.{bias, low-in, high-in, span-at}
 use Rattle.arrays.specs.Search.{Searching}
 use Rattle.arrays.proofs.Searches.{searching-hit, searching-miss, searching-end}
-use Rattle.solver.proofs.Serves.{serving-start, serves-full, serves-empty}
+use Rattle.separations.proofs.Serves.{serving-start, serves-full, serves-empty}
 use borrow.Author.Needs.{needs}
-use Rattle.solver.proofs.serving.Statement.{statement}
-use Rattle.solver.proofs.serving.Tie as tie
+use Rattle.separations.proofs.serving.Statement.{statement}
+use Rattle.separations.proofs.serving.Tie as tie
 
 abbrev Inv-loop : tie.InvT-loop
 Inv-loop limits spans least last above s v end q₀ q = Searching (serves bias (low-in limits) (high-in limits) above (span-at spans) (span (s .from) (s .upto)) v) (stop last v) q (first-serving bias (low-in limits) (high-in limits) least last above (span-at spans) (span (s .from) (s .upto)) v)

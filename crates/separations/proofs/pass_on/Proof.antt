@@ -2,8 +2,8 @@
 use Prim.Native.Nat.{_≤_}
 use native.Mathlib.Omega.{arith}
 use borrow.Author.Needs.{needs}
-use Rattle.solver.proofs.pass_on.Statement.{statement}
-use Rattle.solver.proofs.pass_on.Tie as tie
+use Rattle.separations.proofs.pass_on.Statement.{statement}
+use Rattle.separations.proofs.pass_on.Tie as tie
 
 lesser-requires : tie.Need-lesser-requires
 lesser-requires c κs = search needs

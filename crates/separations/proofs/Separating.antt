@@ -8,9 +8,9 @@ use lib.ListN.{set, replicate}
 use Rattle.stack.specs.Sizes.{channels-held, separations-held}
 use Rattle.spans.specs.Spans.{Span, cut, shift-on}
 use Rattle.spans.specs.Solver.{opens, first-open, most, stop, back, serves, first-serving, least-serving, forward, separations}
-use Rattle.arrays.specs.Arrays.{bias, entry, sides, leasts-in, sums-in, Given, low-of, high-of, last-of, window-of, level-of, levels, span-in}
-use Rattle.solver.specs.Placing.{Serve-asks, Separate-asks, store}
-use Rattle.solver.specs.Loops.{Separating}
+use Rattle.arrays.specs.Arrays.{bias, entry, sides, leasts-in, sums-in, Given, low-of, high-of, last-of, window-of, level-of, levels, span-in, store}
+use Rattle.separations.specs.Separations.{Serve-asks, Separate-asks}
+use Rattle.separations.specs.Separations.{Separating}
 use Rattle.spans.proofs.First.{first-upto}
 use Rattle.arrays.proofs.Levels.{most-small, most-fewer, least-at, above-at, serving-back, forward-back}
 

@@ -1,8 +1,8 @@
 -- next meets its contract: the position of the strip above, as far left as can be. Assumes nothing.
 use native.Mathlib.Omega.{arith}
 use borrow.Author.Needs.{needs}
-use Rattle.solver.proofs.next.Statement.{statement}
-use Rattle.solver.proofs.next.Tie as tie
+use Rattle.positions.proofs.next.Statement.{statement}
+use Rattle.positions.proofs.next.Tie as tie
 
 lesser-requires : tie.Need-lesser-requires
 lesser-requires c κs = search needs

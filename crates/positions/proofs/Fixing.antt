@@ -12,9 +12,9 @@ use Rattle.stack.specs.Sizes.{strips-held, separations-held}
 use Rattle.numbers.proofs.Orders.{lt-or-eq}
 use Rattle.spans.specs.Spans.{Span, cut, shift-back}
 use Rattle.spans.specs.Solver.{fixed}
-use Rattle.arrays.specs.Arrays.{bias, entry, Given, low-of, high-of, last-of, window-of, levels, Stack-asks}
-use Rattle.solver.specs.Placing.{taken, fixed-from, Starts-are}
-use Rattle.solver.specs.Loops.{Fixing}
+use Rattle.arrays.specs.Arrays.{bias, entry, Given, low-of, high-of, last-of, window-of, levels, Stack-asks, taken}
+use Rattle.positions.specs.Positions.{fixed-from, Starts-are}
+use Rattle.positions.specs.Positions.{Fixing}
 use Rattle.arrays.proofs.Levels.{low-at-any, high-at-any}
 
 -- a separation read from the array

@@ -4,12 +4,12 @@ use native.Mathlib.Omega.{arith}
 use Rattle.stack.specs.Value.{tracks-of, columns-of}
 use Rattle.numbers.proofs.Lists.{map-set}
 use Rattle.arrays.specs.Arrays.{given}
-use Rattle.solver.specs.Loops.{Positioning}
-use Rattle.solver.proofs.Fixing.{track-at}
-use Rattle.solver.proofs.Positioning.{positioning-start, position-small, next-asks, positioning-step, positioning-end}
+use Rattle.positions.specs.Positions.{Positioning}
+use Rattle.positions.proofs.Fixing.{track-at}
+use Rattle.positions.proofs.Positioning.{positioning-start, position-small, next-asks, positioning-step, positioning-end}
 use borrow.Author.Needs.{needs}
-use Rattle.solver.proofs.positions_for.Statement.{statement}
-use Rattle.solver.proofs.positions_for.Tie as tie
+use Rattle.positions.proofs.positions_for.Statement.{statement}
+use Rattle.positions.proofs.positions_for.Tie as tie
 
 abbrev Inv-loop : tie.InvT-loop
 Inv-loop limits plan windows k ts starts xs₀ x₀ i₀ xs x i = Positioning (given limits plan windows) k (tracks-of ts) i x (columns-of xs)

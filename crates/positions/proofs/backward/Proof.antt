@@ -2,8 +2,8 @@
 use mathlib.Core.Path.{ap₂}
 use Rattle.spans.specs.Spans.{span}
 use borrow.Author.Needs.{needs}
-use Rattle.solver.proofs.backward.Statement.{statement}
-use Rattle.solver.proofs.backward.Tie as tie
+use Rattle.positions.proofs.backward.Statement.{statement}
+use Rattle.positions.proofs.backward.Tie as tie
 
 add-difference : tie.Need-add-difference
 add-difference c = search needs

@@ -9,9 +9,9 @@ use Rattle.stack.specs.Sizes.{strips-held}
 use Rattle.spans.specs.Spans.{Span, low-at}
 use Rattle.spans.specs.Solver.{Level, lowest, positions-on, positions}
 use Rattle.spans.specs.Placed.{Placed, under}
-use Rattle.arrays.specs.Arrays.{bias, entry, row, sides, Given, low-of, high-of, last-of, window-of, level-of, levels}
-use Rattle.solver.specs.Placing.{store, taken, fixed-from, Starts-are, Next-asks, Position-asks}
-use Rattle.solver.specs.Loops.{Positioning}
+use Rattle.arrays.specs.Arrays.{bias, entry, row, sides, Given, low-of, high-of, last-of, window-of, level-of, levels, store, taken}
+use Rattle.positions.specs.Positions.{fixed-from, Starts-are, Next-asks, Position-asks}
+use Rattle.positions.specs.Positions.{Positioning}
 use Rattle.spans.proofs.Separations.{bottom-in}
 use Rattle.spans.proofs.Positions.{lowest-placed}
 use Rattle.arrays.proofs.Levels.{low-at-any}

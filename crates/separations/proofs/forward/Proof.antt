@@ -2,8 +2,8 @@
 use mathlib.Core.Path.{ap₂}
 use Rattle.spans.specs.Spans.{span}
 use borrow.Author.Needs.{needs}
-use Rattle.solver.proofs.forward.Statement.{statement}
-use Rattle.solver.proofs.forward.Tie as tie
+use Rattle.separations.proofs.forward.Statement.{statement}
+use Rattle.separations.proofs.forward.Tie as tie
 
 add-difference : tie.Need-add-difference
 add-difference c = search needs

@@ -1,0 +1,2 @@
+-- The positions for separations.
+pub mod Positions

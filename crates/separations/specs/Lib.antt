@@ -1,0 +1,2 @@
+-- The separations for a total.
+pub mod Separations
