@@ -45,7 +45,7 @@ fn print_bit(on: bool) {
 
 fn print_limits(limits: Limits, pairs: usize) {
     for t in 0..pairs {
-        if t < 33 {
+        if t < Stack::SEPARATIONS {
             print_range(limits.low[t], limits.high[t]);
         }
     }

@@ -5,6 +5,7 @@ use mathlib.Core.List.{List, _++_}
 use Prim.Native.Nat.{ℕ, suc, _+_, _*_, _-_, _≤_, _<_}
 use lib.Dec.{leb}
 use lib.ListN.{length, getD, take, drop, replicate}
+use Rattle.stack.specs.Sizes.{totals-held}
 use Rattle.stack.specs.Value.{tracks-of, columns-of}
 use Rattle.stack.specs.Stack.{Row, row, sum, total}
 use Rattle.stack.specs.declared.Tracks.{Tracks}
@@ -47,9 +48,9 @@ line-bytes = 213
 unfoldable pub row-bytes : ℕ
 row-bytes = 82
 
--- enough for a table within the limits: the first line's 8 bytes, and a row for each total from 256 to 0
+-- enough for a table within the limits: the first line's 8 bytes, and a row for each total
 unfoldable pub table-bytes : ℕ
-table-bytes = 8 + row-bytes * 257
+table-bytes = 8 + row-bytes * totals-held
 
 -- what a line's writer leaves and answers
 pub record Line-put (text before after : List ℕ) (r : ℕ) : Type 0 where
@@ -89,6 +90,6 @@ pub record Row-limited (r : Row) : Type 0 where
   pub channels : length (r .separations) ≤ 8
   pub strips : length (r .positions) ≤ 9
   pub spread-below : r .spread ≤ 9999
-  pub total-below : total r ≤ 256
+  pub total-below : total r < totals-held
   pub separations-below : (i : ℕ) → i < length (r .separations) → getD (r .separations) i 0 ≤ 32
   pub positions-below : (i : ℕ) → i < length (r .positions) → getD (r .positions) i 0 ≤ 9999
