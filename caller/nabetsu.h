@@ -3,7 +3,7 @@
  * A pointer must point to as many items as the length behind it says, be aligned, and not be null even where that length is 0; the text and the output must
  * not overlap. Nothing outside the output is written, and nothing is kept from call to call.
  *
- * A refusal is one number: document 01's number times 2^40, its line times 2^20 and its field, added. It is at least 2^40, and every other answer is
+ * A refusal is one number: its own number times 2^40, its line times 2^20 and its field, added. It is at least 2^40, and every other answer is
  * below that. */
 #ifndef NABETSU_H
 #define NABETSU_H
@@ -13,6 +13,9 @@
 
 /* So many bytes are enough for every table. */
 #define NABETSU_TABLE_BYTES 21082
+
+/* So many bytes are enough for every page. */
+#define NABETSU_PAGE_BYTES 2277
 
 /* The numbers of an answer: the total, eight separations, nine positions; and of a placement, the same without the total. */
 #define NABETSU_ANSWER_NUMBERS 18
@@ -31,6 +34,11 @@ uint64_t nabetsu_write_table(const uint8_t *text, size_t text_length, uint8_t *o
  * and behind them. Or a refusal, 1 to 6, then 7, then 8 where the output has fewer than 18 places, and zeros in the whole output. The placement can be
  * drawn, and no placement that can be drawn in that spread has a smaller total. */
 uint64_t nabetsu_answer_spread(const uint8_t *text, size_t text_length, uint32_t spread, uint32_t *output, size_t output_length);
+
+/* The page of a channel, from 1, in the answer for a spread: a line for each track, the highest first, and zeros in the rest of the output; answers how many
+ * bytes it has. Or a refusal, 1 to 6, then 3 without line and field where there is no such channel, 7, 9 for a spread above 63, then 8 exactly if the page is
+ * longer than the output, and zeros in the whole output. The paths on the page are paths by document 01's rule, none leaves the spread, and # never appears. */
+uint64_t nabetsu_write_page(const uint8_t *text, size_t text_length, uint32_t spread, uint32_t channel, uint8_t *output, size_t output_length);
 
 /* The trial of eight separations and nine positions: 1 exactly if they are legal, with zeros in unused places; 2 if not, or if there are not 17 numbers. Or a
  * refusal, 1 to 6. */

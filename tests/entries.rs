@@ -1,4 +1,4 @@
-//! The three entries of the proved library on texts whose answers are written out here, from document 01. It stops at the first difference.
+//! The entries of the proved library on texts whose answers are written out here, from documents 01 and 02. It stops at the first difference.
 
 #[allow(dead_code)]
 #[path = "../reference/channel.rs"]
@@ -46,7 +46,30 @@ fn check_table(name: &str, text: &[u8], table: &str) {
     }
 }
 
-/// A refused text: all three entries say so, with zeros in every other place.
+/// A page in a space of 255s: its code, and the space behind it.
+fn page_in(text: &[u8], spread: u32, channel: u32, space: usize) -> (u64, Vec<u8>) {
+    let mut output = vec![255; space];
+    let told = library::write_page(text, spread, channel, &mut output);
+    (told, output)
+}
+
+/// A page whose lines show dots from their last column on, with zeros behind it in every longer space, and short space with zeros in every shorter one.
+fn check_page(name: &str, text: &str, spread: u32, channel: u32, lines: &[&str]) {
+    let page: String = lines.iter().map(|l| format!("{:.<68}\n", l)).collect();
+    let length = page.len();
+    for space in [0, 1, length - 1, length, length + 1, 2277, 3000] {
+        let due = if space < length { (code((8, 0, 0)), vec![0; space]) } else { (length as u64, [page.as_bytes(), &vec![0; space - length]].concat()) };
+        same(&format!("{}, page {} at {} in {} bytes", name, channel, spread, space), text.as_bytes(), page_in(text.as_bytes(), spread, channel, space), due);
+    }
+}
+
+fn check_page_refused(name: &str, text: &str, spread: u32, channel: u32, number: u32) {
+    for space in [0, 1, 3000] {
+        same(&format!("{}, page {} at {}", name, channel, spread), text.as_bytes(), page_in(text.as_bytes(), spread, channel, space), (code((number, 0, 0)), vec![0; space]));
+    }
+}
+
+/// A refused text: every entry says so, with zeros in every other place.
 fn check_refused(name: &str, text: &[u8], due: Refusal) {
     same(&format!("{}, the independent reader", name), text, reader::read(text).map(|_| ()), Err(due));
     for space in [0, 1, 50, 300] {
@@ -57,6 +80,7 @@ fn check_refused(name: &str, text: &[u8], due: Refusal) {
         let told = library::answer_spread(text, spread, &mut answer);
         same(&format!("{}, spread {}", name, spread), text, (told, answer), (code(due), [0; 18]));
         same(&format!("{}, trial at {}", name, spread), text, library::try_placement(text, spread, &[0; 17]), code(due));
+        same(&format!("{}, page at {}", name, spread), text, page_in(text, spread, 0, 70), (code(due), vec![0; 70]));
     }
 }
 
@@ -295,6 +319,35 @@ fn check_spaces() {
     same("narrow before short space", A.as_bytes(), output, [0; 3]);
 }
 
+/// Pages that go right, left and straight up, of one point, of the last column and without pairs; and their refusals in order.
+fn check_pages() {
+    check_page("A", A, 4, 1, &["  2 ..o.o", "  1 .++.|", "  0 o+o-+"]);
+    check_page("A", A, 5, 1, &["  1 ..o.o", "  0 .o+o+"]);
+    check_page("A", A, 6, 1, &["  0 ..o.o"]);
+    let left = "STACK\t1\nPART\t4\nPART\t4\nNETS\t0\t0\t3\t1\t4\t2\n";
+    check_page("left", left, 4, 1, &["  2 ooo", "  1 ||+-+", "  0 o+-oo"]);
+    let wide = "STACK\t1\nPART\t63\nPART\t63\nNETS\t0\t63\n";
+    check_page("wide", wide, 63, 1, &[&format!("  1 {}o", ".".repeat(63)), &format!("  0 o{}+", "-".repeat(62))]);
+    let empty = bare(2, 3);
+    check_page("without pairs", &empty, 3, 2, &["  0 "]);
+    let long = "STACK\t1\nPART\t100\nPART\t4\nNETS\n";
+    for (name, text, spread, channel, number) in [
+        ("A", A, 4, 0, 3),
+        ("A", A, 4, 2, 3),
+        ("A", A, 4, u32::MAX, 3),
+        ("channel before narrow", A, 3, 2, 3),
+        ("channel before broad", A, 64, 0, 3),
+        ("A", A, 3, 1, 7),
+        ("A", A, 64, 1, 9),
+        ("A", A, u32::MAX, 1, 9),
+        ("narrow before broad", long, 80, 1, 7),
+        ("broad", long, 100, 1, 9),
+        ("without pairs", &empty, 3, 3, 3),
+    ] {
+        check_page_refused(name, text, spread, channel, number);
+    }
+}
+
 fn main() {
     let (refused, accepted) = (refused(), accepted());
     for (name, text, due) in &refused {
@@ -310,5 +363,6 @@ fn main() {
     check_answers();
     check_trials();
     check_spaces();
-    println!("entries: {} refused texts, {} tables, answers and trials of the specimens: no difference", refused.len(), accepted.len());
+    check_pages();
+    println!("entries: {} refused texts, {} tables, answers, trials and pages of the specimens: no difference", refused.len(), accepted.len());
 }

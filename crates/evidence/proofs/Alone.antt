@@ -22,7 +22,9 @@ use Rattle.trial.specs.Legal.{is-legal}
 use Rattle.nabetsu.specs.Entry.{numbers, numbers-in, Numbers-put, placed-is, Answered, Spread-says, zeros, table-told, Fits, Tabled, Table-says, Trial-says}
 use Rattle.nabetsu.specs.declared.SpreadAnswer.{SpreadAnswer}
 use Rattle.nabetsu.specs.declared.TableAnswer.{TableAnswer}
-use Rattle.evidence.specs.Alone.{Same-spread, Spread-alone, Spread-coded-alone, Same-table, Table-alone, Coded-alone, Trial-alone, Placement-drawable, Trial-drawable}
+use Rattle.page.specs.Page.{channel-page}
+use Rattle.nabetsu.specs.Pages.{Paged, Page-says}
+use Rattle.evidence.specs.Alone.{Same-spread, Spread-alone, Spread-coded-alone, Same-table, Table-alone, Coded-alone, Page-alone, Page-coded-alone, Trial-alone, Placement-drawable, Trial-drawable}
 
 -- ONE SPREAD
 placed-alone : (f : Refusal) (v : ℕ) (ts xs : List ℕ) (r q : SpreadAnswer) → placed-is f v ts xs r → placed-is f v ts xs q → Same-spread r q
@@ -88,6 +90,26 @@ pub coded-alone : Coded-alone
 unfolding Coded-alone Table-alone
 coded-alone bs r q o p x y l a b =
     let same = table-alone bs (a .answer) (b .answer) o p x y l (a .says) (b .says) in
+    (a .coded ∙ (rw (same .refusals, same .written) (sym (b .coded))), same .outputs)
+
+-- THE PAGE
+paged-alone : (c : ℕ) (f : Refusal) (k : Stack) (s n : ℕ) (r q : TableAnswer) (o p x y : List ℕ) → length o ≡ length p → Paged c f k s n r o x → Paged c f k s n q p y →
+    Same-table r q x y
+unfolding Paged
+paged-alone zero f k s n r q o p x y l a b =
+    let t = channel-page k (b .0) (b .1) (n - 1) in
+    let same = answer-alone k s (a .0) (a .1) (b .0) (b .1) (a .2) (b .2) in
+    fits-alone (leb (length t) (length p)) t r q o p x y l (rw (same .0, same .1, l) at (a .3)) (b .3)
+paged-alone (suc c) f k s n r q o p x y l a b = told-alone f 0 r q x y (zeros o) (a .0) (b .0) (a .1) (b .1 ∙ zeros-alone o p l)
+
+pub page-alone : Page-alone
+unfolding Page-alone Page-says
+page-alone bs s n r q o p x y l a b = paged-alone _ _ (stack-in bs) s n r q o p x y l a b
+
+pub page-coded-alone : Page-coded-alone
+unfolding Page-coded-alone Page-alone
+page-coded-alone bs s n r q o p x y l a b =
+    let same = page-alone bs s n (a .answer) (b .answer) o p x y l (a .says) (b .says) in
     (a .coded ∙ (rw (same .refusals, same .written) (sym (b .coded))), same .outputs)
 
 -- THE TRIAL

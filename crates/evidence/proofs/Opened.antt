@@ -17,7 +17,7 @@ use Rattle.lines.specs.Lines as lines
 use Rattle.text.specs.Text as texts
 use Rattle.writing.specs.TableText as table-texts
 use Rattle.trial.specs.Legal.{all-zero, is-legal}
-use Rattle.nabetsu.specs.Entry.{spread-refusal}
+use Rattle.nabetsu.specs.Entry.{narrow-refusal, spread-refusal}
 use Rattle.evidence.specs.Replies.{Spread-reply, placement, placement-for, spread-reply, Table-reply, writes, refuses, if-fits, table-for, table-reply}
 use Rattle.evidence.specs.Specimens.{byte-shown, line-shown, text-shown}
 
@@ -40,5 +40,5 @@ unfolding stacks.p-at stacks.q-at stacks.every stacks.left-good stacks.right-goo
     solve.window solve.channel-limits solve.stack-levels solve.bottom solve.levels-of solve.total-with solve.separations-with solve.positions-with
     solve.answer-total solve.answer-separations solve.answer-positions walk.row-at walk.rows-walk walk.widest walk.rows-of
     table-texts.digits-from table-texts.digits table-texts.tabbed table-texts.row-text table-texts.rows-text table-texts.table-text
-    padded spread-refusal all-zero is-legal placement placement-for spread-reply writes refuses if-fits table-for table-reply
+    padded narrow-refusal spread-refusal all-zero is-legal placement placement-for spread-reply writes refuses if-fits table-for table-reply
 replying bs s n ts xs = (spread-reply bs s, table-reply bs n, is-legal (texts.stack-in bs) s (padded 8 ts) (padded 9 xs))

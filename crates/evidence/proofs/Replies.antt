@@ -1,7 +1,7 @@
 -- A result is promised exactly if it is the reply that the executable definitions of Replies.antt give: they are an answer and rows, and there is but one
 -- answer and but one list of rows. Assumes nothing.
 use mathlib.Core.Path.{_≡_, refl}
-use mathlib.Core.Bool.{Bool, true, false, cond}
+use mathlib.Core.Bool.{Bool, true, false}
 use mathlib.Core.List.{List, [], _∷_}
 use mathlib.Core.Logic.{_↔_}
 use Prim.Native.Nat.{ℕ, zero, suc}
@@ -12,7 +12,7 @@ use Rattle.numbers.proofs.Bools.{ands, impossible}
 use Rattle.stack.specs.Stack.{Stack, Answer, longest}
 use Rattle.stack.specs.Limits.{within-limits}
 use Rattle.lines.specs.Lines.{same-bytes}
-use Rattle.text.specs.Text.{Refusal, refusal, text-refusal, stack-in}
+use Rattle.text.specs.Text.{Refusal, refusal, fine, text-refusal, stack-in}
 use Rattle.text.proofs.Refusals.{or-else-fine, when-fine}
 use Rattle.text.proofs.Within.{accepted-within}
 use Rattle.answer.specs.Solve.{answer-separations, answer-positions}
@@ -20,7 +20,7 @@ use Rattle.answer.proofs.Answers.{answer-there, answer-alone}
 use Rattle.rows.specs.Walk.{rows-of}
 use Rattle.rows.proofs.Rows.{rows-are, rows-alone}
 use Rattle.writing.specs.TableText.{table-text}
-use Rattle.nabetsu.specs.Entry.{spread-refusal, placed-is, Answered, Spread-says, zeros, table-told, Fits, Tabled, Table-says}
+use Rattle.nabetsu.specs.Entry.{narrow-refusal, spread-refusal, placed-is, Answered, Spread-says, zeros, table-told, Fits, Tabled, Table-says}
 use Rattle.nabetsu.specs.declared.SpreadAnswer.{SpreadAnswer}
 use Rattle.nabetsu.specs.declared.TableAnswer.{TableAnswer}
 use Rattle.evidence.specs.Replies.{same-refusal, Spread-reply, placement, same-placement, placement-for, spread-reply, Table-reply, writes, refuses, same-table, if-fits, table-for, table-reply}
@@ -80,11 +80,11 @@ module _ (f : Refusal) (k : Stack) (s : ℕ) (r : SpreadAnswer) where
   replied-answered (suc n) there p = p
 
 spread-there : (bs : List ℕ) (s : ℕ) → spread-refusal bs s .number ≡ 0 → Answer (stack-in bs) s (answer-separations (stack-in bs) s) (answer-positions (stack-in bs) s)
-unfolding spread-refusal
+unfolding spread-refusal narrow-refusal
 spread-there bs s e =
     let l = longest (stack-in bs .strips) in
-    let fine = or-else-fine (text-refusal bs) (cond (ltb s l) (refusal 7 0 0) (refusal 0 0 0)) e in
-    answer-there (stack-in bs) s (accepted-within bs (fine .0)) (ltb-false s l (when-fine (ltb s l) 6 0 0 (refusal 0 0 0) (fine .1) .0))
+    let both = or-else-fine (text-refusal bs) (narrow-refusal (stack-in bs) s) e in
+    answer-there (stack-in bs) s (accepted-within bs (both .0)) (ltb-false s l (when-fine (ltb s l) 6 0 0 fine (both .1) .0))
 
 pub spread-replied : (bs : List ℕ) (s : ℕ) (r : SpreadAnswer) → Spread-says bs s r ↔ replied (spread-reply bs s) r
 unfolding Spread-says spread-reply

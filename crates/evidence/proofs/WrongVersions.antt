@@ -18,7 +18,7 @@ use Rattle.routing.specs.Paths.{point, Drawable}
 use Rattle.lines.specs.Lines.{same-bytes}
 use Rattle.text.specs.Text.{Refusal, refusal, stack-in}
 use Rattle.text.specs.Outcome.{refusal-of}
-use Rattle.nabetsu.specs.Entry.{spread-refusal, placed-is, Answered, Spread-says, table-told, Table-says}
+use Rattle.nabetsu.specs.Entry.{narrow-refusal, spread-refusal, placed-is, Answered, Spread-says, table-told, Table-says}
 use Rattle.nabetsu.specs.Best.{Spread-best}
 use Rattle.nabetsu.specs.declared.SpreadAnswer.{SpreadAnswer}
 use Rattle.nabetsu.specs.declared.TableAnswer.{TableAnswer}
@@ -107,7 +107,7 @@ a-drawn =
     record { within = refl; drawn = (record { paths = (point (pos 2) 0 ∷ []) ∷ (point (pos 4) 0 ∷ []) ∷ []; led = refl; clear = refl }, refl) }
 
 pub full-count-not-least : (r : SpreadAnswer) → r .total .0 ≡ 2 → Spread-best (text-shown text-a) 100 r → ⊥
-unfolding reading spread-refusal longest sum
+unfolding reading spread-refusal narrow-refusal longest sum
 full-count-not-least r w b = omega (arith, b .none-smaller refl (0 ∷ []) (2 ∷ 0 ∷ []) a-drawn)
 
 -- FIRST ROW RIGHT and then repeated

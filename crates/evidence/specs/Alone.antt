@@ -14,6 +14,7 @@ use Rattle.text.specs.Text.{text-refusal, stack-in}
 use Rattle.text.specs.Outcome.{refusal-of}
 use Rattle.trial.specs.Legal.{all-zero}
 use Rattle.nabetsu.specs.Entry.{Spread-says, Table-says, Trial-says, Table-coded, Spread-coded}
+use Rattle.nabetsu.specs.Pages.{Page-says, Page-coded}
 use Rattle.nabetsu.specs.declared.SpreadAnswer.{SpreadAnswer}
 use Rattle.nabetsu.specs.declared.TableAnswer.{TableAnswer}
 use Rattle.nabetsu.specs.declared.TrialAnswer.{TrialAnswer}
@@ -47,6 +48,15 @@ Table-alone =
 unfoldable pub Coded-alone : Type 0
 Coded-alone =
     (bs : List ℕ) (r q : ℕ) (o p x y : List ℕ) → length o ≡ length p → Table-coded bs r o x → Table-coded bs q p y → (r ≡ q) × (x ≡ y)
+
+-- THE PAGE, likewise
+unfoldable pub Page-alone : Type 0
+Page-alone =
+    (bs : List ℕ) (s n : ℕ) (r q : TableAnswer) (o p x y : List ℕ) → length o ≡ length p → Page-says bs s n r o x → Page-says bs s n q p y → Same-table r q x y
+
+unfoldable pub Page-coded-alone : Type 0
+Page-coded-alone =
+    (bs : List ℕ) (s n r q : ℕ) (o p x y : List ℕ) → length o ≡ length p → Page-coded bs s n r o x → Page-coded bs s n q p y → (r ≡ q) × (x ≡ y)
 
 -- THE TRIAL: refusal and verdict
 pub record Same-trial (r q : TrialAnswer) : Type 0 where

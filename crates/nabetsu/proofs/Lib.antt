@@ -4,6 +4,7 @@ pub mod Space
 pub mod Readings
 pub mod Spreads
 pub mod Tables
+pub mod Pages
 pub mod Trials
 pub mod Codes
 pub mod Copies

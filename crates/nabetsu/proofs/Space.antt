@@ -23,7 +23,7 @@ unfolding Table-space table-bytes row-bytes
 table-space bs rs e a = rows-space (stack-in bs) (stack-within bs e) rs a
 
 -- a text that fits is written
-fits-fine : (t : List ℕ) (r : TableAnswer) (o x : List ℕ) → length t ≤ length o → Fits (leb (length t) (length o)) t r o x → refusal-of (r .outcome) .number ≡ 0
+pub fits-fine : (t : List ℕ) (r : TableAnswer) (o x : List ℕ) → length t ≤ length o → Fits (leb (length t) (length o)) t r o x → refusal-of (r .outcome) .number ≡ 0
 unfolding Fits table-told refusal
 fits-fine t r o x h f = let told = rw (le-leb (length t) (length o) h) at f in ap (λ (f : Refusal). f .number) (told .0 .0)
 

@@ -26,7 +26,7 @@ use Rattle.solver.specs.declared.Placement.{Placement}
 use Rattle.answer.specs.Solve.{answer-separations, answer-positions}
 use Rattle.answer.specs.Arrays.{Answer-is}
 use Rattle.answer.proofs.Answers.{answer-there, answer-sum, legal-lengths}
-use Rattle.nabetsu.specs.Entry.{spread-refusal, placed-is, Answered, Spread-says}
+use Rattle.nabetsu.specs.Entry.{narrow-refusal, spread-refusal, placed-is, Answered, Spread-says}
 use Rattle.nabetsu.specs.Best.{Spread-best}
 use Rattle.nabetsu.specs.declared.SpreadAnswer.{SpreadAnswer}
 use Rattle.nabetsu.proofs.Readings.{refused-text, text-fine, stack-is}
@@ -47,25 +47,25 @@ module _ (bs : List ℕ) (s : ℕ) (g : Reading) (d : Stack-read bs g) where
       Spread-says bs s r
   unfolding Spread-says spread-refusal placed-is padded
   spread-refused r h o t ss ps =
-      let e : or-else (text-refusal bs) (cond (ltb s (longest (stack-in bs .strips))) (refusal 7 0 0) (refusal 0 0 0)) ≡ text-refusal bs = or-else-refused (text-refusal bs) _ (refused-text bs g d h) in
+      let e : or-else (text-refusal bs) (narrow-refusal (stack-in bs) s) ≡ text-refusal bs = or-else-refused (text-refusal bs) _ (refused-text bs g d h) in
       rw e (answered-refused (text-refusal bs .number) (text-refusal bs) (stack-in bs) s r (refused-text bs g d h) (ap refusal-of o ∙ d .outcome, t, ss, ps))
 
   module _ (a : is-accepted (g .outcome) ≡ true) where
     pub spread-narrow : (r : SpreadAnswer) → s < longest (stack-of (g .stack) .strips) → r .outcome ≡ refused Narrow 0 0 → r .total .0 ≡ 0 → tracks-of (r .separations) ≡ replicate 8 0 → columns-of (r .positions) ≡ replicate 9 0 →
         Spread-says bs s r
-    unfolding Spread-says spread-refusal placed-is padded Answered refusal
+    unfolding Spread-says spread-refusal narrow-refusal placed-is padded Answered refusal
     spread-narrow r h o t ss ps =
         let l : s < longest (stack-in bs .strips) = rw (stack-is bs g d a) at h in
-        let e : or-else (text-refusal bs) (cond (ltb s (longest (stack-in bs .strips))) (refusal 7 0 0) (refusal 0 0 0)) ≡ refusal 7 0 0 = or-else-next (text-refusal bs) _ (text-fine bs g d a) ∙ rw (lt-ltb s (longest (stack-in bs .strips)) l) in
+        let e : or-else (text-refusal bs) (narrow-refusal (stack-in bs) s) ≡ refusal 7 0 0 = or-else-next (text-refusal bs) _ (text-fine bs g d a) ∙ rw (lt-ltb s (longest (stack-in bs .strips)) l) in
         rw e (ap refusal-of o, t, ss, ps)
 
     pub spread-answered : (r : SpreadAnswer) (p : Placement) → longest (stack-of (g .stack) .strips) ≤ s → Answer-is (stack-of (g .stack)) s p → r .outcome ≡ g .outcome → r .total ≡ p .total → r .separations ≡ p .separations →
         r .positions ≡ p .positions → Spread-says bs s r
-    unfolding Spread-says spread-refusal placed-is padded Answered refusal fine
+    unfolding Spread-says spread-refusal narrow-refusal placed-is padded Answered refusal fine
     spread-answered r p h i o t ss ps =
         let k = stack-of (g .stack) in
         let l : longest (stack-in bs .strips) ≤ s = rw (stack-is bs g d a) at h in
-        let e : or-else (text-refusal bs) (cond (ltb s (longest (stack-in bs .strips))) (refusal 7 0 0) (refusal 0 0 0)) ≡ refusal 0 0 0 = or-else-next (text-refusal bs) _ (text-fine bs g d a) ∙ rw (le-ltb s (longest (stack-in bs .strips)) l) in
+        let e : or-else (text-refusal bs) (narrow-refusal (stack-in bs) s) ≡ refusal 0 0 0 = or-else-next (text-refusal bs) _ (text-fine bs g d a) ∙ rw (le-ltb s (longest (stack-in bs .strips)) l) in
         rw (e, ← stack-is bs g d a) (
           answer-separations k s,
           answer-positions k s,

@@ -1,12 +1,14 @@
--- The laws of write_table: a refused text, too little space, and the table. Assumes nothing.
-use mathlib.Core.Path.{_≡_, refl, ap, _∙_}
+-- The laws of write_table: a refused text, and the table where it was put: too little space, or its whole text. Assumes nothing.
+use mathlib.Core.Path.{_≡_, refl, sym, ap, _∙_}
 use mathlib.Core.Bool.{true, false}
-use mathlib.Core.List.{List, _++_}
+use mathlib.Core.List.{List}
+use mathlib.Core.Logic.{_⊎_, inl, inr}
 use Prim.Native.Nat.{ℕ, zero, suc, _-_, _≤_, _<_}
 use native.Mathlib.Omega.{arith}
 use lib.Dec.{leb}
-use lib.ListN.{length, replicate}
+use lib.ListN.{length}
 use borrow.Author.Tests.{le-leb, lt-leb}
+use Rattle.numbers.proofs.Orders.{le-or-lt}
 use Rattle.stack.specs.Stack.{Stack}
 use Rattle.stack.specs.Value.{stack-of}
 use Rattle.text.specs.Text.{Refusal, refusal, fine, text-refusal, stack-in}
@@ -18,12 +20,12 @@ use Rattle.text.specs.declared.Refusal.the-variants.{ShortSpace}
 use Rattle.text.proofs.Refusals.{accepted-fine}
 use Rattle.rows.specs.Walk.{rows-of}
 use Rattle.rows.proofs.Rows.{rows-are}
-use Rattle.writing.specs.Output.{cleared}
+use Rattle.writing.specs.Output.{Written, cleared}
 use Rattle.writing.specs.TableText.{table-text}
 use Rattle.writing.proofs.Lines.{written-ends, cleared-all}
 use Rattle.table.specs.Walking.{Table-put}
 use Rattle.nabetsu.specs.Entry.{table-told, Fits, Tabled, Table-says, zeros}
-use Rattle.nabetsu.specs.Parts.{Refused-table}
+use Rattle.nabetsu.specs.Parts.{Refused-table, Finished}
 use Rattle.nabetsu.specs.declared.TableAnswer.{TableAnswer}
 use Rattle.nabetsu.proofs.Readings.{refused-text, text-fine, stack-is}
 
@@ -31,9 +33,31 @@ pub cleared-zeros : (o x : List ℕ) → x ≡ cleared 0 o → x ≡ zeros o
 unfolding zeros
 cleared-zeros o x e = e ∙ cleared-all o
 
-zeros-long : (o m x : List ℕ) → length m ≡ length o → x ≡ zeros m → x ≡ zeros o
+pub zeros-long : (o m x : List ℕ) → length m ≡ length o → x ≡ zeros m → x ≡ zeros o
 unfolding zeros
 zeros-long o m x l e = e ∙ rw l
+
+-- WHERE A TEXT WAS PUT
+pub finished-short : (u z : Outcome) (w : ℕ) (o x : List ℕ) (r : TableAnswer) → length o < w → z ≡ refused ShortSpace 0 0 → Refused-table z o x r → Finished (leb w (length o)) u w o x r
+unfolding Finished table-told refusal
+finished-short u z w o x r h e t = rw (lt-leb w (length o) h) ((ap refusal-of (t .outcome-is ∙ e), t .none-written), t .cleared)
+
+pub finished-whole : (u : Outcome) (w : ℕ) (o x : List ℕ) (r : TableAnswer) → w ≤ length o → r .outcome ≡ u → r .written ≡ w → x ≡ cleared w o → Finished (leb w (length o)) u w o x r
+unfolding Finished
+finished-whole u w o x r h d e c = rw (le-leb w (length o) h) (d, e, c)
+
+-- it stands whole with zeros behind it, or is too long
+pub finished-fits : (t : List ℕ) (u : Outcome) (w : ℕ) (b o m x : List ℕ) (r : TableAnswer) → is-accepted u ≡ true → length m ≡ length o → w ≡ length t → Written t b m
+    → Finished (leb w (length m)) u w m x r → Fits (leb (length t) (length o)) t r o x
+unfolding Finished Fits table-told refusal fine
+finished-fits t u w b o m x r a l c p = rw (l, c) (go (le-or-lt (length t) (length o)))
+  where
+    go : (length t ≤ length o) ⊎ (length o < length t) → Finished (leb (length t) (length o)) u (length t) m x r → Fits (leb (length t) (length o)) t r o x
+    go (inl h) =
+        let long : length b ≡ length o = sym (p .same-length) ∙ l in
+        rw (le-leb (length t) (length o) h)
+        (λ f. ((ap refusal-of (f .0) ∙ accepted-fine u a, f .1), f .2 ∙ rw long at (written-ends p (omega arith))))
+    go (inr h) = rw (lt-leb (length t) (length o) h) (λ f. (f .0, zeros-long o m x l (f .1)))
 
 tabled-refused : (n : ℕ) (f : Refusal) (k : Stack) (r : TableAnswer) (o x : List ℕ) → (n ≡ 0 → ⊥) → table-told f 0 r → x ≡ zeros o → Tabled n f k r o x
 unfolding Tabled
@@ -54,15 +78,6 @@ module _ (bs : List ℕ) (g : Reading) (d : Stack-read bs g) (r : TableAnswer) (
     unfolding Table-says Tabled fine refusal whole
     says f = rw (text-fine bs g d a, ← stack-is bs g d a) (rows-of (stack-of (g .stack)), rows-are (stack-of (g .stack)) (d .within), f)
 
-    pub table-short : (u : Outcome) → length m < n → u ≡ refused ShortSpace 0 0 → Refused-table u m x r → Table-says bs r o x
-    unfolding Fits table-told refusal whole
-    table-short u h e t =
-        let long : length o < length whole = omega (arith, p .counted) in
-        says (rw (lt-leb (length whole) (length o) long) (((ap refusal-of (t .outcome-is ∙ e), t .none-written), zeros-long o m x l (t .cleared))))
-
-    pub table-fits : n ≤ length m → r .outcome ≡ g .outcome → r .written ≡ n → x ≡ cleared n m → Table-says bs r o x
-    unfolding Fits table-told refusal fine whole
-    table-fits h e w c =
-        let short : length whole ≤ length o = omega (arith, p .counted) in
-        let text : x ≡ whole ++ replicate (length o - length whole) 0 = c ∙ (rw (p .counted, ← l) (written-ends (p .written) (omega (arith, p .counted)))) in
-        says (rw (le-leb (length whole) (length o) short) (((ap refusal-of e ∙ accepted-fine (g .outcome) a, w ∙ p .counted), text)))
+    pub table-finished : Finished (leb n (length m)) (g .outcome) n m x r → Table-says bs r o x
+    unfolding whole
+    table-finished f = says (finished-fits whole (g .outcome) n m o m x r a l (p .counted) (p .written) f)

@@ -9,7 +9,7 @@ use lib.ListN.{length, getD, take, drop, replicate}
 use Rattle.stack.specs.Value.{tracks-of, columns-of}
 use Rattle.numbers.specs.Lists.{tabulate, padded}
 use Rattle.stack.specs.Stack.{Stack, Answer, Row, Rows-are, sum, longest}
-use Rattle.text.specs.Text.{Refusal, refusal, or-else, text-refusal, stack-in}
+use Rattle.text.specs.Text.{Refusal, refusal, fine, or-else, text-refusal, stack-in}
 use Rattle.text.specs.Outcome.{refusal-of}
 use Rattle.writing.specs.TableText.{table-text}
 use Rattle.trial.specs.Legal.{is-legal}
@@ -18,8 +18,11 @@ use Rattle.nabetsu.specs.declared.TableAnswer.{TableAnswer}
 use Rattle.nabetsu.specs.declared.TrialAnswer.{TrialAnswer}
 
 -- ONE SPREAD: 1 to 6, then 7
+unfoldable pub narrow-refusal : Stack → (s : ℕ) → Refusal
+narrow-refusal k s = cond (ltb s (longest (k .strips))) (refusal 7 0 0) fine
+
 unfoldable pub spread-refusal : List ℕ → (s : ℕ) → Refusal
-spread-refusal bs s = or-else (text-refusal bs) (cond (ltb s (longest (stack-in bs .strips))) (refusal 7 0 0) (refusal 0 0 0))
+spread-refusal bs s = or-else (text-refusal bs) (narrow-refusal (stack-in bs) s)
 
 unfoldable pub placed-is : Refusal → (total : ℕ) → (ts xs : List ℕ) → SpreadAnswer → Type 0
 placed-is f v ts xs r =

@@ -3,4 +3,5 @@ pub mod Promise
 pub mod Entry
 pub mod Best
 pub mod Space
+pub mod Pages
 pub mod Parts

@@ -1,15 +1,20 @@
-// The public entries: the table of a text, the answer for one spread, the verdict on a placement. Each answers whatever comes in, or refuses.
-ghost use Rattle.stack.specs.Value.{tracks-of, columns-of};
+// The public entries: the table of a text, the answer for one spread, a channel's page, the verdict on a placement. Each answers whatever comes in, or refuses.
+ghost use Rattle.stack.specs.Value.{tracks-of, columns-of, stack-of};
+ghost use Rattle.stack.specs.Limits.{within-limits};
+ghost use mathlib.Core.Bool.{true};
 ghost use Rattle.nabetsu.specs.Entry.{Spread-says, Table-says, Trial-says, Table-coded, Spread-coded, code, numbers-in, verdict, is-legal-numbers};
 ghost use Rattle.text.specs.Text.{refusal, or-else, text-refusal, stack-in};
+ghost use lib.Dec.{leb};
 ghost use lib.ListN.{length, getD, take, drop};
 ghost use mathlib.Core.List.{_∷_, _++_};
 ghost use Rattle.text.specs.Outcome.{refusal-of};
 ghost use mathlib.Core.Path.{_≡_};
 ghost use Rattle.nabetsu.specs.Best.{Spread-best};
-ghost use Rattle.nabetsu.specs.Parts.{Refused-answer, Refused-table, Numbers-tried};
+ghost use Rattle.nabetsu.specs.Pages.{asked-refusal, Page-says, Page-enough, Page-shows, Page-coded};
+ghost use Rattle.nabetsu.specs.Parts.{Refused-answer, Refused-table, Finished, Channel-put, Numbers-tried};
 ghost use Rattle.nabetsu.specs.Space.{Space-enough};
 use answer::answer;
+use plot::put_page;
 use stack::Columns;
 use stack::Stack;
 use stack::Tracks;
@@ -72,13 +77,13 @@ pub fn answer_spread(text: &[u8], spread: u32) -> SpreadAnswer
 // Enough bytes for the table of every text: a first line of 8, and at most 257 rows of at most 82.
 pub const TABLE_BYTES: usize = 21082;
 
-// How many bytes the table has that was written; none where it is refused.
+// How many bytes of a table or a page were written; none where it is refused.
 pub struct TableAnswer {
     pub outcome: Outcome,
     pub written: usize,
 }
 
-// A refused table: zeros in the whole output.
+// A refused table or page: zeros in the whole output.
 fn refused_table(outcome: Outcome, output: &mut [u8]) -> TableAnswer
     ensures { λ r. ⌜ Refused-table outcome (now (output .entry)) (now (output .exit)) r ⌝ }
 {
@@ -87,6 +92,17 @@ fn refused_table(outcome: Outcome, output: &mut [u8]) -> TableAnswer
         outcome,
         written: 0,
     }
+}
+
+// A table or page of so many bytes that was put where there is space for it: zeros behind it, or short space.
+fn finish(outcome: Outcome, written: usize, output: &mut [u8]) -> TableAnswer
+    ensures { λ r. ⌜ Finished (leb written (length (now (output .entry)))) outcome written (now (output .entry)) (now (output .exit)) r ⌝ }
+{
+    if output.len() < written {
+        return refused_table(Outcome::refused(Refusal::ShortSpace, 0, 0), output);
+    }
+    clear_from(output, written);
+    TableAnswer { outcome, written }
 }
 
 // Document 01, "Sent back at the counter": the table of the stack in a text with zeros behind it, or the first refusal that applies, 1 to 6, then 8, and
@@ -101,11 +117,72 @@ pub fn write_table(text: &[u8], output: &mut [u8]) -> TableAnswer
         return refused_table(outcome, output);
     }
     let written = put_table(reading.stack, output);
-    if output.len() < written {
-        return refused_table(Outcome::refused(Refusal::ShortSpace, 0, 0), output);
+    finish(outcome, written, output)
+}
+
+// Enough bytes for the page of every channel: at most 33 lines of 69.
+pub const PAGE_BYTES: usize = 2277;
+
+// The greatest spread that a page can show.
+const PAGE_SPREAD: u32 = 63;
+
+// Document 02, P1: whether a page can be asked for: a channel from 1 to k, a spread that is not narrow, and not above 63.
+fn page_outcome(stack: Stack, spread: u32, channel: u32) -> Outcome
+    requires { ⌜ within-limits (stack-of stack) ≡ true ⌝ }
+    ensures { λ r. ⌜ refusal-of r ≡ asked-refusal (stack-of stack) spread channel ⌝ }
+{
+    if channel < 1 {
+        return Outcome::refused(Refusal::Crowd, 0, 0);
     }
-    clear_from(output, written);
-    TableAnswer { outcome, written }
+    if stack.count < channel as usize {
+        return Outcome::refused(Refusal::Crowd, 0, 0);
+    }
+    if spread < stack.longest() {
+        return Outcome::refused(Refusal::Narrow, 0, 0);
+    }
+    if PAGE_SPREAD < spread {
+        return Outcome::refused(Refusal::Broad, 0, 0);
+    }
+    Outcome::Accepted
+}
+
+// The page of a channel of the answer, over the output's first bytes, where there is space for it; its length.
+fn put_channel(stack: Stack, spread: u32, channel: u32, output: &mut [u8]) -> usize
+    requires { ⌜ (within-limits (stack-of stack) ≡ true) × (asked-refusal (stack-of stack) spread channel .number ≡ 0) ⌝ }
+    ensures { λ r. ⌜ Channel-put (stack-of stack) spread channel (now (output .entry)) (now (output .exit)) r ⌝ }
+{
+    let placement = answer(stack, spread);
+    let separations = placement.separations;
+    let positions = placement.positions;
+    let i = channel as usize - 1;
+    put_page(
+        stack.channels[i],
+        separations[i],
+        positions[i],
+        positions[i + 1],
+        output,
+    )
+}
+
+// Document 02, P1: the page of a channel in the answer for one spread, with zeros behind it, or the first refusal that applies, 1 to 6, then 3 for the channel,
+// 7, 9 and 8, and zeros in the whole output.
+pub fn write_page(text: &[u8], spread: u32, channel: u32, output: &mut [u8]) -> TableAnswer
+    ensures { λ r. ⌜ Page-says (now (text .entry)) spread channel r (now (output .entry)) (now (output .exit)) ⌝ }
+    ensures { λ r. ⌜ Page-shows (now (text .entry)) spread channel r (now (output .exit)) ⌝ }
+    ensures { λ r. do ⌜ Page-enough (← ⟦PAGE_BYTES⟧ .entry) (now (text .entry)) spread channel r (now (output .entry)) ⌝ }
+{
+    let reading = read_stack(text);
+    let outcome = reading.outcome;
+    if !outcome.is_accepted() {
+        return refused_table(outcome, output);
+    }
+    let stack = reading.stack;
+    let asked = page_outcome(stack, spread, channel);
+    if !asked.is_accepted() {
+        return refused_table(asked, output);
+    }
+    let written = put_channel(stack, spread, channel, output);
+    finish(outcome, written, output)
 }
 
 // The verdict on a placement; false where the text is refused.
@@ -155,6 +232,21 @@ pub extern "C" fn nabetsu_write_table(text: &[u8], output: &mut [u8]) -> u64
     ensures { λ r. ⌜ Table-coded (now (text .entry)) r (now (output .entry)) (now (output .exit)) ⌝ }
 {
     let answer = write_table(text, output);
+    let outcome = answer.outcome;
+    code(outcome, answer.written as u64)
+}
+
+// write_page for callers in other languages: the page's bytes, or the refusal in one number.
+#[no_mangle]
+pub extern "C" fn nabetsu_write_page(
+    text: &[u8],
+    spread: u32,
+    channel: u32,
+    output: &mut [u8],
+) -> u64
+    ensures { λ r. ⌜ Page-coded (now (text .entry)) spread channel r (now (output .entry)) (now (output .exit)) ⌝ }
+{
+    let answer = write_page(text, spread, channel, output);
     let outcome = answer.outcome;
     code(outcome, answer.written as u64)
 }

@@ -21,7 +21,7 @@ use Rattle.routing.proofs.Listed.{listed-at}
 use Rattle.routing.proofs.Sufficiency.{On-path, On-right, On-left, right, left, Goes, rightward, leftward, goes, right-course, left-course, path-points}
 
 -- what a path does from the top of an upright piece on, it does from the foot on
-leads-riser : (u v : Point) (x y n z : ℕ) (ws : List Point) → y + n ≡ z → leads u v (point (pos x) z ∷ ws) ≡ true
+pub leads-riser : (u v : Point) (x y n z : ℕ) (ws : List Point) → y + n ≡ z → leads u v (point (pos x) z ∷ ws) ≡ true
     → leads u v (point (pos x) y ∷ riser x y n ws) ≡ true
 unfolding leads riser
 leads-riser u v x y zero z ws e h = let d : y ≡ z = omega arith in rw d h
@@ -29,13 +29,13 @@ leads-riser u v x y (suc n) z ws e h =
     or-right (same-point u (point (pos x) y) && begins v (riser x y (suc n) ws)) (leads u v (riser x y (suc n) ws))
     (leads-riser u v x (suc y) n z ws (omega arith) h)
 
-begins-on : (v : Point) (ws : List Point) → begins v ws ≡ true → on-path v ws ≡ true
+pub begins-on : (v : Point) (ws : List Point) → begins v ws ≡ true → on-path v ws ≡ true
 unfolding begins on-path
 begins-on v [] h = h
 begins-on v (b ∷ ws) h = or-left (same-point v b) (on-path v ws) h
 
 -- both points are on the path
-leads-on : (u v : Point) (ws : List Point) → leads u v ws ≡ true → (on-path u ws ≡ true) × (on-path v ws ≡ true)
+pub leads-on : (u v : Point) (ws : List Point) → leads u v ws ≡ true → (on-path u ws ≡ true) × (on-path v ws ≡ true)
 unfolding leads on-path
 leads-on u v [] h = (h, h)
 leads-on u v (a ∷ ws) h = ⊎-elim first (λ e. later (leads-on u v ws e)) (or-either (same-point u a && begins v ws) (leads u v ws) h)

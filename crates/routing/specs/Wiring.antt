@@ -1,4 +1,4 @@
--- The paths of a channel: document 02's P1 path rule. A path going right runs between columns x and x + 1 on the track numbered by how many n ≥ 1 have
+-- TRUSTED. The paths of a channel: document 02's P1 path rule. A path going right runs between columns x and x + 1 on the track numbered by how many n ≥ 1 have
 -- (column of the terminal n pairs further on the lower edge) - n ≤ x; left is the mirror image. Upright pieces join the runs, and the last reaches track t.
 -- Assumes nothing: these are definitions.
 use mathlib.Core.Bool.{Bool, true, false, _&&_, _||_, cond}

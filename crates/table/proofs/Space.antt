@@ -80,7 +80,7 @@ module _ (k : Stack) (good : within-limits k ≡ true) where
       leb-true (length (getD (k .channels) i [])) 32 (search ands)
 
   -- no separation of an answer is above 32
-  separations-small : (s : ℕ) (ts xs : List ℕ) → Answer k s ts xs → (i : ℕ) → i < length ts → getD ts i 0 ≤ 32
+  pub separations-small : (s : ℕ) (ts xs : List ℕ) → Answer k s ts xs → (i : ℕ) → i < length ts → getD ts i 0 ≤ 32
   unfolding legal
   separations-small s ts xs a =
       let g : (in-spread s (k .strips) xs && channels-good (k .channels) ts xs) ≡ true = a .is-legal in

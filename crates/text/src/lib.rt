@@ -37,7 +37,7 @@ use stack::StripMade;
 use stack::Terminals;
 use stack::TerminalsFound;
 
-// Document 01's refusals, 1 to 8 in this order.
+// The refusals of documents 01 and 02, numbered from 1 in this order.
 pub enum Refusal {
     Overlong,
     Layout,
@@ -47,6 +47,7 @@ pub enum Refusal {
     Crossing,
     Narrow,
     ShortSpace,
+    Broad,
 }
 
 impl Refusal {
@@ -62,6 +63,7 @@ impl Refusal {
             Refusal::Crossing => 6,
             Refusal::Narrow => 7,
             Refusal::ShortSpace => 8,
+            Refusal::Broad => 9,
         }
     }
 }

@@ -1,7 +1,7 @@
--- write_table meets its contract: a refused text, too little space, or the table; and TABLE_BYTES are never too little. Assumes nothing.
+-- write_table meets its contract: a refused text, or the table where it was put; and TABLE_BYTES are never too little. Assumes nothing.
 use mathlib.Core.Path.{refl, sym, _∙_}
 use borrow.Author.Tests.{not-true, not-false}
-use Rattle.nabetsu.proofs.Tables.{table-refused, table-short, table-fits}
+use Rattle.nabetsu.proofs.Tables.{table-refused, table-finished}
 use Rattle.nabetsu.proofs.Space.{space-enough}
 use borrow.Author.Needs.{needs}
 use Rattle.nabetsu.proofs.write_table.Statement.{statement}
@@ -25,26 +25,14 @@ returns c = let says = table-refused (c .before .before .before .before .before 
 put-table-requires : tie.Need-put-table-requires
 put-table-requires c κs = c .before .before .before .read-stack .ensures .within
 
-refused-requires : tie.Need-refused-requires
-refused-requires c κs = search needs
-
-refused-table-requires-2 : tie.Need-refused-table-requires-2
-refused-table-requires-2 c κs = search needs
+finish-requires : tie.Need-finish-requires
+finish-requires c κs = search needs
 
 same-length-2 : tie.Need-same-length-2
 same-length-2 c = search needs
 
 returns-2 : tie.Need-returns-2
-returns-2 c = let says = table-short (c .before .before .before .before .before .before .before .before .before .before .before .before .before .before .before .args .text .now) (c .before .before .before .before .before .before .before .before .before .before .before .before .read-stack .result) (c .before .before .before .before .before .before .before .before .before .before .before .before .read-stack .ensures) _ _ _ _ (c .before .before .before .before .before .before .before .output2 .given) (sym (c .before .before .before .before .before .before .before .before .before .before .before .is-accepted .ensures) ∙ not-false _ (c .before .before .before .before .before .before .before .before .before .before .if1 .left)) (c .before .before .before .before .before .before .before .before .put-table .result) (c .before .before .before .before .before .before .before .before .put-table .ensures) (c .before .before .before .before .refused .result) (c .before .before .before .before .before .if2 .taken) (c .before .before .before .before .refused .ensures) (c .before .before .refused-table2 .ensures) in (says, space-enough _ _ _ _ says)
-
-clear-from-requires : tie.Need-clear-from-requires
-clear-from-requires c κs = search needs
-
-same-length-3 : tie.Need-same-length-3
-same-length-3 c = search needs
-
-returns-3 : tie.Need-returns-3
-returns-3 c = let says = table-fits (c .before .before .before .before .before .before .before .before .before .before .before .before .before .before .args .text .now) (c .before .before .before .before .before .before .before .before .before .before .before .read-stack .result) (c .before .before .before .before .before .before .before .before .before .before .before .read-stack .ensures) _ _ _ _ (c .before .before .before .before .before .before .output2 .given) (sym (c .before .before .before .before .before .before .before .before .before .before .is-accepted .ensures) ∙ not-false _ (c .before .before .before .before .before .before .before .before .before .if1 .left)) (c .before .before .before .before .before .before .before .put-table .result) (c .before .before .before .before .before .before .before .put-table .ensures) (c .before .before .before .before .if2 .left) refl refl (c .before .before .clear-from .ensures) in (says, space-enough _ _ _ _ says)
+returns-2 c = let says = table-finished (c .before .before .before .before .before .before .before .before .before .before .before .before .before .args .text .now) (c .before .before .before .before .before .before .before .before .before .before .read-stack .result) (c .before .before .before .before .before .before .before .before .before .before .read-stack .ensures) _ _ _ _ (c .before .before .before .before .before .output2 .given) (sym (c .before .before .before .before .before .before .before .before .before .is-accepted .ensures) ∙ not-false _ (c .before .before .before .before .before .before .before .before .if1 .left)) (c .before .before .before .before .before .before .put-table .result) (c .before .before .before .before .before .before .put-table .ensures) (c .before .before .finish .ensures) in (says, space-enough _ _ _ _ says)
 
 pub write-table-spec : {M : Type 1} → statement M
 write-table-spec =
@@ -56,10 +44,6 @@ write-table-spec =
     same-length
     returns
     put-table-requires
-    refused-requires
-    refused-table-requires-2
+    finish-requires
     same-length-2
-    returns-2
-    clear-from-requires
-    same-length-3
-    returns-3)
+    returns-2)

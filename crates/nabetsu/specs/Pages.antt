@@ -1,0 +1,63 @@
+-- TRUSTED. What the page's entry answers and leaves behind, and what is promised of the paths that it shows. Document 02, P1. Assumes nothing: these are
+-- definitions.
+use mathlib.Core.Path.{_≡_}
+use mathlib.Core.Bool.{true, _&&_, cond}
+use mathlib.Core.List.{List, []}
+use Prim.Native.Nat.{ℕ, zero, suc, _-_, _≤_}
+use lib.Dec.{ltb, leb}
+use lib.ListN.{length, getD, take}
+use Rattle.stack.specs.Stack.{Stack, Answer}
+use Rattle.text.specs.Text.{Refusal, refusal, fine, or-else, text-refusal, stack-in}
+use Rattle.text.specs.Outcome.{refusal-of}
+use Rattle.page.specs.Page.{channel-paths, channel-page, lacks}
+use Rattle.page.specs.Promise.{Led-inside}
+use Rattle.nabetsu.specs.declared.TableAnswer.{TableAnswer}
+use Rattle.nabetsu.specs.Entry.{narrow-refusal, zeros, table-told, Fits, code}
+
+-- a channel's number outside 1 to k is 3, a spread above 63 is 9, both at no line
+unfoldable pub channel-refusal : Stack → (channel : ℕ) → Refusal
+channel-refusal k n = cond (leb 1 n && leb n (length (k .channels))) fine (refusal 3 0 0)
+
+unfoldable pub broad-refusal : (s : ℕ) → Refusal
+broad-refusal s = cond (ltb 63 s) (refusal 9 0 0) fine
+
+-- THE PAGE: 1 to 6, then 3 for the channel, 7, 9, and at last 8
+unfoldable pub asked-refusal : Stack → (s channel : ℕ) → Refusal
+asked-refusal k s n = or-else (channel-refusal k n) (or-else (narrow-refusal k s) (broad-refusal s))
+
+unfoldable pub page-refusal : List ℕ → (s channel : ℕ) → Refusal
+page-refusal bs s n = or-else (text-refusal bs) (asked-refusal (stack-in bs) s n)
+
+-- the page of the one-spread answer's channel and zeros behind it, or 8; or a refusal; zeros everywhere after a refusal
+unfoldable pub Paged : (number : ℕ) → Refusal → Stack → (s channel : ℕ) → TableAnswer → (o o-now : List ℕ) → Type 0
+Paged zero f k s n r o x =
+    (ts : List ℕ) × (xs : List ℕ) × Answer k s ts xs × Fits (leb (length (channel-page k ts xs (n - 1))) (length o)) (channel-page k ts xs (n - 1)) r o x
+Paged (suc m) f k s n r o x = table-told f 0 r × (x ≡ zeros o)
+
+unfoldable pub Page-says : List ℕ → (s channel : ℕ) → TableAnswer → (o o-now : List ℕ) → Type 0
+Page-says bs s n r o x = Paged (page-refusal bs s n .number) (page-refusal bs s n) (stack-in bs) s n r o x
+
+-- with so many bytes of output, a page is refused only where its text, its channel or its spread is
+unfoldable pub Page-enough : (bytes : ℕ) → List ℕ → (s channel : ℕ) → TableAnswer → (o : List ℕ) → Type 0
+Page-enough b bs s n r o = page-refusal bs s n .number ≡ 0 → b ≤ length o → refusal-of (r .outcome) .number ≡ 0
+
+-- THE PAGE WRITTEN shows paths by document 01's rule, one for each of the channel's pairs, none of which leaves the spread
+pub record Page-drawn (bs : List ℕ) (s channel : ℕ) (r : TableAnswer) (o-now : List ℕ) : Type 0 where
+  pub separations : List ℕ
+  pub positions : List ℕ
+  pub answer : Answer (stack-in bs) s separations positions
+  pub shown : take (r .written) o-now ≡ channel-page (stack-in bs) separations positions (channel - 1)
+  pub led :
+      Led-inside s (getD (stack-in bs .channels) (channel - 1) []) (getD separations (channel - 1) 0) (getD positions (channel - 1) 0)
+      (getD positions (suc (channel - 1)) 0) (channel-paths (stack-in bs) separations positions (channel - 1))
+
+-- of what is returned: where nothing is refused such a page is written, and # never appears
+pub record Page-shows (bs : List ℕ) (s channel : ℕ) (r : TableAnswer) (o-now : List ℕ) : Type 0 where
+  pub drawn : refusal-of (r .outcome) .number ≡ 0 → Page-drawn bs s channel r o-now
+  pub plain : lacks 35 o-now ≡ true
+
+-- for callers in other languages
+pub record Page-coded (bs : List ℕ) (s channel r : ℕ) (o o-now : List ℕ) : Type 0 where
+  pub answer : TableAnswer
+  pub says : Page-says bs s channel answer o o-now
+  pub coded : r ≡ code (refusal-of (answer .outcome)) (answer .written)

@@ -1,0 +1,85 @@
+-- In a legal placement of a stack within the limits every channel can be shown, and its paths are inside the spread. Assumes nothing.
+use mathlib.Core.Path.{_≡_, refl}
+use mathlib.Core.Bool.{true}
+use mathlib.Core.List.{List, [], _∷_}
+use Prim.Native.Nat.{ℕ, zero, suc, _+_, _≤_, _<_}
+use native.Mathlib.Omega.{arith}
+use borrow.Author.Tests.{leb-true, le-leb}
+use lib.Dec.{leb}
+use lib.IntN.{pos}
+use lib.ListN.{length, getD}
+use Rattle.numbers.proofs.Bools.{ands, and-both, or-left, or-right, impossible}
+use Rattle.stack.specs.Stack.{Pair, Stack, p-at, q-at, feasible, in-spread, channels-good, legal}
+use Rattle.stack.specs.Limits.{on-strips, channel-within, channels-within, within-limits}
+use Rattle.stack.proofs.Within.{channel-in-limits, strips-count}
+use Rattle.stack.proofs.OnStrips.{terminals-on}
+use Rattle.routing.specs.Paths.{Point, same-point, on-path}
+use Rattle.routing.specs.Wiring.{wiring, path, listed}
+use Rattle.routing.proofs.Points.{same-point-self}
+use Rattle.routing.proofs.Sufficiency.{wiring-led, wiring-clear}
+use Rattle.routing.proofs.Runs.{Column-between, path-within, wiring-at}
+use Rattle.page.specs.Promise.{inside, path-inside, all-inside, Led-inside}
+use Rattle.page.specs.Feet.{Channel-placed}
+
+feasible-at : (cs : List (List Pair)) (ts xs : List ℕ) (i : ℕ) → channels-good cs ts xs ≡ true → i < length cs
+    → feasible (getD cs i []) (getD ts i 0) (getD xs i 0) (getD xs (suc i) 0) ≡ true
+unfolding channels-good
+feasible-at [] ts xs i g l = absurd (omega arith)
+feasible-at (c ∷ cs) [] xs i g l = impossible g
+feasible-at (c ∷ cs) (t ∷ ts) [] i g l = impossible g
+feasible-at (c ∷ cs) (t ∷ ts) (x ∷ xs) zero g l = search ands
+feasible-at (c ∷ cs) (t ∷ ts) (x ∷ xs) (suc i) g l = feasible-at cs ts xs i (search ands) (omega arith)
+
+fits-at : (s : ℕ) (ls xs : List ℕ) (i : ℕ) → in-spread s ls xs ≡ true → i < length ls → getD xs i 0 + getD ls i 0 ≤ s
+unfolding in-spread
+fits-at s [] xs i e l = absurd (omega arith)
+fits-at s (m ∷ ls) [] i e l = impossible e
+fits-at s (m ∷ ls) (x ∷ xs) zero e l = let h : leb (x + m) s ≡ true = search ands in omega (arith, leb-true)
+fits-at s (m ∷ ls) (x ∷ xs) (suc i) e l = fits-at s ls xs i (search ands) (omega arith)
+
+-- INSIDE, point by point
+inside-column : (s n : ℕ) (z : Point) → z .column ≡ pos n → n ≤ s → inside s z ≡ true
+unfolding inside
+inside-column s n z e l = rw e (le-leb n s l)
+
+points-inside : (s : ℕ) (w : List Point) → ((z : Point) → on-path z w ≡ true → inside s z ≡ true) → path-inside s w ≡ true
+unfolding path-inside on-path
+points-inside s [] h = refl
+points-inside s (z ∷ zs) h =
+    and-both (inside s z) (path-inside s zs) (h z (or-left (same-point z z) (on-path z zs) (same-point-self z)))
+    (points-inside s zs (λ y o. h y (or-right (same-point y z) (on-path y zs) o)))
+
+listed-inside : (s : ℕ) (f : ℕ → List Point) (n : ℕ) → ((j : ℕ) → j < n → path-inside s (f j) ≡ true) → all-inside s (listed f n) ≡ true
+unfolding all-inside listed
+listed-inside s f zero h = refl
+listed-inside s f (suc n) h = and-both (path-inside s (f 0)) (all-inside s (listed (λ i. f (suc i)) n)) (h 0 (omega arith)) (listed-inside s (λ i. f (suc i)) n (λ j l. h (suc j) (omega arith)))
+
+module _ (s : ℕ) (c : List Pair) (t a b : ℕ) (p : Channel-placed s c t a b) where
+  wiring-inside : all-inside s (wiring c t a b) ≡ true
+  unfolding wiring
+  wiring-inside =
+      listed-inside s (λ j. path c t a b j) (length c) λ j k. points-inside s (path c t a b j) λ z e.
+      let w : Column-between (a + p-at c j) (b + q-at c j) z = path-within c t a b (p .rises) (p .good) j k z (rw (wiring-at c t a b j k) e) in
+      inside-column s (w .column) z (w .is) (omega (arith, w .upto, p .from-within j k, p .upto-within j k))
+
+  pub placed-led : Led-inside s c t a b (wiring c t a b)
+  placed-led = record { led = wiring-led c t a b (p .rises) (p .good); clear = wiring-clear c t a b (p .rises) (p .good); inside = wiring-inside }
+
+pub channel-placed : (k : Stack) (s : ℕ) (ts xs : List ℕ) (i : ℕ) → within-limits k ≡ true → legal k s ts xs ≡ true → i < length (k .channels)
+    → Channel-placed s (getD (k .channels) i []) (getD ts i 0) (getD xs i 0) (getD xs (suc i) 0)
+unfolding legal channel-within within-limits
+channel-placed k s ts xs i w e l =
+    let c = getD (k .channels) i [] in
+    let good : channels-good (k .channels) ts xs ≡ true = search ands in
+    let fit : in-spread s (k .strips) xs ≡ true = search ands in
+    let shape : channels-within (k .strips) (k .channels) ≡ true = search ands in
+    let n = strips-count k w in
+    let limits = channel-in-limits (k .strips) (k .channels) i shape l in
+    let o : on-strips (getD (k .strips) i 0) (getD (k .strips) (suc i) 0) c ≡ true = search ands in
+    record {
+      rises = search ands;
+      good = feasible-at (k .channels) ts xs i good l;
+      few = leb-true (length c) 32 (search ands);
+      from-within = λ j h. omega (arith, terminals-on _ _ c o j h .0, fits-at s (k .strips) xs i fit (omega arith));
+      upto-within = λ j h. omega (arith, terminals-on _ _ c o j h .1, fits-at s (k .strips) xs (suc i) fit (omega arith));
+    }

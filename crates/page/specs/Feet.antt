@@ -1,0 +1,46 @@
+-- A page by the columns at which each path comes to a track: what the code computes. Assumes nothing: these are definitions; proofs/Painted.antt shows that
+-- they give the page of the wiring, so nobody has to believe them.
+use mathlib.Core.Path.{_≡_}
+use mathlib.Core.Bool.{Bool, true, _&&_, cond}
+use mathlib.Core.List.{List}
+use Prim.Native.Nat.{ℕ, zero, suc, _+_, _-_, _≤_, _<_, min, max}
+use lib.Dec.{ltb, leb, eqb}
+use lib.ListN.{length, getD}
+use Rattle.stack.specs.Stack.{Pair, p-at, q-at, feasible}
+use Rattle.stack.specs.Limits.{rising}
+use Rattle.page.specs.Page.{arms-character}
+
+-- a channel that the page can show: its terminals rise, it is feasible, and no terminal is beyond column s
+pub record Channel-placed (s : ℕ) (c : List Pair) (t lower upper : ℕ) : Type 0 where
+  pub rises : rising c ≡ true
+  pub good : feasible c t lower upper ≡ true
+  pub few : length c ≤ 32
+  pub from-within : (j : ℕ) → j < length c → lower + p-at c j ≤ s
+  pub upto-within : (j : ℕ) → j < length c → upper + q-at c j ≤ s
+
+-- the columns of m paths' ends
+pub record Ends-are (c : List Pair) (lower upper m : ℕ) (from upto : List ℕ) : Type 0 where
+  pub count : m ≡ length c
+  pub from-are : (j : ℕ) → j < m → getD from j 0 ≡ lower + p-at c j
+  pub upto-are : (j : ℕ) → j < m → getD upto j 0 ≡ upper + q-at c j
+
+-- the FOOT of path j on track y: the column at which it comes to the track; where it never does, its last column
+unfoldable pub right-foot : (from : List ℕ) → (m q j y : ℕ) → ℕ
+right-foot from m q j y = cond (ltb (j + y) m) (min q (getD from (j + y) 0 - y)) q
+
+unfoldable pub left-foot : (from : List ℕ) → (q j y : ℕ) → ℕ
+left-foot from q j y = cond (leb y j) (max q (getD from (j - y) 0 + y)) q
+
+unfoldable pub foot : (from upto : List ℕ) → (m j y : ℕ) → ℕ
+foot from upto m j y =
+    cond (leb (getD from j 0) (getD upto j 0)) (right-foot from m (getD upto j 0) j y) (left-foot from (getD upto j 0) j y)
+
+-- what column c shows once a path is drawn that is on the track from column s to column e, comes to it from below or begins there, and leaves it upward or ends
+unfoldable pub drawn : (s e : ℕ) → (up down : Bool) → (c old : ℕ) → ℕ
+drawn s e u d c old =
+    cond (leb (min s e) c && leb c (max s e)) (arms-character (ltb (min s e) c) (ltb c (max s e)) (eqb c e && u) (eqb c s && d)) old
+
+-- a track with its first n paths drawn
+unfoldable pub painted : (from upto : List ℕ) → (m t y n c : ℕ) → ℕ
+painted from upto m t y zero c = 46
+painted from upto m t y (suc n) c = drawn (foot from upto m n y) (foot from upto m n (suc y)) (ltb y t) (ltb 0 y) c (painted from upto m t y n c)

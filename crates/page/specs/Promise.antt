@@ -1,0 +1,59 @@
+-- TRUSTED. What is promised of the paths that a page shows: they are paths by document 01's rule, none leaves the spread, and they are those that document 02's
+-- P1 tells and no others. Assumes nothing: these are definitions.
+use mathlib.Core.Path.{_≡_}
+use mathlib.Core.Bool.{Bool, true, false, _&&_, not}
+use mathlib.Core.List.{List, [], _∷_}
+use mathlib.Core.Logic.{_⊎_}
+use Prim.Native.Nat.{ℕ, suc, _+_, _≤_, _<_}
+use lib.Dec.{leb}
+use lib.ListN.{length}
+use lib.IntN.{pos, negsuc}
+use Rattle.stack.specs.Stack.{Pair, p-at, q-at, feasible}
+use Rattle.stack.specs.Limits.{rising}
+use Rattle.routing.specs.Paths.{Point, point, on-path, is-path, all-paths, none-meet}
+use Rattle.routing.specs.Wiring.{leads, path, right-track, left-track}
+
+-- INSIDE the spread: columns 0 to s
+unfoldable pub inside : (s : ℕ) → Point → Bool
+inside s z = elim (z .column) [ pos c ↦ leb c s | negsuc c ↦ false ]
+
+unfoldable pub path-inside : (s : ℕ) → List Point → Bool
+path-inside s [] = true
+path-inside s (z ∷ zs) = inside s z && path-inside s zs
+
+unfoldable pub all-inside : (s : ℕ) → List (List Point) → Bool
+all-inside s [] = true
+all-inside s (w ∷ ws) = path-inside s w && all-inside s ws
+
+-- A SET OF PATHS by document 01's rule, one for each pair, none of which leaves the spread
+pub record Led-inside (s : ℕ) (c : List Pair) (t lower upper : ℕ) (ws : List (List Point)) : Type 0 where
+  pub led : all-paths t lower upper c ws ≡ true
+  pub clear : none-meet ws ≡ true
+  pub inside : all-inside s ws ≡ true
+
+-- P1's RULE for the path of pair j, in its words: it goes right, or left, and between two columns only on the track counted there
+pub data Runs-told (c : List Pair) (lower upper j : ℕ) (u v : Point) : Type 0 where
+  to-right : (x : ℕ) → lower + p-at c j ≤ x → x < upper + q-at c j → u ≡ point (pos x) (right-track c lower j x)
+      → v ≡ point (pos (suc x)) (right-track c lower j x) → Runs-told c lower upper j u v
+  to-left : (x : ℕ) → upper + q-at c j ≤ x → x < lower + p-at c j → u ≡ point (pos (suc x)) (left-track c lower j (suc x))
+      → v ≡ point (pos x) (left-track c lower j (suc x)) → Runs-told c lower upper j u v
+
+unfoldable pub Upright : (u v : Point) → Type 0
+Upright u v = u .column ≡ v .column
+
+-- no point twice
+unfoldable pub once : List Point → Bool
+once [] = true
+once (z ∷ zs) = not (on-path z zs) && once zs
+
+-- a path AS TOLD: one by document 01's rule that is nowhere twice, and whose steps are upright or run as told
+pub record Path-told (c : List Pair) (t lower upper j : ℕ) (w : List Point) : Type 0 where
+  pub path : is-path t (point (pos (lower + p-at c j)) 0) (point (pos (upper + q-at c j)) t) w ≡ true
+  pub once : once w ≡ true
+  pub runs : (u v : Point) → leads u v w ≡ true → Upright u v ⊎ Runs-told c lower upper j u v
+
+-- the paths drawn are as told where the channel is feasible, and no other path is
+unfoldable pub Told : Type 0
+Told =
+    (c : List Pair) (t a b j : ℕ) → rising c ≡ true → feasible c t a b ≡ true → j < length c →
+    Path-told c t a b j (path c t a b j) × ((w : List Point) → Path-told c t a b j w → w ≡ path c t a b j)

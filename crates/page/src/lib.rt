@@ -1,0 +1,1 @@
+// The page that shows a channel's paths: its definition, and the theorems on the paths shown. No code.

@@ -1,0 +1,2 @@
+-- What the page's writer asks and leaves behind.
+pub mod Drawing
