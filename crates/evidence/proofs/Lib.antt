@@ -3,5 +3,4 @@ pub mod Alone
 pub mod Replies
 pub mod Opened
 pub mod Specimens
-pub mod Pages
 pub mod WrongVersions

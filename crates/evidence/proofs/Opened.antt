@@ -1,5 +1,5 @@
--- Names for all the definitions that a computation runs through: to unfold reading is to unfold every definition that reads a text, and to unfold replying
--- every definition that makes a reply of it. Assumes nothing.
+-- Names for all the definitions that a computation runs through: to unfold reading is to unfold every definition that reads a text, to unfold replying every
+-- definition that makes a reply of it, and to unfold showing every one that makes a page. Assumes nothing.
 use mathlib.Core.Bool.{Bool}
 use mathlib.Core.List.{List}
 use Prim.Native.Nat.{ℕ}
@@ -17,9 +17,13 @@ use Rattle.lines.specs.Lines as lines
 use Rattle.text.specs.Text as texts
 use Rattle.writing.specs.TableText as table-texts
 use Rattle.trial.specs.Legal.{all-zero, is-legal}
+use Rattle.routing.specs.Paths as paths
+use Rattle.routing.specs.Wiring as wiring
+use Rattle.page.specs.Page as page
 use Rattle.nabetsu.specs.Entry.{narrow-refusal, spread-refusal}
-use Rattle.evidence.specs.Replies.{Spread-reply, placement, placement-for, spread-reply, Table-reply, writes, refuses, if-fits, table-for, table-reply}
-use Rattle.evidence.specs.Specimens.{byte-shown, line-shown, text-shown}
+use Rattle.nabetsu.specs.Pages.{channel-refusal, broad-refusal, asked-refusal, page-refusal}
+use Rattle.evidence.specs.Replies.{Spread-reply, placement, placement-for, spread-reply, Table-reply, writes, refuses, if-fits, table-for, table-reply, page-for, page-reply}
+use Rattle.evidence.specs.Specimens.{byte-shown, line-shown, text-shown, dotted, page-shown}
 
 unfoldable pub reading : List String → Stack
 unfolding byte-shown line-shown text-shown stacks.pair stacks.stack
@@ -42,3 +46,11 @@ unfolding stacks.p-at stacks.q-at stacks.every stacks.left-good stacks.right-goo
     table-texts.digits-from table-texts.digits table-texts.tabbed table-texts.row-text table-texts.rows-text table-texts.table-text
     padded narrow-refusal spread-refusal all-zero is-legal placement placement-for spread-reply writes refuses if-fits table-for table-reply
 replying bs s n ts xs = (spread-reply bs s, table-reply bs n, is-legal (texts.stack-in bs) s (padded 8 ts) (padded 9 xs))
+
+unfoldable pub showing : List ℕ → (s channel space : ℕ) → List String → Table-reply × List ℕ
+unfolding dotted page-shown tabulate paths.point paths.next paths.same-column paths.same-point paths.on-path
+    wiring.count wiring.right-test wiring.left-test wiring.right-track wiring.left-track wiring.riser wiring.rest wiring.staircase wiring.path-between
+    wiring.path wiring.listed wiring.wiring wiring.begins wiring.leads page.on-some page.steps-between page.joined page.before page.arm-left page.arm-right
+    page.arm-up page.arm-down page.how-many page.arms-character page.character page.in-three page.line-of page.track-line page.page-text
+    page.channel-paths page.channel-page channel-refusal broad-refusal asked-refusal page-refusal page-for page-reply
+showing bs s c n p = (page-reply bs s c n, page-shown p)

@@ -4,7 +4,7 @@ use mathlib.Core.Path.{_≡_, refl}
 use mathlib.Core.Bool.{Bool, true, false}
 use mathlib.Core.List.{List, [], _∷_}
 use mathlib.Core.Logic.{_↔_}
-use Prim.Native.Nat.{ℕ, zero, suc}
+use Prim.Native.Nat.{ℕ, zero, suc, _-_}
 use lib.Dec.{ltb, leb}
 use lib.ListN.{length}
 use borrow.Author.Tests.{eqb-true, ltb-false}
@@ -20,10 +20,13 @@ use Rattle.answer.proofs.Answers.{answer-there, answer-alone}
 use Rattle.rows.specs.Walk.{rows-of}
 use Rattle.rows.proofs.Rows.{rows-are, rows-alone}
 use Rattle.writing.specs.TableText.{table-text}
+use Rattle.page.specs.Page.{channel-page}
 use Rattle.nabetsu.specs.Entry.{narrow-refusal, spread-refusal, placed-is, Answered, Spread-says, zeros, table-told, Fits, Tabled, Table-says}
+use Rattle.nabetsu.specs.Pages.{page-refusal, Paged, Page-says}
+use Rattle.nabetsu.proofs.Pages.{page-answered}
 use Rattle.nabetsu.specs.declared.SpreadAnswer.{SpreadAnswer}
 use Rattle.nabetsu.specs.declared.TableAnswer.{TableAnswer}
-use Rattle.evidence.specs.Replies.{same-refusal, Spread-reply, placement, same-placement, placement-for, spread-reply, Table-reply, writes, refuses, same-table, if-fits, table-for, table-reply}
+use Rattle.evidence.specs.Replies.{same-refusal, Spread-reply, placement, same-placement, placement-for, spread-reply, Table-reply, writes, refuses, same-table, if-fits, table-for, table-reply, page-for, page-reply}
 
 -- WHAT TESTS THE SAME IS THE SAME
 bytes-equal : (a b : List ℕ) → same-bytes a b ≡ true → a ≡ b
@@ -128,3 +131,26 @@ unfolding Table-says table-reply
 table-replied bs r o x =
     let f = text-refusal bs in
     (tabled-replied r o x f (stack-in bs) (f .number) (accepted-within bs), replied-tabled r o x f (stack-in bs) (f .number) (accepted-within bs))
+
+-- A PAGE
+module _ (r : TableAnswer) (o x : List ℕ) (f : Refusal) (k : Stack) (s c : ℕ) where
+  whole-page : List ℕ
+  whole-page = channel-page k (answer-separations k s) (answer-positions k s) (c - 1)
+
+  paged-replied : (n : ℕ) → (n ≡ 0 → Answer k s (answer-separations k s) (answer-positions k s)) → Paged n f k s c r o x → tabled (page-for n f k s c (length o)) r x
+  unfolding Paged page-for refuses zeros whole-page
+  paged-replied zero there a =
+      let same = answer-alone k s (a .0) (a .1) (answer-separations k s) (answer-positions k s) (a .2) (there refl) in
+      fits-tabled r o x (leb (length whole-page) (length o)) whole-page (rw (same .0, same .1) at (a .3))
+  paged-replied (suc n) there a = a
+
+  replied-paged : (n : ℕ) → (n ≡ 0 → Answer k s (answer-separations k s) (answer-positions k s)) → tabled (page-for n f k s c (length o)) r x → Paged n f k s c r o x
+  unfolding Paged page-for refuses zeros whole-page
+  replied-paged zero there a = (answer-separations k s, answer-positions k s, there refl, tabled-fits r o x (leb (length whole-page) (length o)) whole-page a)
+  replied-paged (suc n) there a = a
+
+pub page-replied : (bs : List ℕ) (s c : ℕ) (r : TableAnswer) (o x : List ℕ) → Page-says bs s c r o x ↔ tabled (page-reply bs s c (length o)) r x
+unfolding Page-says page-reply
+page-replied bs s c r o x =
+    let f = page-refusal bs s c in
+    (paged-replied r o x f (stack-in bs) s c (f .number) (page-answered bs s c), replied-paged r o x f (stack-in bs) s c (f .number) (page-answered bs s c))

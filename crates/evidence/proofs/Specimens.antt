@@ -10,10 +10,10 @@ use Rattle.numbers.proofs.Bools.{ands}
 use Rattle.text.specs.Text.{refusal, text-refusal, stack-in}
 use Rattle.trial.specs.Legal.{is-legal}
 use Rattle.nabetsu.specs.Entry.{Trial-says}
-use Rattle.evidence.specs.Replies.{same-refusal, placement, same-placement, spread-reply, writes, refuses, same-table, table-reply}
-use Rattle.evidence.specs.Specimens.{text-shown, Specimen, spread-gives, spread-refused, table-gives, table-refused, trial-gives, trial-refused, Holds, All-hold, specimens, Specimens-right}
-use Rattle.evidence.proofs.Opened.{reading, replying}
-use Rattle.evidence.proofs.Replies.{refusals-equal, placements-equal, tables-equal, spread-replied, table-replied}
+use Rattle.evidence.specs.Replies.{same-refusal, placement, same-placement, spread-reply, writes, refuses, same-table, table-reply, page-reply}
+use Rattle.evidence.specs.Specimens.{text-shown, page-shown, Specimen, spread-gives, spread-refused, table-gives, table-refused, trial-gives, trial-refused, page-gives, page-refused, Holds, All-hold, specimens, Specimens-right}
+use Rattle.evidence.proofs.Opened.{reading, replying, showing}
+use Rattle.evidence.proofs.Replies.{refusals-equal, placements-equal, tables-equal, spread-replied, table-replied, page-replied}
 
 -- THE TEST of a specimen
 same-verdict : (a b : Bool) → Bool
@@ -28,6 +28,8 @@ is-right (table-refused t n m l f) = same-table (table-reply (text-shown t) n) (
 is-right (trial-gives t s ts xs v) =
     same-refusal (text-refusal (text-shown t)) (refusal 0 0 0) && same-verdict (is-legal (stack-in (text-shown t)) s (padded 8 ts) (padded 9 xs)) v
 is-right (trial-refused t s ts xs n l f) = not (eqb n 0) && same-refusal (text-refusal (text-shown t)) (refusal n l f)
+is-right (page-gives t s c n p) = same-table (page-reply (text-shown t) s c n) (writes (page-shown p) n)
+is-right (page-refused t s c n m l f) = same-table (page-reply (text-shown t) s c n) (refuses (refusal m l f) n)
 
 all-right : List Specimen → Bool
 all-right [] = true
@@ -60,6 +62,10 @@ right-holds (trial-refused t s ts xs n l f) e =
     let bs = text-shown t in
     let same : text-refusal bs ≡ refusal n l f = refusals-equal (text-refusal bs) (refusal n l f) (search ands) in
     λ r. rw (same, not-true (eqb n 0) (search ands)) (λ a. a, λ a. a)
+right-holds (page-gives t s c n p) e =
+    λ r o x h. rw (h, tables-equal (page-reply (text-shown t) s c n) (writes (page-shown p) n) e) at (page-replied (text-shown t) s c r o x)
+right-holds (page-refused t s c n m l f) e =
+    λ r o x h. rw (h, tables-equal (page-reply (text-shown t) s c n) (refuses (refusal m l f) n) e) at (page-replied (text-shown t) s c r o x)
 
 all-hold : (ms : List Specimen) → all-right ms ≡ true → All-hold ms
 unfolding all-right All-hold
@@ -68,7 +74,7 @@ all-hold (m ∷ ms) e = (right-holds m (search ands), all-hold ms (search ands))
 
 -- THE TEST PASSES
 test-passes : all-right specimens ≡ true
-unfolding reading replying all-right is-right same-verdict same-refusal same-placement same-table specimens
+unfolding reading replying showing all-right is-right same-verdict same-refusal same-placement same-table specimens
 test-passes = refl
 
 -- EVERY SPECIMEN HOLDS

@@ -1,5 +1,5 @@
 -- Wrong versions break the promises, each on a specimen: what such a version returns is not the specimen's reply. Document 01, "Reviewer's checklist" and
--- "Traps in the work". Assumes nothing.
+-- "Traps in the work"; document 02, P1. Assumes nothing.
 use mathlib.Core.Path.{_≡_, refl, sym, ap, _∙_}
 use mathlib.Core.Bool.{true, false}
 use mathlib.Core.List.{List, [], _∷_, _++_}
@@ -20,10 +20,11 @@ use Rattle.text.specs.Text.{Refusal, refusal, stack-in}
 use Rattle.text.specs.Outcome.{refusal-of}
 use Rattle.nabetsu.specs.Entry.{narrow-refusal, spread-refusal, placed-is, Answered, Spread-says, table-told, Table-says}
 use Rattle.nabetsu.specs.Best.{Spread-best}
+use Rattle.nabetsu.specs.Pages.{Page-says}
 use Rattle.nabetsu.specs.declared.SpreadAnswer.{SpreadAnswer}
 use Rattle.nabetsu.specs.declared.TableAnswer.{TableAnswer}
-use Rattle.evidence.specs.Specimens.{text-shown, Specimen, spread-gives, table-gives, table-refused, Holds, All-hold, text-a, table-a, text-b, text-c, table-c, text-d, table-d, text-e, text-between, specimens, Specimens-right}
-use Rattle.evidence.proofs.Opened.{reading}
+use Rattle.evidence.specs.Specimens.{text-shown, Specimen, spread-gives, table-gives, table-refused, page-gives, page-shown, page-a, Holds, All-hold, text-a, table-a, text-b, text-c, table-c, text-d, table-d, text-e, text-between, specimens, Specimens-right}
+use Rattle.evidence.proofs.Opened.{reading, showing}
 use Rattle.evidence.proofs.Specimens.{specimens-right}
 
 -- THE SPECIMENS that are cited
@@ -85,6 +86,10 @@ between-at-2 = specimen 39
 between-at-3 : Holds (spread-gives text-between 3 1 (0 ∷ 1 ∷ []) (1 ∷ 0 ∷ 0 ∷ []))
 unfolding specimens Entry-holds
 between-at-3 = specimen 40
+
+a-page-at-4 : Holds (page-gives text-a 4 1 207 page-a)
+unfolding specimens Entry-holds
+a-page-at-4 = specimen 43
 
 -- bytes that differ
 bytes-same : (a : List ℕ) → same-bytes a a ≡ true
@@ -193,3 +198,15 @@ reused-placement-breaks r a b = differ (padded 8 (1 ∷ 0 ∷ [])) (padded 8 (0 
 pub added-alone-breaks : (q r : SpreadAnswer) → Spread-says (text-shown text-a) 5 q → r .total .0 ≡ q .total .0 + q .total .0 → Spread-says (text-shown text-b) 5 r → ⊥
 unfolding Holds placed-is
 added-alone-breaks q r a w b = omega (arith, a-at-5 q .0 a .1, b-at-5 r .0 b .1)
+
+-- A PAGE COUNTED ONE COLUMN EARLY: A's first path runs on track 1 from column 0 on, where document 02's runs on track 0 to column 1
+pub early-count-breaks : (r : TableAnswer) (o x : List ℕ) → length o ≡ 207 →
+    x ≡ page-shown ("  2 ..o.o" ∷ "  1 +-+.|" ∷ "  0 o.o-+" ∷ []) → Page-says (text-shown text-a) 4 1 r o x → ⊥
+unfolding Holds reading showing
+early-count-breaks r o x l w a = differ _ _ refl (sym w ∙ a-page-at-4 r o x l .0 a .1)
+
+-- WITHOUT THE LAST UPRIGHT PIECE: A's paths end on the tracks of their last runs
+pub dropped-piece-breaks : (r : TableAnswer) (o x : List ℕ) → length o ≡ 207 →
+    x ≡ page-shown ("  2 " ∷ "  1 .+o" ∷ "  0 o+o-o" ∷ []) → Page-says (text-shown text-a) 4 1 r o x → ⊥
+unfolding Holds reading showing
+dropped-piece-breaks r o x l w a = differ _ _ refl (sym w ∙ a-page-at-4 r o x l .0 a .1)

@@ -11,7 +11,9 @@ use Rattle.text.specs.Text.{Refusal, refusal, text-refusal, stack-in}
 use Rattle.answer.specs.Solve.{answer-separations, answer-positions}
 use Rattle.rows.specs.Walk.{rows-of}
 use Rattle.writing.specs.TableText.{table-text}
+use Rattle.page.specs.Page.{channel-page}
 use Rattle.nabetsu.specs.Entry.{spread-refusal}
+use Rattle.nabetsu.specs.Pages.{page-refusal}
 
 unfoldable pub same-refusal : (a b : Refusal) → Bool
 same-refusal a b = eqb (a .number) (b .number) && (eqb (a .line) (b .line) && eqb (a .field) (b .field))
@@ -65,3 +67,13 @@ table-for (suc m) f k n = refuses f n
 
 unfoldable pub table-reply : List ℕ → (space : ℕ) → Table-reply
 table-reply bs n = table-for (text-refusal bs .number) (text-refusal bs) (stack-in bs) n
+
+-- A PAGE
+unfoldable pub page-for : (number : ℕ) → Refusal → Stack → (s channel : ℕ) → (space : ℕ) → Table-reply
+page-for zero f k s c n =
+    let t = channel-page k (answer-separations k s) (answer-positions k s) (c - 1) in
+    if-fits (leb (length t) n) t n
+page-for (suc m) f k s c n = refuses f n
+
+unfoldable pub page-reply : List ℕ → (s channel : ℕ) → (space : ℕ) → Table-reply
+page-reply bs s c n = page-for (page-refusal bs s c .number) (page-refusal bs s c) (stack-in bs) s c n

@@ -1,5 +1,5 @@
 -- TRUSTED. Document 01's specimen cards: one table of texts, questions and replies, and what each says of an entry's result. proofs/Specimens.antt proves all
--- of them. Document 01, "Specimen cards". Assumes nothing: these are definitions.
+-- of them. Document 01, "Specimen cards"; their pages by document 02, P1. Assumes nothing: these are definitions.
 use mathlib.Core.Path.{_≡_}
 use mathlib.Core.Bool.{Bool, true, false, cond}
 use mathlib.Core.List.{List, [], _∷_, _++_}
@@ -13,6 +13,7 @@ use Rattle.numbers.specs.Lists.{padded}
 use Rattle.text.specs.Text.{refusal}
 use Rattle.text.specs.Outcome.{refusal-of}
 use Rattle.nabetsu.specs.Entry.{placed-is, table-told, Spread-says, Table-says, Trial-says}
+use Rattle.nabetsu.specs.Pages.{Page-says}
 use Rattle.nabetsu.specs.declared.SpreadAnswer.{SpreadAnswer}
 use Rattle.nabetsu.specs.declared.TableAnswer.{TableAnswer}
 use Rattle.nabetsu.specs.declared.TrialAnswer.{TrialAnswer}
@@ -29,6 +30,15 @@ unfoldable pub text-shown : List String → List ℕ
 text-shown [] = []
 text-shown (l ∷ ls) = line-shown l ++ text-shown ls
 
+-- PAGES as document 02 prints them: a list of lines, the dots behind the last other character left out
+unfoldable pub dotted : String → (places : ℕ) → List ℕ
+dotted end-of n = replicate n 46 ++ (10 ∷ [])
+dotted (c then s) n = code c ∷ dotted s (n - 1)
+
+unfoldable pub page-shown : List String → List ℕ
+page-shown [] = []
+page-shown (l ∷ ls) = dotted l 68 ++ page-shown ls
+
 -- a SPECIMEN: a text, what is asked of it, and the reply
 pub data Specimen : Type 0 where
   spread-gives : (text : List String) → (s : ℕ) → (total : ℕ) → (separations positions : List ℕ) → Specimen
@@ -37,6 +47,8 @@ pub data Specimen : Type 0 where
   table-refused : (text : List String) → (space : ℕ) → (number line field : ℕ) → Specimen
   trial-gives : (text : List String) → (s : ℕ) → (separations positions : List ℕ) → (verdict : Bool) → Specimen
   trial-refused : (text : List String) → (s : ℕ) → (separations positions : List ℕ) → (number line field : ℕ) → Specimen
+  page-gives : (text : List String) → (s channel : ℕ) → (space : ℕ) → (page : List String) → Specimen
+  page-refused : (text : List String) → (s channel : ℕ) → (space : ℕ) → (number line field : ℕ) → Specimen
 
 -- what a specimen says of an entry: a result is promised exactly if it is the reply
 unfoldable pub Holds : Specimen → Type 0
@@ -52,6 +64,12 @@ Holds (trial-gives t s ts xs v) =
     (r : TrialAnswer) → Trial-says (text-shown t) s (padded 8 ts) (padded 9 xs) r ↔ ((refusal-of (r .outcome) ≡ refusal 0 0 0) × (r .legal ≡ v))
 Holds (trial-refused t s ts xs n l f) =
     (r : TrialAnswer) → Trial-says (text-shown t) s (padded 8 ts) (padded 9 xs) r ↔ ((refusal-of (r .outcome) ≡ refusal n l f) × (r .legal ≡ false))
+Holds (page-gives t s c n p) =
+    (r : TableAnswer) (o x : List ℕ) → length o ≡ n →
+    Page-says (text-shown t) s c r o x
+    ↔ (table-told (refusal 0 0 0) (length (page-shown p)) r × (x ≡ page-shown p ++ replicate (n - length (page-shown p)) 0))
+Holds (page-refused t s c n m l f) =
+    (r : TableAnswer) (o x : List ℕ) → length o ≡ n → Page-says (text-shown t) s c r o x ↔ (table-told (refusal m l f) 0 r × (x ≡ replicate n 0))
 
 unfoldable pub All-hold : List Specimen → Type 0
 All-hold [] = Unit
@@ -132,6 +150,21 @@ text-between = "STACK 2" ∷ "PART 2" ∷ "PART 1" ∷ "PART 1" ∷ "NETS 0 1" �
 abbrev pub table-between : List String
 table-between = "TABLE 2" ∷ "ROW 2 1 1 0 0 1 0" ∷ "ROW 4 0 0 0 2 1 0" ∷ []
 
+-- A'S PAGE at spread 4: separation 2, both strips at 0
+abbrev pub page-a : List String
+page-a = "  2 ..o.o" ∷ "  1 .++.|" ∷ "  0 o+o-+" ∷ []
+
+-- and at spread 5: separation 1, the lower strip at 1
+abbrev pub page-a-5 : List String
+page-a-5 = "  1 ..o.o" ∷ "  0 .o+o+" ∷ []
+
+-- not of document 01: one path straight up and two to the left, the second on the track above the first
+abbrev pub text-left : List String
+text-left = "STACK 1" ∷ "PART 4" ∷ "PART 4" ∷ "NETS 0 0 3 1 4 2" ∷ []
+
+abbrev pub page-left : List String
+page-left = "  2 ooo" ∷ "  1 ||+-+" ∷ "  0 o+-oo" ∷ []
+
 -- THE SPECIMENS
 unfoldable pub specimens : List Specimen
 specimens =
@@ -186,6 +219,35 @@ specimens =
     -- a number in an unused place
     ∷ trial-gives text-a 6 (0 ∷ []) (2 ∷ 0 ∷ []) true
     ∷ trial-gives text-a 6 (0 ∷ 1 ∷ []) (2 ∷ 0 ∷ []) false
+    -- pages of A: paths to the right, and at spread 6 paths of one point
+    ∷ page-gives text-a 4 1 207 page-a
+    ∷ page-gives text-a 4 1 300 page-a
+    ∷ page-gives text-a 5 1 138 page-a-5
+    ∷ page-gives text-a 6 1 69 ("  0 ..o.o" ∷ [])
+    ∷ page-gives text-a 63 1 69 ("  0 ..o.o" ∷ [])
+    -- of B
+    ∷ page-gives text-b 4 1 207 page-a
+    ∷ page-gives text-b 4 2 207 page-a
+    ∷ page-gives text-b 5 1 138 page-a-5
+    ∷ page-gives text-b 5 2 207 page-a
+    ∷ page-gives text-b 7 1 69 ("  0 ...o.o" ∷ [])
+    ∷ page-gives text-b 7 2 138 page-a-5
+    -- of C, without pairs
+    ∷ page-gives text-c 5 1 69 ("  0 " ∷ [])
+    ∷ page-gives text-c 63 1 70 ("  0 " ∷ [])
+    -- of D: a path to the left, and one of one point
+    ∷ page-gives text-d 1 1 138 ("  1 o" ∷ "  0 +o" ∷ [])
+    ∷ page-gives text-d 2 1 69 ("  0 .o" ∷ [])
+    ∷ page-gives text-left 4 1 207 page-left
+    -- the page's refusals, in their order
+    ∷ page-refused text-e 4 0 300 2 1 0
+    ∷ page-refused text-a 3 0 300 3 0 0
+    ∷ page-refused text-a 64 2 300 3 0 0
+    ∷ page-refused text-a 3 1 300 7 0 0
+    ∷ page-refused text-1000 999 1 300 7 0 0
+    ∷ page-refused text-1000 1000 1 0 9 0 0
+    ∷ page-refused text-a 64 1 300 9 0 0
+    ∷ page-refused text-a 4 1 206 8 0 0
     ∷ []
 
 -- every one of them holds

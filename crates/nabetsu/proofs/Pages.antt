@@ -7,7 +7,7 @@ use Prim.Native.Nat.{ℕ, zero, suc, _+_, _-_, _≤_, _<_}
 use native.Mathlib.Numerals.{add-one}
 use native.Mathlib.Omega.{arith}
 use lib.Dec.{leb, ltb}
-use lib.ListN.{length, getD, replicate, List·getD-append}
+use lib.ListN.{length, getD, take, replicate, List·getD-append}
 use lib.Seq.{take-at}
 use borrow.Author.Tests.{le-leb, lt-leb, lt-ltb, le-ltb, leb-true, ltb-false}
 use Rattle.numbers.specs.Lists.{padded}
@@ -32,11 +32,13 @@ use Rattle.answer.proofs.Answers.{answer-there, legal-lengths}
 use Rattle.writing.specs.Output.{cleared}
 use Rattle.table.proofs.Space.{separations-small}
 use Rattle.page.specs.Page.{channel-paths, channel-page, lacks}
+use Rattle.page.specs.Promise.{Paths-shown}
 use Rattle.page.specs.Feet.{Channel-placed}
 use Rattle.page.proofs.Plain.{lacks-both, lacks-copies, wiring-page-lacks}
-use Rattle.page.proofs.Inside.{placed-led, channel-placed}
+use Rattle.page.proofs.Inside.{channel-placed}
 use Rattle.plot.specs.Drawing.{Page-put}
 use Rattle.plot.proofs.Lines.{page-long}
+use Rattle.plot.proofs.Shown.{placed-shown}
 use Rattle.nabetsu.specs.Entry.{narrow-refusal, table-told, Fits, zeros}
 use Rattle.nabetsu.specs.Pages.{channel-refusal, broad-refusal, asked-refusal, page-refusal, Paged, Page-says, Page-enough, Page-shows}
 use Rattle.nabetsu.specs.Parts.{Refused-table, Finished, Channel-put}
@@ -207,7 +209,7 @@ module _ (bs : List ℕ) (s n : ℕ) (g : Reading) (d : Stack-read bs g) (r : Ta
       page-finished v p f = says (finished-fits whole (g .outcome) v o o m x r a l (p .counted) (p .written) f)
 
 -- ENOUGH SPACE, and what the page shows
-module _ (bs : List ℕ) (s n : ℕ) (e : page-refusal bs s n .number ≡ 0) (ts xs : List ℕ) (a : Answer (stack-in bs) s ts xs) where
+module _ (bs : List ℕ) (s n : ℕ) (e : page-refusal bs s n .number ≡ 0) where
   both-fine : (text-refusal bs .number ≡ 0) × (asked-refusal (stack-in bs) s n .number ≡ 0)
   unfolding page-refusal
   both-fine = or-else-fine (text-refusal bs) (asked-refusal (stack-in bs) s n) e
@@ -215,42 +217,53 @@ module _ (bs : List ℕ) (s n : ℕ) (e : page-refusal bs s n .number ≡ 0) (ts
   good : within-limits (stack-in bs) ≡ true
   good = accepted-within bs (both-fine .0)
 
+  -- nothing refused, there is an answer
+  pub page-answered : Answer (stack-in bs) s (answer-separations (stack-in bs) s) (answer-positions (stack-in bs) s)
+  page-answered = answer-there (stack-in bs) s good (asked-fine (stack-in bs) s n (both-fine .1) .wide)
+
   there-is : n - 1 < length (stack-in bs .channels)
   there-is = let p = asked-fine (stack-in bs) s n (both-fine .1) in omega (arith, p .some, p .within)
 
-  small : getD ts (n - 1) 0 ≤ 32
-  small = separations-small (stack-in bs) good s ts xs a (n - 1) (omega (arith, there-is, legal-lengths (stack-in bs) s ts xs (a .is-legal) .0))
+  module _ (ts xs : List ℕ) (a : Answer (stack-in bs) s ts xs) where
+    small : getD ts (n - 1) 0 ≤ 32
+    small = separations-small (stack-in bs) good s ts xs a (n - 1) (omega (arith, there-is, legal-lengths (stack-in bs) s ts xs (a .is-legal) .0))
 
-  page-below : length (channel-page (stack-in bs) ts xs (n - 1)) ≤ 2277
-  unfolding channel-page
-  page-below = omega (arith, page-long (channel-paths (stack-in bs) ts xs (n - 1)) (getD ts (n - 1) 0) (omega (arith, small)), small)
+    page-below : length (channel-page (stack-in bs) ts xs (n - 1)) ≤ 2277
+    unfolding channel-page
+    page-below = omega (arith, page-long (channel-paths (stack-in bs) ts xs (n - 1)) (getD ts (n - 1) 0) (omega (arith, small)), small)
 
-  shown-placed : Channel-placed s (getD (stack-in bs .channels) (n - 1) []) (getD ts (n - 1) 0) (getD xs (n - 1) 0) (getD xs (suc (n - 1)) 0)
-  shown-placed = channel-placed (stack-in bs) s ts xs (n - 1) good (a .is-legal) there-is
+    shown-placed : Channel-placed s (getD (stack-in bs .channels) (n - 1) []) (getD ts (n - 1) 0) (getD xs (n - 1) 0) (getD xs (suc (n - 1)) 0)
+    shown-placed = channel-placed (stack-in bs) s ts xs (n - 1) good (a .is-legal) there-is
 
-  page-plain : lacks 35 (channel-page (stack-in bs) ts xs (n - 1)) ≡ true
-  unfolding channel-page channel-paths
-  page-plain = wiring-page-lacks (getD (stack-in bs .channels) (n - 1) []) (getD ts (n - 1) 0) (getD xs (n - 1) 0) (getD xs (suc (n - 1)) 0) (shown-placed .rises) (shown-placed .good)
+    shown-paths : Paths-shown s (getD (stack-in bs .channels) (n - 1) []) (getD ts (n - 1) 0) (getD xs (n - 1) 0) (getD xs (suc (n - 1)) 0)
+        (channel-paths (stack-in bs) ts xs (n - 1)) (channel-page (stack-in bs) ts xs (n - 1))
+    unfolding channel-page channel-paths
+    shown-paths = placed-shown s (getD (stack-in bs .channels) (n - 1) []) (getD ts (n - 1) 0) (getD xs (n - 1) 0) (getD xs (suc (n - 1)) 0) (omega (arith, small)) shown-placed
 
-  fits-shows : (r : TableAnswer) (o x : List ℕ) (v : Bool) → Fits v (channel-page (stack-in bs) ts xs (n - 1)) r o x → Page-shows bs s n r x
-  unfolding Fits table-told refusal zeros channel-paths
-  fits-shows r o x true f =
-      let page = channel-page (stack-in bs) ts xs (n - 1) in
-      record {
-        drawn = λ z. record {
-          separations = ts;
-          positions = xs;
-          answer = a;
-          shown = rw (f .1, f .0 .1) (take-at page (replicate (length o - length page) 0) (length page) refl);
-          led = placed-led s (getD (stack-in bs .channels) (n - 1) []) (getD ts (n - 1) 0) (getD xs (n - 1) 0) (getD xs (suc (n - 1)) 0) shown-placed;
-        };
-        plain = rw (f .1) (lacks-both 35 page (replicate (length o - length page) 0) page-plain (lacks-copies 35 0 (length o - length page) refl));
-      }
-  fits-shows r o x false f =
-      record {
-        drawn = λ z. let k = ap (λ (f : Refusal). f .number) (f .0 .0) in absurd (omega arith);
-        plain = rw (f .1) (lacks-copies 35 0 (length o) refl);
-      }
+    page-plain : lacks 35 (channel-page (stack-in bs) ts xs (n - 1)) ≡ true
+    unfolding channel-page channel-paths
+    page-plain = wiring-page-lacks (getD (stack-in bs .channels) (n - 1) []) (getD ts (n - 1) 0) (getD xs (n - 1) 0) (getD xs (suc (n - 1)) 0) (shown-placed .rises) (shown-placed .good)
+
+    fits-shows : (r : TableAnswer) (o x : List ℕ) (v : Bool) → Fits v (channel-page (stack-in bs) ts xs (n - 1)) r o x → Page-shows bs s n r x
+    unfolding Fits table-told refusal zeros channel-paths
+    fits-shows r o x true f =
+        let page = channel-page (stack-in bs) ts xs (n - 1) in
+        let front : take (r .written) x ≡ page = rw (f .1, f .0 .1) (take-at page (replicate (length o - length page) 0) (length page) refl) in
+        record {
+          drawn = λ z. record {
+            separations = ts;
+            positions = xs;
+            answer = a;
+            shown = front;
+            paths-shown = rw front shown-paths;
+          };
+          plain = rw (f .1) (lacks-both 35 page (replicate (length o - length page) 0) page-plain (lacks-copies 35 0 (length o - length page) refl));
+        }
+    fits-shows r o x false f =
+        record {
+          drawn = λ z. let k = ap (λ (f : Refusal). f .number) (f .0 .0) in absurd (omega arith);
+          plain = rw (f .1) (lacks-copies 35 0 (length o) refl);
+        }
 
 pub page-enough : (bs : List ℕ) (s n : ℕ) (r : TableAnswer) (o x : List ℕ) → Page-says bs s n r o x → Page-enough 2277 bs s n r o
 unfolding Page-says Paged Page-enough

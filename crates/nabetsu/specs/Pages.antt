@@ -10,7 +10,7 @@ use Rattle.stack.specs.Stack.{Stack, Answer}
 use Rattle.text.specs.Text.{Refusal, refusal, fine, or-else, text-refusal, stack-in}
 use Rattle.text.specs.Outcome.{refusal-of}
 use Rattle.page.specs.Page.{channel-paths, channel-page, lacks}
-use Rattle.page.specs.Promise.{Led-inside}
+use Rattle.page.specs.Promise.{Paths-shown}
 use Rattle.nabetsu.specs.declared.TableAnswer.{TableAnswer}
 use Rattle.nabetsu.specs.Entry.{narrow-refusal, zeros, table-told, Fits, code}
 
@@ -41,15 +41,16 @@ Page-says bs s n r o x = Paged (page-refusal bs s n .number) (page-refusal bs s 
 unfoldable pub Page-enough : (bytes : ℕ) → List ℕ → (s channel : ℕ) → TableAnswer → (o : List ℕ) → Type 0
 Page-enough b bs s n r o = page-refusal bs s n .number ≡ 0 → b ≤ length o → refusal-of (r .outcome) .number ≡ 0
 
--- THE PAGE WRITTEN shows paths by document 01's rule, one for each of the channel's pairs, none of which leaves the spread
+-- THE PAGE WRITTEN shows the answer's paths: by document 01's rule, one for each of the channel's pairs, none of which leaves the spread, each on the tracks that
+-- P1 counts, and nothing else
 pub record Page-drawn (bs : List ℕ) (s channel : ℕ) (r : TableAnswer) (o-now : List ℕ) : Type 0 where
   pub separations : List ℕ
   pub positions : List ℕ
   pub answer : Answer (stack-in bs) s separations positions
   pub shown : take (r .written) o-now ≡ channel-page (stack-in bs) separations positions (channel - 1)
-  pub led :
-      Led-inside s (getD (stack-in bs .channels) (channel - 1) []) (getD separations (channel - 1) 0) (getD positions (channel - 1) 0)
-      (getD positions (suc (channel - 1)) 0) (channel-paths (stack-in bs) separations positions (channel - 1))
+  pub paths-shown :
+      Paths-shown s (getD (stack-in bs .channels) (channel - 1) []) (getD separations (channel - 1) 0) (getD positions (channel - 1) 0)
+      (getD positions (suc (channel - 1)) 0) (channel-paths (stack-in bs) separations positions (channel - 1)) (take (r .written) o-now)
 
 -- of what is returned: where nothing is refused such a page is written, and # never appears
 pub record Page-shows (bs : List ℕ) (s channel : ℕ) (r : TableAnswer) (o-now : List ℕ) : Type 0 where

@@ -137,7 +137,8 @@ fn page_outcome(stack: Stack, spread: u32, channel: u32) -> Outcome
     if stack.count < channel as usize {
         return Outcome::refused(Refusal::Crowd, 0, 0);
     }
-    if spread < stack.longest() {
+    let longest = stack.longest();
+    if spread < longest {
         return Outcome::refused(Refusal::Narrow, 0, 0);
     }
     if PAGE_SPREAD < spread {

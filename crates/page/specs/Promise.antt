@@ -1,17 +1,18 @@
--- TRUSTED. What is promised of the paths that a page shows: they are paths by document 01's rule, none leaves the spread, and they are those that document 02's
--- P1 tells and no others. Assumes nothing: these are definitions.
+-- TRUSTED. What is promised of the paths that a page shows: they are paths by document 01's rule, none leaves the spread, they are those that document 02's P1
+-- tells and no others, and a point on the page is a dot exactly if no path is there. Assumes nothing: these are definitions.
 use mathlib.Core.Path.{_≡_}
 use mathlib.Core.Bool.{Bool, true, false, _&&_, not}
 use mathlib.Core.List.{List, [], _∷_}
 use mathlib.Core.Logic.{_⊎_}
-use Prim.Native.Nat.{ℕ, suc, _+_, _≤_, _<_}
-use lib.Dec.{leb}
-use lib.ListN.{length}
+use Prim.Native.Nat.{ℕ, suc, _+_, _*_, _-_, _≤_, _<_}
+use lib.Dec.{leb, eqb}
+use lib.ListN.{length, getD}
 use lib.IntN.{pos, negsuc}
 use Rattle.stack.specs.Stack.{Pair, p-at, q-at, feasible}
 use Rattle.stack.specs.Limits.{rising}
 use Rattle.routing.specs.Paths.{Point, point, on-path, is-path, all-paths, none-meet}
 use Rattle.routing.specs.Wiring.{leads, path, right-track, left-track}
+use Rattle.page.specs.Page.{on-some}
 
 -- INSIDE the spread: columns 0 to s
 unfoldable pub inside : (s : ℕ) → Point → Bool
@@ -57,3 +58,10 @@ unfoldable pub Told : Type 0
 Told =
     (c : List Pair) (t a b j : ℕ) → rising c ≡ true → feasible c t a b ≡ true → j < length c →
     Path-told c t a b j (path c t a b j) × ((w : List Point) → Path-told c t a b j w → w ≡ path c t a b j)
+
+-- WHAT A PAGE SHOWS, a text of 69 bytes a track, of a channel's paths: they are a set of paths inside the spread, each is as told, and of the points on the page
+-- those on a path show a character other than the dot, and all others the dot
+pub record Paths-shown (s : ℕ) (c : List Pair) (t lower upper : ℕ) (ws : List (List Point)) (page : List ℕ) : Type 0 where
+  pub led : Led-inside s c t lower upper ws
+  pub told : (j : ℕ) → j < length c → Path-told c t lower upper j (getD ws j [])
+  pub dots : (y x : ℕ) → y ≤ t → x < 64 → eqb (getD page (69 * (t - y) + (4 + x)) 0) 46 ≡ not (on-some (point (pos x) y) ws)

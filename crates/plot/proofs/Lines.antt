@@ -56,11 +56,11 @@ in-three-places n l = rw place-last (go (le-or-lt 10 n) (le-or-lt 100 n))
         rw (le-ltb n 10 h, le-ltb (n / 10) 10 (omega arith), lt-ltb (n / 10 / 10) 10 (omega arith), place-digit 100 n k, place-digit 10 n h, e)
 
 -- A LINE
-line-bytes : (y : ℕ) (f : ℕ → ℕ) → y < 1000 → line-of y f ≡ place 100 y ∷ place 10 y ∷ place 1 y ∷ 32 ∷ (tabulate 64 0 f ++ (10 ∷ []))
+pub line-bytes : (y : ℕ) (f : ℕ → ℕ) → y < 1000 → line-of y f ≡ place 100 y ∷ place 10 y ∷ place 1 y ∷ 32 ∷ (tabulate 64 0 f ++ (10 ∷ []))
 unfolding line-of
 line-bytes y f l = rw (in-three-places y l)
 
-line-long : (y : ℕ) (f : ℕ → ℕ) → y < 1000 → length (line-of y f) ≡ 69
+pub line-long : (y : ℕ) (f : ℕ → ℕ) → y < 1000 → length (line-of y f) ≡ 69
 line-long y f l = rw (line-bytes y f l, length-append, length-tabulate)
 
 pub line-room : (o row : List ℕ) (a b c : ℕ) → 69 ≤ length o → length row ≡ 64
