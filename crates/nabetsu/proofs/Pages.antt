@@ -17,7 +17,7 @@ use Rattle.stack.specs.Limits.{within-limits}
 use Rattle.stack.specs.Value.{tracks, columns, no-terminals, channel-of, stack-of}
 use Rattle.stack.specs.declared.Stack.{Stack as Stack-struct}
 use Rattle.stack.proofs.Values.{track-at, column-at}
-use Rattle.stack.proofs.Within.{stack-channels, stack-channel, strips-count}
+use Rattle.stack.proofs.Within.{stack-channels, stack-channel, strips-count, few-channels}
 use Rattle.text.specs.Text.{Refusal, refusal, fine, or-else, text-refusal, stack-in}
 use Rattle.text.specs.Outcome.{refusal-of, is-accepted}
 use Rattle.text.specs.Driver.{Stack-read}
@@ -33,7 +33,7 @@ use Rattle.writing.specs.Output.{cleared}
 use Rattle.table.proofs.Space.{separations-small}
 use Rattle.page.specs.Page.{channel-paths, channel-page, lacks}
 use Rattle.page.specs.Promise.{Paths-shown}
-use Rattle.page.specs.Feet.{Channel-placed}
+use Rattle.page.specs.Arrivals.{Channel-placed}
 use Rattle.page.proofs.Plain.{lacks-both, lacks-copies, wiring-page-lacks}
 use Rattle.page.proofs.Inside.{channel-placed}
 use Rattle.plot.specs.Drawing.{Page-put}
@@ -123,7 +123,7 @@ module _ (k : Stack-struct) (s n : ℕ) (w : within-limits (stack-of k) ≡ true
       let m = legal-lengths (stack-of k) s ts xs (there .is-legal) in
       (m .0 ∙ stack-channels k, m .1 ∙ strips-count (stack-of k) w ∙ ap suc (stack-channels k))
 
-  pub channel-below : n - 1 < k .count
+  channel-below : n - 1 < k .count
   channel-below = omega (arith, p .some, p .within, stack-channels k)
 
   module _ (r : Placement) (a : Answer-is (stack-of k) s r) where
@@ -166,6 +166,10 @@ module _ (k : Stack-struct) (s n : ℕ) (w : within-limits (stack-of k) ≡ true
     channel-put before after v q =
         let d = rw (channel-is, separation-is, position-is (n - 1) (omega (arith, channel-below)), upper-is) at q in
         record { counted = d .counted; written = d .written }
+
+-- the channel's place is one of eight
+pub channel-place : (k : Stack-struct) (s n : ℕ) → within-limits (stack-of k) ≡ true → asked-refusal (stack-of k) s n .number ≡ 0 → n - 1 < 8
+channel-place k s n w e = omega (arith, channel-below k s n w (asked-fine (stack-of k) s n e), few-channels k w)
 
 -- THE PAGE of a text
 paged-refused : (c : ℕ) (f : Refusal) (k : Stack) (s n : ℕ) (r : TableAnswer) (o x : List ℕ) → (c ≡ 0 → ⊥) → table-told f 0 r → x ≡ zeros o → Paged c f k s n r o x

@@ -19,7 +19,7 @@ use Rattle.routing.proofs.Points.{same-point-self}
 use Rattle.routing.proofs.Sufficiency.{wiring-led, wiring-clear}
 use Rattle.routing.proofs.Runs.{Column-between, path-within, wiring-at}
 use Rattle.page.specs.Promise.{inside, path-inside, all-inside, Led-inside}
-use Rattle.page.specs.Feet.{Channel-placed}
+use Rattle.page.specs.Arrivals.{Channel-placed}
 
 feasible-at : (cs : List (List Pair)) (ts xs : List ℕ) (i : ℕ) → channels-good cs ts xs ≡ true → i < length cs
     → feasible (getD cs i []) (getD ts i 0) (getD xs i 0) (getD xs (suc i) 0) ≡ true

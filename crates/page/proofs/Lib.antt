@@ -5,6 +5,6 @@ pub mod Plain
 pub mod Inside
 pub mod Alone
 pub mod Told
-pub mod Footed
-pub mod Feet
+pub mod Arriving
+pub mod Arrivals
 pub mod Painted

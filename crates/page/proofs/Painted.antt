@@ -1,4 +1,4 @@
--- The page that the code paints is the page of the wiring: on a path with known feet a point has the arms that are drawn, and no other path is at the point.
+-- The page that the code paints is the page of the wiring: on a path with known arrivals a point has the arms that are drawn, and no other path is at the point.
 -- Assumes nothing.
 use mathlib.Core.Path.{_≡_, refl, sym, ap, _∙_}
 use mathlib.Core.Bool.{Bool, true, false, _&&_, cond}
@@ -20,10 +20,10 @@ use Rattle.routing.proofs.Points.{path-at, pos-injective}
 use Rattle.routing.proofs.Sufficiency.{wiring-clear}
 use Rattle.routing.proofs.Runs.{leads-on, wiring-at}
 use Rattle.page.specs.Page.{on-some, steps-between, joined, before, arm-left, arm-right, arm-up, arm-down, arms-character, character}
-use Rattle.page.specs.Feet.{Ends-are, foot, drawn, painted}
+use Rattle.page.specs.Arrivals.{Ends-are, arrival, drawn, painted}
 use Rattle.page.proofs.Arms.{joined-arm, arm-on, same-path}
-use Rattle.page.proofs.Footed.{Footed}
-use Rattle.page.proofs.Feet.{path-footed}
+use Rattle.page.proofs.Arriving.{Arriving}
+use Rattle.page.proofs.Arrivals.{path-arriving}
 
 same-bool : (a b : Bool) → (a ≡ true → b ≡ true) → (b ≡ true → a ≡ true) → a ≡ b
 same-bool true b f g = sym (f refl)
@@ -39,7 +39,7 @@ unfolding steps-between
 steps-back u v w e = ⊎-elim (or-right (leads v u w) (leads u v w)) (or-left (leads v u w) (leads u v w)) (or-either (leads u v w) (leads v u w) e)
 
 -- ONE PATH: its points and their arms
-module _ (t : ℕ) (g : ℕ → ℕ) (w : List Point) (f : Footed t g w) where
+module _ (t : ℕ) (g : ℕ → ℕ) (w : List Point) (f : Arriving t g w) where
   on-at : (c y : ℕ) → on-path (point (pos c) y) w ≡ true → (min (g y) (g (suc y)) ≤ c) × (c ≤ max (g y) (g (suc y))) × (y ≤ t)
   unfolding point
   on-at c y o =
@@ -59,8 +59,8 @@ module _ (t : ℕ) (g : ℕ → ℕ) (w : List Point) (f : Footed t g w) where
       (leb-true c (max (g y) (g (suc y))) (and-right (leb (min (g y) (g (suc y))) c) _ e)))
       (λ o. let h = on-at c y o in and-both (leb (min (g y) (g (suc y))) c) (leb c (max (g y) (g (suc y)))) (le-leb (min (g y) (g (suc y))) c (h .0)) (le-leb c (max (g y) (g (suc y))) (h .1)))
 
-  one-foot : (c y : ℕ) → on-path (point (pos c) y) w ≡ true → on-path (point (pos c) (suc y)) w ≡ true → c ≡ g (suc y)
-  one-foot c y o k = let h = on-at c y o in let i = on-at c (suc y) k in go (f .way) (h .0) (h .1) (i .0) (i .1)
+  one-arrival : (c y : ℕ) → on-path (point (pos c) y) w ≡ true → on-path (point (pos c) (suc y)) w ≡ true → c ≡ g (suc y)
+  one-arrival c y o k = let h = on-at c y o in let i = on-at c (suc y) k in go (f .way) (h .0) (h .1) (i .0) (i .1)
     where
       go : ((n : ℕ) → g n ≤ g (suc n)) ⊎ ((n : ℕ) → g (suc n) ≤ g n) → min (g y) (g (suc y)) ≤ c → c ≤ max (g y) (g (suc y))
           → min (g (suc y)) (g (suc (suc y))) ≤ c → c ≤ max (g (suc y)) (g (suc (suc y))) → c ≡ g (suc y)
@@ -80,7 +80,7 @@ module _ (t : ℕ) (g : ℕ → ℕ) (w : List Point) (f : Footed t g w) where
         same-bool (steps-between (point (pos c) y) (point (pos c) (suc y)) w) (eqb c (g (suc y)) && ltb y t)
         (λ e.
         let k = steps-on (point (pos c) y) (point (pos c) (suc y)) w e .1 in
-        and-both (eqb c (g (suc y))) (ltb y t) (eq-eqb c (g (suc y)) (one-foot c y o k)) (lt-ltb y t (on-at c (suc y) k .2)))
+        and-both (eqb c (g (suc y))) (ltb y t) (eq-eqb c (g (suc y)) (one-arrival c y o k)) (lt-ltb y t (on-at c (suc y) k .2)))
         (λ e.
         let d = eqb-true c (g (suc y)) (and-left (eqb c (g (suc y))) (ltb y t) e) in
         or-left (leads (point (pos c) y) (point (pos c) (suc y)) w) (leads (point (pos c) (suc y)) (point (pos c) y) w)
@@ -102,7 +102,7 @@ module _ (t : ℕ) (g : ℕ → ℕ) (w : List Point) (f : Footed t g w) where
   unfolding steps-between
   down-arm c y o =
       same-bool (steps-between (point (pos c) (suc y)) (point (pos c) y) w) (eqb c (g (suc y)) && true)
-      (λ e. and-both (eqb c (g (suc y))) true (eq-eqb c (g (suc y)) (one-foot c y (steps-on (point (pos c) (suc y)) (point (pos c) y) w e .1) o)) refl)
+      (λ e. and-both (eqb c (g (suc y))) true (eq-eqb c (g (suc y)) (one-arrival c y (steps-on (point (pos c) (suc y)) (point (pos c) y) w e .1) o)) refl)
       (λ e.
       let d = eqb-true c (g (suc y)) (and-left (eqb c (g (suc y))) true e) in
       or-right (leads (point (pos c) (suc y)) (point (pos c) y) w) (leads (point (pos c) y) (point (pos c) (suc y)) w)
@@ -153,7 +153,7 @@ wiring-length : (c : List Pair) (t a b : ℕ) → length (wiring c t a b) ≡ le
 unfolding wiring
 wiring-length c t a b = listed-length (λ j. path c t a b j) (length c)
 
-module _ (ws : List (List Point)) (n : none-meet ws ≡ true) (t : ℕ) (g : ℕ → ℕ) (j : ℕ) (f : Footed t g (path-at ws j)) where
+module _ (ws : List (List Point)) (n : none-meet ws ≡ true) (t : ℕ) (g : ℕ → ℕ) (j : ℕ) (f : Arriving t g (path-at ws j)) where
   down-at : (c y : ℕ) → on-path (point (pos c) y) (path-at ws j) ≡ true → arm-down c y ws ≡ (eqb c (g y) && ltb 0 y)
   unfolding arm-down
   down-at c zero o = sym (not-true-false (eqb c (g 0) && false) (λ e. impossible (and-right (eqb c (g 0)) false e)))
@@ -182,21 +182,21 @@ module _ (c : List Pair) (t a b m : ℕ) (from upto : List ℕ) (ends : Ends-are
   z : Point
   z = point (pos x) y
 
-  footed : (j : ℕ) → j < m → Footed t (λ v. foot from upto m j v) (path-at ws j)
+  arriving : (j : ℕ) → j < m → Arriving t (λ v. arrival from upto m j v) (path-at ws j)
   unfolding ws
-  footed j h = rw (wiring-at c t a b j (omega (arith, ends .count))) (path-footed c t a b m from upto ends r f j (omega (arith, ends .count)))
+  arriving j h = rw (wiring-at c t a b j (omega (arith, ends .count))) (path-arriving c t a b m from upto ends r f j (omega (arith, ends .count)))
 
   -- one path more is drawn where it is, and leaves the rest as it was
-  drawn-is : (j : ℕ) → j < m → (old : ℕ) → drawn (foot from upto m j y) (foot from upto m j (suc y)) (ltb y t) (ltb 0 y) x old ≡ cond (on-path z (path-at ws j)) (character x y ws) old
+  drawn-is : (j : ℕ) → j < m → (old : ℕ) → drawn (arrival from upto m j y) (arrival from upto m j (suc y)) (ltb y t) (ltb 0 y) x old ≡ cond (on-path z (path-at ws j)) (character x y ws) old
   unfolding drawn z ws
-  drawn-is j h old = rw (covers t g (path-at ws j) (footed j h) x y l) (go (on-path (point (pos x) y) (path-at ws j)) refl)
+  drawn-is j h old = rw (covers t g (path-at ws j) (arriving j h) x y l) (go (on-path (point (pos x) y) (path-at ws j)) refl)
     where
       g : ℕ → ℕ
-      g = λ v. foot from upto m j v
+      g = λ v. arrival from upto m j v
 
       go : (v : Bool) → on-path (point (pos x) y) (path-at ws j) ≡ v
           → cond v (arms-character (ltb (min (g y) (g (suc y))) x) (ltb x (max (g y) (g (suc y)))) (eqb x (g (suc y)) && ltb y t) (eqb x (g y) && ltb 0 y)) old ≡ cond v (character x y ws) old
-      go true e = shown ws (wiring-clear c t a b r f) t g j (footed j h) x y e
+      go true e = shown ws (wiring-clear c t a b r f) t g j (arriving j h) x y e
       go false e = refl
 
   painted-none : (n : ℕ) → n ≤ m → on-some z ws ≡ false → painted from upto m t y n x ≡ 46

@@ -13,7 +13,7 @@ use Rattle.stack.specs.declared.Columns.{Columns}
 use Rattle.stack.specs.declared.Terminals.{Terminals}
 use Rattle.stack.proofs.Values.{channel-length, channel-p-at, channel-q-at}
 use Rattle.stack.proofs.Rising.{rising-before}
-use Rattle.page.specs.Feet.{Channel-placed, Ends-are}
+use Rattle.page.specs.Arrivals.{Channel-placed, Ends-are}
 use Rattle.plot.specs.Drawing.{Columns-within, Ends-filled}
 
 pub ends-start : (ps qs : List Columns) (a b : ℕ) (from upto : List ℕ) → length from ≡ 32 → length upto ≡ 32 → Ends-filled ps qs a b 0 from upto

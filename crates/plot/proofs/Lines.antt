@@ -19,7 +19,7 @@ use Rattle.routing.specs.Wiring.{wiring}
 use Rattle.writing.specs.TableText.{digits-from, digits}
 use Rattle.writing.specs.Output.{over}
 use Rattle.page.specs.Page.{character, in-three, line-of, track-line, page-text}
-use Rattle.page.specs.Feet.{Channel-placed, Ends-are, painted}
+use Rattle.page.specs.Arrivals.{Channel-placed, Ends-are, painted}
 use Rattle.page.proofs.Painted.{painted-right}
 use Rattle.plot.specs.Drawing.{place, lines-below, Lines-put, Page-put}
 

@@ -15,7 +15,7 @@ use Rattle.numbers.specs.Lists.{tabulate}
 use Rattle.numbers.proofs.Lists.{length-tabulate, getD-tabulate, tabulate-same, tabulate-set}
 use Rattle.numbers.proofs.Orders.{le-or-lt, eq-or-not}
 use Rattle.page.specs.Page.{how-many, arms-character}
-use Rattle.page.specs.Feet.{right-foot, left-foot, foot, drawn, painted}
+use Rattle.page.specs.Arrivals.{right-arrival, left-arrival, arrival, drawn, painted}
 use Rattle.plot.specs.Drawing.{Columns-within, filled-to}
 
 -- THE TABLE is the rule
@@ -44,30 +44,30 @@ in-table true true true true = refl
 pub table-right : (l r u d : Bool) (a b c e : ℕ) → a ≡ cond l 1 0 → b ≡ cond r 2 0 → c ≡ cond u 4 0 → e ≡ cond d 8 0 → getD table (a + b + c + e) 0 ≡ arms-character l r u d
 table-right l r u d a b c e f g h i = rw (f, g, h, i) (in-table l r u d)
 
--- FEET
-pub right-counted : (from : List ℕ) (m q j y v : ℕ) → j + y < m → v ≡ min q (getD from (j + y) 0 - y) → v ≡ right-foot from m q j y
-unfolding right-foot
+-- ARRIVALS
+pub right-counted : (from : List ℕ) (m q j y v : ℕ) → j + y < m → v ≡ min q (getD from (j + y) 0 - y) → v ≡ right-arrival from m q j y
+unfolding right-arrival
 right-counted from m q j y v h e = rw (lt-ltb (j + y) m h) e
 
-pub right-last : (from : List ℕ) (m q j y : ℕ) → m ≤ j + y → q ≡ right-foot from m q j y
-unfolding right-foot
+pub right-last : (from : List ℕ) (m q j y : ℕ) → m ≤ j + y → q ≡ right-arrival from m q j y
+unfolding right-arrival
 right-last from m q j y h = rw (le-ltb (j + y) m h)
 
-pub left-counted : (from : List ℕ) (q j y v : ℕ) → y ≤ j → v ≡ max q (getD from (j - y) 0 + y) → v ≡ left-foot from q j y
-unfolding left-foot
+pub left-counted : (from : List ℕ) (q j y v : ℕ) → y ≤ j → v ≡ max q (getD from (j - y) 0 + y) → v ≡ left-arrival from q j y
+unfolding left-arrival
 left-counted from q j y v h e = rw (le-leb y j h) e
 
-pub left-last : (from : List ℕ) (q j y : ℕ) → j < y → q ≡ left-foot from q j y
-unfolding left-foot
+pub left-last : (from : List ℕ) (q j y : ℕ) → j < y → q ≡ left-arrival from q j y
+unfolding left-arrival
 left-last from q j y h = rw (lt-leb y j h)
 
-pub foot-right : (from upto : List ℕ) (m j y v : ℕ) → getD from j 0 ≤ getD upto j 0 → v ≡ right-foot from m (getD upto j 0) j y → v ≡ foot from upto m j y
-unfolding foot
-foot-right from upto m j y v h e = rw (le-leb (getD from j 0) (getD upto j 0) h) e
+pub arrival-right : (from upto : List ℕ) (m j y v : ℕ) → getD from j 0 ≤ getD upto j 0 → v ≡ right-arrival from m (getD upto j 0) j y → v ≡ arrival from upto m j y
+unfolding arrival
+arrival-right from upto m j y v h e = rw (le-leb (getD from j 0) (getD upto j 0) h) e
 
-pub foot-left : (from upto : List ℕ) (m j y v : ℕ) → getD upto j 0 < getD from j 0 → v ≡ left-foot from (getD upto j 0) j y → v ≡ foot from upto m j y
-unfolding foot
-foot-left from upto m j y v h e = rw (lt-leb (getD from j 0) (getD upto j 0) h) e
+pub arrival-left : (from upto : List ℕ) (m j y v : ℕ) → getD upto j 0 < getD from j 0 → v ≡ left-arrival from (getD upto j 0) j y → v ≡ arrival from upto m j y
+unfolding arrival
+arrival-left from upto m j y v h e = rw (lt-leb (getD from j 0) (getD upto j 0) h) e
 
 -- A ROW BY A RULE
 row-rule : (row : List ℕ) → length row ≡ 64 → row ≡ tabulate 64 0 (λ c. getD row c 0)
@@ -205,7 +205,7 @@ module _ (from upto : List ℕ) (m t y : ℕ) where
   unfolding painted
   row-starts before row e = rule-same (λ c. filled-to 0 64 46 c (getD before c 0)) (λ c. 46) (λ c l. filled-in 0 64 46 c (getD before c 0) (omega arith) l) e
 
-  pub row-steps : (before row : List ℕ) (n s e : ℕ) → before ≡ tabulate 64 0 (λ c. painted from upto m t y n c) → s ≡ foot from upto m n y → e ≡ foot from upto m n (y + 1)
+  pub row-steps : (before row : List ℕ) (n s e : ℕ) → before ≡ tabulate 64 0 (λ c. painted from upto m t y n c) → s ≡ arrival from upto m n y → e ≡ arrival from upto m n (y + 1)
       → row ≡ tabulate 64 0 (λ c. drawn s e (ltb y t) (ltb 0 y) c (getD before c 0)) → row ≡ tabulate 64 0 (λ c. painted from upto m t y (n + 1) c)
   unfolding painted
   row-steps before row n s e h i j k =
@@ -216,10 +216,10 @@ module _ (from upto : List ℕ) (m t y : ℕ) where
   pub row-ends : (row : List ℕ) (n : ℕ) → m ≤ n → n ≤ m → row ≡ tabulate 64 0 (λ c. painted from upto m t y n c) → row ≡ tabulate 64 0 (λ c. painted from upto m t y m c)
   row-ends row n l h e = let d : n ≡ m = omega arith in e ∙ ap (λ (i : ℕ). tabulate 64 0 (λ c. painted from upto m t y i c)) d
 
--- a foot is on the page
-pub foot-below : (from upto : List ℕ) (m j y : ℕ) → Columns-within m from upto → j < m → foot from upto m j y < 64
-unfolding foot right-foot left-foot
-foot-below from upto m j y w l = go (leb (getD from j 0) (getD upto j 0)) (ltb (j + y) m) (leb y j) refl
+-- an arrival is on the page
+pub arrival-below : (from upto : List ℕ) (m j y : ℕ) → Columns-within m from upto → j < m → arrival from upto m j y < 64
+unfolding arrival right-arrival left-arrival
+arrival-below from upto m j y w l = go (leb (getD from j 0) (getD upto j 0)) (ltb (j + y) m) (leb y j) refl
   where
     go : (r a b : Bool) → leb y j ≡ b → cond r (cond a (min (getD upto j 0) (getD from (j + y) 0 - y)) (getD upto j 0)) (cond b (max (getD upto j 0) (getD from (j - y) 0 + y)) (getD upto j 0)) < 64
     go true true b e = omega (arith, w .upto-below j l)

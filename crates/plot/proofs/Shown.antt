@@ -19,7 +19,7 @@ use Rattle.routing.proofs.Points.{path-at}
 use Rattle.routing.proofs.Runs.{wiring-at}
 use Rattle.page.specs.Page.{on-some, arm-left, arm-right, arm-up, arm-down, how-many, arms-character, character, line-of, track-line, page-text}
 use Rattle.page.specs.Promise.{Path-told, Paths-shown, Told}
-use Rattle.page.specs.Feet.{Channel-placed}
+use Rattle.page.specs.Arrivals.{Channel-placed}
 use Rattle.page.proofs.Told.{told}
 use Rattle.page.proofs.Inside.{placed-led}
 use Rattle.plot.proofs.Lines.{line-bytes, line-long}

@@ -7,7 +7,7 @@ ghost use Rattle.numbers.specs.Lists.{tabulate};
 ghost use Rattle.stack.specs.Value.{channel-of};
 ghost use Rattle.writing.specs.Output.{over};
 ghost use Rattle.page.specs.Page.{arms-character, line-of};
-ghost use Rattle.page.specs.Feet.{Channel-placed, Ends-are, right-foot, left-foot, foot, drawn, painted};
+ghost use Rattle.page.specs.Arrivals.{Channel-placed, Ends-are, right-arrival, left-arrival, arrival, drawn, painted};
 ghost use Rattle.plot.specs.Drawing.{place, Columns-within, filled-to, Run-asks, lines-below, Page-put};
 use numbers::difference;
 use numbers::greater;
@@ -50,9 +50,9 @@ fn character(left: bool, right: bool, up: bool, down: bool) -> u8
 }
 
 // The column at which a path that goes right to column q comes to track y.
-fn right_foot(from: &[u64; PAIRS], m: usize, q: u64, j: usize, y: usize) -> u64
+fn right_arrival(from: &[u64; PAIRS], m: usize, q: u64, j: usize, y: usize) -> u64
     requires { ⌜ (m ≤ 32) × (j < m) × (y ≤ 1000) ⌝ }
-    ensures { λ r. ⌜ r ≡ right-foot (now (from .entry)) m q j y ⌝ }
+    ensures { λ r. ⌜ r ≡ right-arrival (now (from .entry)) m q j y ⌝ }
 {
     if j + y < m {
         return lesser(q, difference(from[j + y], y as u64));
@@ -61,9 +61,9 @@ fn right_foot(from: &[u64; PAIRS], m: usize, q: u64, j: usize, y: usize) -> u64
 }
 
 // The column at which a path that goes left to column q comes to track y.
-fn left_foot(from: &[u64; PAIRS], q: u64, j: usize, y: usize) -> u64
+fn left_arrival(from: &[u64; PAIRS], q: u64, j: usize, y: usize) -> u64
     requires { ⌜ (j < 32) × (y ≤ 1000) × (getD (now from) (j - y) 0 < 64) ⌝ }
-    ensures { λ r. ⌜ r ≡ left-foot (now (from .entry)) q j y ⌝ }
+    ensures { λ r. ⌜ r ≡ left-arrival (now (from .entry)) q j y ⌝ }
 {
     if y <= j {
         return greater(q, from[j - y] + y as u64);
@@ -72,15 +72,15 @@ fn left_foot(from: &[u64; PAIRS], q: u64, j: usize, y: usize) -> u64
 }
 
 // The column at which path j comes to track y.
-fn foot(from: &[u64; PAIRS], upto: &[u64; PAIRS], m: usize, j: usize, y: usize) -> u64
+fn arrival(from: &[u64; PAIRS], upto: &[u64; PAIRS], m: usize, j: usize, y: usize) -> u64
     requires { ⌜ Columns-within m (now from) (now upto) × (j < m) × (y ≤ 1000) ⌝ }
-    ensures { λ r. ⌜ r ≡ foot (now (from .entry)) (now (upto .entry)) m j y ⌝ }
+    ensures { λ r. ⌜ r ≡ arrival (now (from .entry)) (now (upto .entry)) m j y ⌝ }
 {
     let q = upto[j];
     if from[j] <= q {
-        return right_foot(from, m, q, j, y);
+        return right_arrival(from, m, q, j, y);
     }
-    left_foot(from, q, j, y)
+    left_arrival(from, q, j, y)
 }
 
 // One character in the columns from one up to another.
@@ -119,8 +119,8 @@ fn put_row(row: &mut [u8], from: &[u64; PAIRS], upto: &[u64; PAIRS], m: usize, t
 {
     fill(row, 0, COLUMNS as u64, DOT);
     for j in 0..m {
-        let s = foot(from, upto, m, j, y);
-        let e = foot(from, upto, m, j, y + 1);
+        let s = arrival(from, upto, m, j, y);
+        let e = arrival(from, upto, m, j, y + 1);
         put_run(row, s, e, y < t, 0 < y);
     }
 }

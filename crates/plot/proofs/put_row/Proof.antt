@@ -3,8 +3,8 @@ use Prim.Native.Nat.{_-_, _≤_}
 use mathlib.Core.Path.{_≡_, sym, _∙_}
 use native.Mathlib.Omega.{arith}
 use Rattle.numbers.specs.Lists.{tabulate}
-use Rattle.page.specs.Feet.{painted}
-use Rattle.plot.proofs.Rows.{rule-long, row-starts, row-steps, row-ends, foot-below}
+use Rattle.page.specs.Arrivals.{painted}
+use Rattle.plot.proofs.Rows.{rule-long, row-starts, row-steps, row-ends, arrival-below}
 use borrow.Author.Needs.{needs}
 use Rattle.plot.proofs.put_row.Statement.{statement}
 use Rattle.plot.proofs.put_row.Tie as tie
@@ -21,17 +21,23 @@ fill-requires c κs = search needs
 loop-holds : tie.Need-loop-holds Inv-loop μ-loop
 loop-holds c = (omega arith, row-starts _ _ _ _ _ (c .before .before .before .before .before .args .row .now) _ (c .before .before .fill .ensures))
 
-foot-requires : tie.Need-foot-requires Inv-loop μ-loop
-foot-requires c κs = search needs
+arrival-requires : tie.Need-arrival-requires Inv-loop μ-loop
+arrival-requires c κs = search needs
 
-add-foot : tie.Need-add-foot Inv-loop μ-loop
-add-foot c = search needs
+add-arrival : tie.Need-add-arrival Inv-loop μ-loop
+add-arrival c = search needs
 
-foot-requires-2 : tie.Need-foot-requires-2 Inv-loop μ-loop
-foot-requires-2 c κs = search needs
+arrival-requires-2 : tie.Need-arrival-requires-2 Inv-loop μ-loop
+arrival-requires-2 c κs = search needs
 
 put-run-requires : tie.Need-put-run-requires Inv-loop μ-loop
-put-run-requires c κs = record { columns = rule-long _ (c .before .before .before .before .loop .inv .1); from = rw (c .before .before .foot .ensures) (foot-below _ _ _ _ _ (c .before .before .before .before .before .before .before .before .before .before .pre .0) (search needs)); upto = rw (c .before .foot2 .ensures) (foot-below _ _ _ _ _ (c .before .before .before .before .before .before .before .before .before .before .pre .0) (search needs)) }
+put-run-requires c κs =
+    let start = c .before .before .before .before .before .before .before .before .before .before in
+    record {
+      columns = rule-long _ (c .before .before .before .before .loop .inv .1);
+      from = rw (c .before .before .arrival .ensures) (arrival-below _ _ _ _ _ (start .pre .0) (search needs));
+      upto = rw (c .before .arrival2 .ensures) (arrival-below _ _ _ _ _ (start .pre .0) (search needs));
+    }
 
 add-j : tie.Need-add-j Inv-loop μ-loop
 add-j c = search needs
@@ -40,7 +46,12 @@ loop-less : tie.Need-loop-less Inv-loop μ-loop
 loop-less c = search needs
 
 loop-again : tie.Need-loop-again Inv-loop μ-loop
-loop-again c = (omega arith, row-steps _ _ _ _ _ (c .before .before .before .before .before .before .before .loop .row) _ _ _ _ (c .before .before .before .before .before .before .before .loop .inv .1) (c .before .before .before .before .before .foot .ensures) (c .before .before .before .before .foot2 .ensures) (c .before .before .put-run .ensures))
+loop-again c =
+    let round = c .before .before .before .before .before .before .before .loop in
+    (
+      omega arith,
+      row-steps _ _ _ _ _ (round .row) _ _ _ _ (round .inv .1) (c .before .before .before .before .before .arrival .ensures) (c .before .before .before .before .arrival2 .ensures) (c .before .before .put-run .ensures),
+    )
 
 same-length : tie.Need-same-length Inv-loop μ-loop
 same-length c = rule-long _ (c .before .loop .inv .1) ∙ sym (c .before .before .before .before .before .before .before .pre .1)
@@ -56,9 +67,9 @@ put-row-spec =
     μ-loop
     fill-requires
     loop-holds
-    foot-requires
-    add-foot
-    foot-requires-2
+    arrival-requires
+    add-arrival
+    arrival-requires-2
     put-run-requires
     add-j
     loop-less

@@ -49,7 +49,10 @@ same-length-2 : tie.Need-same-length-2
 same-length-2 c = search needs
 
 returns-2 : tie.Need-returns-2
-returns-2 c = run-drawn _ _ _ _ (c .before .before .before .before .before .before .before .before .before .before .before .args .row .now) _ _ _ _ (c .before .before .before .before .before .before .before .before .before .if1 .left) (c .before .before .before .before .before .character2 .ensures) (c .before .character3 .ensures) (c .character4 .ensures) (rw (c .before .before .before .before .before .before .before .lesser .ensures, c .before .before .before .before .before .before .greater .ensures) at (c .before .before .before .before .fill .ensures))
+returns-2 c =
+    let fill = c .before .before .before .before .fill .ensures in
+    run-drawn _ _ _ _ (c .before .before .before .before .before .before .before .before .before .before .before .args .row .now) _ _ _ _ (c .before .before .before .before .before .before .before .before .before .if1 .left) (c .before .before .before .before .before .character2 .ensures) (c .before .character3 .ensures) (c .character4 .ensures)
+    (rw (c .before .before .before .before .before .before .before .lesser .ensures, c .before .before .before .before .before .before .greater .ensures) at fill)
 
 pub put-run-spec : {M : Type 1} → statement M
 put-run-spec =

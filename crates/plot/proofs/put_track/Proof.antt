@@ -47,13 +47,22 @@ sub-out : tie.Need-sub-out
 sub-out c = search needs
 
 slice-write-out-5 : tie.Need-slice-write-out-5
-slice-write-out-5 c = omega (arith, line-room (c .before .before .before .before .before .before .before .before .args .out .now) (c .before .before .put-row .last .0) (c .before .before .before .before .before .before .place .result) (c .before .before .before .before .before .place2 .result) (c .before .before .before .before .place3 .result) (c .before .before .before .before .before .before .before .before .pre .1) (rule-long _ (c .before .before .put-row .ensures)), c .before .before .before .before .before .before .before .before .pre .1)
+slice-write-out-5 c =
+    let start = c .before .before .before .before .before .before .before .before in
+    let put = c .before .before .put-row in
+    omega (arith, line-room (start .args .out .now) (put .last .0) (c .before .before .before .before .before .before .place .result) (c .before .before .before .before .before .place2 .result) (c .before .before .before .before .place3 .result) (start .pre .1) (rule-long _ (put .ensures)), start .pre .1)
 
 same-length : tie.Need-same-length
-same-length c = simp length-set (line-room (c .before .before .before .before .before .before .before .before .args .out .now) (c .before .before .put-row .last .0) (c .before .before .before .before .before .before .place .result) (c .before .before .before .before .before .place2 .result) (c .before .before .before .before .place3 .result) (c .before .before .before .before .before .before .before .before .pre .1) (rule-long _ (c .before .before .put-row .ensures)))
+same-length c =
+    let start = c .before .before .before .before .before .before .before .before in
+    let put = c .before .before .put-row in
+    simp length-set (line-room (start .args .out .now) (put .last .0) (c .before .before .before .before .before .before .place .result) (c .before .before .before .before .before .place2 .result) (c .before .before .before .before .place3 .result) (start .pre .1) (rule-long _ (put .ensures)))
 
 returns : tie.Need-returns
-returns c = line-put _ _ (c .before .before .before .before .before .before .before .before .args .out .now) _ _ _ _ (c .before .before .before .before .before .before .before .before .pre .1) (c .before .before .before .before .before .before .before .before .pre .2) (c .before .before .before .before .before .before .place .ensures) (c .before .before .before .before .before .place2 .ensures) (c .before .before .before .before .place3 .ensures) (c .before .before .put-row .ensures)
+returns c =
+    let start = c .before .before .before .before .before .before .before .before in
+    line-put _ _ (start .args .out .now) _ _ _ _ (start .pre .1) (start .pre .2) (c .before .before .before .before .before .before .place .ensures) (c .before .before .before .before .before .place2 .ensures) (c .before .before .before .before .place3 .ensures)
+    (c .before .before .put-row .ensures)
 
 pub put-track-spec : {M : Type 1} → statement M
 put-track-spec =

@@ -1,7 +1,7 @@
 -- put_tracks meets its contract: line by line, the highest track first. Assumes nothing.
 use native.Mathlib.Omega.{arith}
 use lib.ListN.{length-take, length-drop}
-use Rattle.page.specs.Feet.{painted}
+use Rattle.page.specs.Arrivals.{painted}
 use Rattle.plot.specs.Drawing.{Lines-put}
 use Rattle.plot.proofs.Lines.{lines-start, lines-step, lines-end}
 use borrow.Author.Needs.{needs}
@@ -33,7 +33,14 @@ part-put-track-end : tie.Need-part-put-track-end Inv-loop μ-loop
 part-put-track-end c = search needs
 
 put-track-requires : tie.Need-put-track-requires Inv-loop μ-loop
-put-track-requires c κs = (c .before .before .before .before .pre .0, simp (length-take, length-drop) (omega (arith, c .before .before .loop .inv .place, c .before .before .loop .inv .same-length, c .before .before .before .before .pre .1)), omega (arith, c .before .before .loop .inv .place, c .before .before .before .before .pre .2))
+put-track-requires c κs =
+    let inv = c .before .before .loop .inv in
+    let pre = c .before .before .before .before .pre in
+    (
+      pre .0,
+      simp (length-take, length-drop) (omega (arith, inv .place, inv .same-length, pre .1)),
+      omega (arith, inv .place, pre .2),
+    )
 
 add-at : tie.Need-add-at Inv-loop μ-loop
 add-at c = omega (arith, c .before .before .before .before .before .loop .inv .place, c .before .before .before .before .before .before .before .pre .2)
@@ -42,7 +49,9 @@ loop-less : tie.Need-loop-less Inv-loop μ-loop
 loop-less c = omega (arith, c .before .before .before .before .loop-test .taken)
 
 loop-again : tie.Need-loop-again Inv-loop μ-loop
-loop-again c = lines-step _ _ _ _ _ _ _ (c .before .before .before .before .before .before .before .pre .2) (c .before .before .before .before .before .before .before .pre .1) (c .before .before .before .before .before .loop .inv) (c .before .before .before .before .loop-test .taken) (c .before .before .put-track .ensures)
+loop-again c =
+    let pre = c .before .before .before .before .before .before .before .pre in
+    lines-step _ _ _ _ _ _ _ (pre .2) (pre .1) (c .before .before .before .before .before .loop .inv) (c .before .before .before .before .loop-test .taken) (c .before .before .put-track .ensures)
 
 same-length : tie.Need-same-length Inv-loop μ-loop
 same-length c = c .before .loop .inv .same-length

@@ -1,9 +1,9 @@
--- right_foot meets its contract. Assumes nothing.
+-- right_arrival meets its contract. Assumes nothing.
 use Rattle.plot.proofs.Rows.{right-counted, right-last}
 use native.Mathlib.Omega.{arith}
 use borrow.Author.Needs.{needs}
-use Rattle.plot.proofs.right_foot.Statement.{statement}
-use Rattle.plot.proofs.right_foot.Tie as tie
+use Rattle.plot.proofs.right_arrival.Statement.{statement}
+use Rattle.plot.proofs.right_arrival.Tie as tie
 
 add-if1 : tie.Need-add-if1
 add-if1 c = search needs
@@ -29,8 +29,8 @@ returns c = right-counted _ _ _ _ _ _ (search needs) (omega (arith, c .lesser .e
 returns-2 : tie.Need-returns-2
 returns-2 c = right-last _ _ _ _ _ (search needs)
 
-pub right-foot-spec : {M : Type 1} → statement M
-right-foot-spec =
+pub right-arrival-spec : {M : Type 1} → statement M
+right-arrival-spec =
     tie.close
     (tie.spec
     add-if1

@@ -24,16 +24,16 @@ pub record Ends-are (c : List Pair) (lower upper m : ℕ) (from upto : List ℕ)
   pub from-are : (j : ℕ) → j < m → getD from j 0 ≡ lower + p-at c j
   pub upto-are : (j : ℕ) → j < m → getD upto j 0 ≡ upper + q-at c j
 
--- the FOOT of path j on track y: the column at which it comes to the track; where it never does, its last column
-unfoldable pub right-foot : (from : List ℕ) → (m q j y : ℕ) → ℕ
-right-foot from m q j y = cond (ltb (j + y) m) (min q (getD from (j + y) 0 - y)) q
+-- the ARRIVAL of path j on track y: the column at which it comes to the track; where it never does, its last column
+unfoldable pub right-arrival : (from : List ℕ) → (m q j y : ℕ) → ℕ
+right-arrival from m q j y = cond (ltb (j + y) m) (min q (getD from (j + y) 0 - y)) q
 
-unfoldable pub left-foot : (from : List ℕ) → (q j y : ℕ) → ℕ
-left-foot from q j y = cond (leb y j) (max q (getD from (j - y) 0 + y)) q
+unfoldable pub left-arrival : (from : List ℕ) → (q j y : ℕ) → ℕ
+left-arrival from q j y = cond (leb y j) (max q (getD from (j - y) 0 + y)) q
 
-unfoldable pub foot : (from upto : List ℕ) → (m j y : ℕ) → ℕ
-foot from upto m j y =
-    cond (leb (getD from j 0) (getD upto j 0)) (right-foot from m (getD upto j 0) j y) (left-foot from (getD upto j 0) j y)
+unfoldable pub arrival : (from upto : List ℕ) → (m j y : ℕ) → ℕ
+arrival from upto m j y =
+    cond (leb (getD from j 0) (getD upto j 0)) (right-arrival from m (getD upto j 0) j y) (left-arrival from (getD upto j 0) j y)
 
 -- what column c shows once a path is drawn that is on the track from column s to column e, comes to it from below or begins there, and leaves it upward or ends
 unfoldable pub drawn : (s e : ℕ) → (up down : Bool) → (c old : ℕ) → ℕ
@@ -43,4 +43,4 @@ drawn s e u d c old =
 -- a track with its first n paths drawn
 unfoldable pub painted : (from upto : List ℕ) → (m t y n c : ℕ) → ℕ
 painted from upto m t y zero c = 46
-painted from upto m t y (suc n) c = drawn (foot from upto m n y) (foot from upto m n (suc y)) (ltb y t) (ltb 0 y) c (painted from upto m t y n c)
+painted from upto m t y (suc n) c = drawn (arrival from upto m n y) (arrival from upto m n (suc y)) (ltb y t) (ltb 0 y) c (painted from upto m t y n c)

@@ -1,4 +1,4 @@
--- The feet that the code computes are those of the wiring's paths: the track that document 02 counts is at least y exactly if the y-th terminal further, or back, passes
+-- The arrivals that the code computes are those of the wiring's paths: the track that document 02 counts is at least y exactly if the y-th terminal further, or back, passes
 -- the test, since the tests fall. Assumes nothing.
 use mathlib.Core.Path.{_≡_, refl}
 use mathlib.Core.Bool.{Bool, true, false, cond}
@@ -18,31 +18,31 @@ use Rattle.routing.specs.Wiring.{right-test, left-test, right-track, left-track
 use Rattle.routing.proofs.Counts.{Greatest}
 use Rattle.routing.proofs.Tracks.{right-greatest, left-greatest}
 use Rattle.routing.proofs.Sufficiency.{Goes, rightward, leftward, goes, right-course, left-course}
-use Rattle.page.specs.Feet.{Ends-are, right-foot, left-foot, foot}
-use Rattle.page.proofs.Footed.{Reaches, Footed, right-footed, left-footed}
+use Rattle.page.specs.Arrivals.{Ends-are, right-arrival, left-arrival, arrival}
+use Rattle.page.proofs.Arriving.{Reaches, Arriving, right-arriving, left-arriving}
 
--- a foot is counted from a terminal, or is the last column
-data Foot-right (from : List ℕ) (m q j y v : ℕ) : Type 0 where
-  counted : j + y < m → v ≡ min q (getD from (j + y) 0 - y) → Foot-right from m q j y v
-  last : m ≤ j + y → v ≡ q → Foot-right from m q j y v
+-- an arrival is counted from a terminal, or is the last column
+data Arrival-right (from : List ℕ) (m q j y v : ℕ) : Type 0 where
+  counted : j + y < m → v ≡ min q (getD from (j + y) 0 - y) → Arrival-right from m q j y v
+  last : m ≤ j + y → v ≡ q → Arrival-right from m q j y v
 
-foot-right : (from : List ℕ) (m q j y : ℕ) → Foot-right from m q j y (right-foot from m q j y)
-unfolding right-foot
-foot-right from m q j y = go (ltb (j + y) m) refl
+arrival-right : (from : List ℕ) (m q j y : ℕ) → Arrival-right from m q j y (right-arrival from m q j y)
+unfolding right-arrival
+arrival-right from m q j y = go (ltb (j + y) m) refl
   where
-    go : (v : Bool) → ltb (j + y) m ≡ v → Foot-right from m q j y (cond v (min q (getD from (j + y) 0 - y)) q)
+    go : (v : Bool) → ltb (j + y) m ≡ v → Arrival-right from m q j y (cond v (min q (getD from (j + y) 0 - y)) q)
     go true e = counted (ltb-true (j + y) m e) refl
     go false e = last (ltb-false (j + y) m e) refl
 
-data Foot-left (from : List ℕ) (q j y v : ℕ) : Type 0 where
-  counted-back : y ≤ j → v ≡ max q (getD from (j - y) 0 + y) → Foot-left from q j y v
-  last-back : j < y → v ≡ q → Foot-left from q j y v
+data Arrival-left (from : List ℕ) (q j y v : ℕ) : Type 0 where
+  counted-back : y ≤ j → v ≡ max q (getD from (j - y) 0 + y) → Arrival-left from q j y v
+  last-back : j < y → v ≡ q → Arrival-left from q j y v
 
-foot-left : (from : List ℕ) (q j y : ℕ) → Foot-left from q j y (left-foot from q j y)
-unfolding left-foot
-foot-left from q j y = go (leb y j) refl
+arrival-left : (from : List ℕ) (q j y : ℕ) → Arrival-left from q j y (left-arrival from q j y)
+unfolding left-arrival
+arrival-left from q j y = go (leb y j) refl
   where
-    go : (v : Bool) → leb y j ≡ v → Foot-left from q j y (cond v (max q (getD from (j - y) 0 + y)) q)
+    go : (v : Bool) → leb y j ≡ v → Arrival-left from q j y (cond v (max q (getD from (j - y) 0 + y)) q)
     go true e = counted-back (leb-true y j e) refl
     go false e = last-back (leb-false y j e) refl
 
@@ -57,30 +57,30 @@ module _ (c : List Pair) (a b m : ℕ) (from upto : List ℕ) (ends : Ends-are c
   from-at i h = ends .from-are i h
 
   module _ (g : p ≤ q) where
-    right-between : (y : ℕ) → (p ≤ right-foot from m q j y) × (right-foot from m q j y ≤ q)
+    right-between : (y : ℕ) → (p ≤ right-arrival from m q j y) × (right-arrival from m q j y ≤ q)
     unfolding p q
-    right-between y = go (foot-right from m q j y)
+    right-between y = go (arrival-right from m q j y)
       where
-        go : Foot-right from m q j y (right-foot from m q j y) → (p ≤ right-foot from m q j y) × (right-foot from m q j y ≤ q)
+        go : Arrival-right from m q j y (right-arrival from m q j y) → (p ≤ right-arrival from m q j y) × (right-arrival from m q j y ≤ q)
         go (counted h e) =
             let o = rising-before c r j y (j + y) refl (omega (arith, ends .count)) in
             (omega (arith, from-at (j + y) h, o .lower), omega arith)
         go (last h e) = (omega arith, omega arith)
 
-    right-reaches : Reaches (λ k. right-track c a j (p + k)) (λ y. right-foot from m q j y - p) (q - p)
+    right-reaches : Reaches (λ k. right-track c a j (p + k)) (λ y. right-arrival from m q j y - p) (q - p)
     unfolding p q right-test
     right-reaches = record {
       within = λ y. omega (arith, right-between y .1);
       earlier = λ k y h. early k y h (le-or-lt y (right-track c a j (p + k))) (right-greatest c a r j (p + k) l (omega arith));
-      later = λ k y h n. late k y h n (foot-right from m q j y) (right-greatest c a r j (p + k) l (omega arith));
+      later = λ k y h n. late k y h n (arrival-right from m q j y) (right-greatest c a r j (p + k) l (omega arith));
     }
       where
-        early : (k y : ℕ) → k < right-foot from m q j y - p → (y ≤ right-track c a j (p + k)) ⊎ (right-track c a j (p + k) < y)
+        early : (k y : ℕ) → k < right-arrival from m q j y - p → (y ≤ right-track c a j (p + k)) ⊎ (right-track c a j (p + k) < y)
             → Greatest (λ n. right-test c a j (p + k) n) (length c - suc j) (right-track c a j (p + k)) → right-track c a j (p + k) < y
         early k y h (inr n) s = n
-        early k y h (inl n) s = absurd (go (foot-right from m q j y))
+        early k y h (inl n) s = absurd (go (arrival-right from m q j y))
           where
-            go : Foot-right from m q j y (right-foot from m q j y) → ⊥
+            go : Arrival-right from m q j y (right-arrival from m q j y) → ⊥
             go (counted d e) =
                 let n' = right-track c a j (p + k) in
                 let w = s .within in
@@ -88,37 +88,37 @@ module _ (c : List Pair) (a b m : ℕ) (from upto : List ℕ) (ends : Ends-are c
                 omega (arith, o .lower, from-at (j + y) d, leb-true (a + p-at c (j + n')) (p + k + n') (s .passes))
             go (last d e) = omega (arith, s .within, ends .count)
 
-        late : (k y : ℕ) → k < q - p → right-foot from m q j y - p ≤ k → Foot-right from m q j y (right-foot from m q j y)
+        late : (k y : ℕ) → k < q - p → right-arrival from m q j y - p ≤ k → Arrival-right from m q j y (right-arrival from m q j y)
             → Greatest (λ n. right-test c a j (p + k) n) (length c - suc j) (right-track c a j (p + k)) → y ≤ right-track c a j (p + k)
         late k y h n (counted d e) s =
             s .most y (omega (arith, ends .count)) (le-leb (a + p-at c (j + y)) (p + k + y) (omega (arith, from-at (j + y) d, right-between y .0)))
         late k y h n (last d e) s = absurd (omega (arith, right-between y .0))
 
   module _ (g : q < p) where
-    left-between : (y : ℕ) → (q ≤ left-foot from q j y) × (left-foot from q j y ≤ p)
+    left-between : (y : ℕ) → (q ≤ left-arrival from q j y) × (left-arrival from q j y ≤ p)
     unfolding p q
-    left-between y = go (foot-left from q j y)
+    left-between y = go (arrival-left from q j y)
       where
-        go : Foot-left from q j y (left-foot from q j y) → (q ≤ left-foot from q j y) × (left-foot from q j y ≤ p)
+        go : Arrival-left from q j y (left-arrival from q j y) → (q ≤ left-arrival from q j y) × (left-arrival from q j y ≤ p)
         go (counted-back h e) =
             let o = rising-before c r (j - y) y j (omega arith) l in
             (omega arith, omega (arith, from-at (j - y) (omega (arith, ends .count)), o .lower))
         go (last-back h e) = (omega arith, omega arith)
 
-    left-reaches : Reaches (λ k. left-track c a j (p - k)) (λ y. p - left-foot from q j y) (p - q)
+    left-reaches : Reaches (λ k. left-track c a j (p - k)) (λ y. p - left-arrival from q j y) (p - q)
     unfolding p q left-test
     left-reaches = record {
       within = λ y. omega (arith, left-between y .0);
       earlier = λ k y h. early k y h (le-or-lt y (left-track c a j (p - k))) (left-greatest c a r j (p - k) l (omega arith));
-      later = λ k y h n. late k y h n (foot-left from q j y) (left-greatest c a r j (p - k) l (omega arith));
+      later = λ k y h n. late k y h n (arrival-left from q j y) (left-greatest c a r j (p - k) l (omega arith));
     }
       where
-        early : (k y : ℕ) → k < p - left-foot from q j y → (y ≤ left-track c a j (p - k)) ⊎ (left-track c a j (p - k) < y)
+        early : (k y : ℕ) → k < p - left-arrival from q j y → (y ≤ left-track c a j (p - k)) ⊎ (left-track c a j (p - k) < y)
             → Greatest (λ n. left-test c a j (p - k) n) j (left-track c a j (p - k)) → left-track c a j (p - k) < y
         early k y h (inr n) s = n
-        early k y h (inl n) s = absurd (go (foot-left from q j y))
+        early k y h (inl n) s = absurd (go (arrival-left from q j y))
           where
-            go : Foot-left from q j y (left-foot from q j y) → ⊥
+            go : Arrival-left from q j y (left-arrival from q j y) → ⊥
             go (counted-back d e) =
                 let n' = left-track c a j (p - k) in
                 let w = s .within in
@@ -128,17 +128,17 @@ module _ (c : List Pair) (a b m : ℕ) (from upto : List ℕ) (ends : Ends-are c
                 omega (arith, from-at (j - y) (omega (arith, ends .count)))
             go (last-back d e) = omega (arith, s .within)
 
-        late : (k y : ℕ) → k < p - q → p - left-foot from q j y ≤ k → Foot-left from q j y (left-foot from q j y)
+        late : (k y : ℕ) → k < p - q → p - left-arrival from q j y ≤ k → Arrival-left from q j y (left-arrival from q j y)
             → Greatest (λ n. left-test c a j (p - k) n) j (left-track c a j (p - k)) → y ≤ left-track c a j (p - k)
         late k y h n (counted-back d e) s =
             s .most y d (le-leb (p - k) (a + p-at c (j - y) + y) (omega (arith, from-at (j - y) (omega (arith, ends .count)))))
         late k y h n (last-back d e) s = absurd (omega arith)
 
--- each path has the feet that the code computes
-pub path-footed : (c : List Pair) (t a b m : ℕ) (from upto : List ℕ) → Ends-are c a b m from upto → rising c ≡ true → feasible c t a b ≡ true → (j : ℕ) → j < length c
-    → Footed t (λ y. foot from upto m j y) (path c t a b j)
-unfolding path-between foot p q
-path-footed c t a b m from upto ends r f j l = go (goes c t a b j)
+-- each path has the arrivals that the code computes
+pub path-arriving : (c : List Pair) (t a b m : ℕ) (from upto : List ℕ) → Ends-are c a b m from upto → rising c ≡ true → feasible c t a b ≡ true → (j : ℕ) → j < length c
+    → Arriving t (λ y. arrival from upto m j y) (path c t a b j)
+unfolding path-between arrival p q
+path-arriving c t a b m from upto ends r f j l = go (goes c t a b j)
   where
     begins : getD from j 0 ≡ a + p-at c j
     begins = ends .from-are j (omega (arith, ends .count))
@@ -146,24 +146,24 @@ path-footed c t a b m from upto ends r f j l = go (goes c t a b j)
     stops : getD upto j 0 ≡ b + q-at c j
     stops = ends .upto-are j (omega (arith, ends .count))
 
-    go : Goes c t a b j → Footed t (λ y. foot from upto m j y) (path c t a b j)
+    go : Goes c t a b j → Arriving t (λ y. arrival from upto m j y) (path c t a b j)
     go (rightward u e) =
-        let same : _≡_ {A = ℕ → ℕ} (λ y. a + p-at c j + (right-foot from m (b + q-at c j) j y - (a + p-at c j))) (λ y. foot from upto m j y) =
-        λ i y. feet-are y i
+        let same : _≡_ {A = ℕ → ℕ} (λ y. a + p-at c j + (right-arrival from m (b + q-at c j) j y - (a + p-at c j))) (λ y. arrival from upto m j y) =
+        λ i y. arrivals-are y i
         in
         rw (e, ← same)
-        (right-footed (a + p-at c j) (λ k. right-track c a j (a + p-at c j + k)) (λ y. right-foot from m (b + q-at c j) j y - (a + p-at c j)) t (b + q-at c j - (a + p-at c j))
+        (right-arriving (a + p-at c j) (λ k. right-track c a j (a + p-at c j + k)) (λ y. right-arrival from m (b + q-at c j) j y - (a + p-at c j)) t (b + q-at c j - (a + p-at c j))
         (right-course c t a b r (feasible-by-pairs c t a b f) j (a + p-at c j) (b + q-at c j) l refl refl) (right-reaches c a b m from upto ends r j l u))
       where
-        feet-are : (y : ℕ) → a + p-at c j + (right-foot from m (b + q-at c j) j y - (a + p-at c j)) ≡ foot from upto m j y
-        feet-are y = rw (begins, stops, le-leb (a + p-at c j) (b + q-at c j) u) (omega (arith, right-between c a b m from upto ends r j l u y .0))
+        arrivals-are : (y : ℕ) → a + p-at c j + (right-arrival from m (b + q-at c j) j y - (a + p-at c j)) ≡ arrival from upto m j y
+        arrivals-are y = rw (begins, stops, le-leb (a + p-at c j) (b + q-at c j) u) (omega (arith, right-between c a b m from upto ends r j l u y .0))
     go (leftward u e) =
-        let same : _≡_ {A = ℕ → ℕ} (λ y. a + p-at c j - (a + p-at c j - left-foot from (b + q-at c j) j y)) (λ y. foot from upto m j y) =
-        λ i y. feet-are y i
+        let same : _≡_ {A = ℕ → ℕ} (λ y. a + p-at c j - (a + p-at c j - left-arrival from (b + q-at c j) j y)) (λ y. arrival from upto m j y) =
+        λ i y. arrivals-are y i
         in
         rw (e, ← same)
-        (left-footed (a + p-at c j) (λ k. left-track c a j (a + p-at c j - k)) (λ y. a + p-at c j - left-foot from (b + q-at c j) j y) t (a + p-at c j - (b + q-at c j)) (omega arith)
+        (left-arriving (a + p-at c j) (λ k. left-track c a j (a + p-at c j - k)) (λ y. a + p-at c j - left-arrival from (b + q-at c j) j y) t (a + p-at c j - (b + q-at c j)) (omega arith)
         (left-course c t a b r (feasible-by-pairs c t a b f) j (a + p-at c j) (b + q-at c j) l refl refl) (left-reaches c a b m from upto ends r j l u))
       where
-        feet-are : (y : ℕ) → a + p-at c j - (a + p-at c j - left-foot from (b + q-at c j) j y) ≡ foot from upto m j y
-        feet-are y = rw (begins, stops, lt-leb (a + p-at c j) (b + q-at c j) u) (omega (arith, left-between c a b m from upto ends r j l u y .1))
+        arrivals-are : (y : ℕ) → a + p-at c j - (a + p-at c j - left-arrival from (b + q-at c j) j y) ≡ arrival from upto m j y
+        arrivals-are y = rw (begins, stops, lt-leb (a + p-at c j) (b + q-at c j) u) (omega (arith, left-between c a b m from upto ends r j l u y .1))

@@ -71,8 +71,8 @@ module _ (x h : ℕ → ℕ) (t w : ℕ) (s : Course x h t w) where
       rise : (y : ℕ) → ((m : ℕ) → suc m ≡ i → h m ≤ y) → (i < w → y < h i) → y < t → leads (point (pos (x i)) y) (point (pos (x i)) (suc y)) (staircase x h t w) ≡ true
       rise y f g d = stairs-rise i y l f g d
 
-      foot : (y : ℕ) → ((m : ℕ) → suc m ≡ i → h m ≤ y) → (i < w → y < h i) → y < t → on-path (point (pos (x i)) y) (staircase x h t w) ≡ true
-      foot y f g d = leads-on (point (pos (x i)) y) (point (pos (x i)) (suc y)) (staircase x h t w) (rise y f g d) .0
+      arrival : (y : ℕ) → ((m : ℕ) → suc m ≡ i → h m ≤ y) → (i < w → y < h i) → y < t → on-path (point (pos (x i)) y) (staircase x h t w) ≡ true
+      arrival y f g d = leads-on (point (pos (x i)) y) (point (pos (x i)) (suc y)) (staircase x h t w) (rise y f g d) .0
 
       run : i < w → z ≡ h i → on-path (point (pos (x i)) z) (staircase x h t w) ≡ true
       run d e =
@@ -93,25 +93,25 @@ module _ (x h : ℕ → ℕ) (t w : ℕ) (s : Course x h t w) where
       go (inl d) e = at (lt-or-eq z (h i) (b d))
         where
           at : (z < h i) ⊎ (z ≡ h i) → on-path (point (pos (x i)) z) (staircase x h t w) ≡ true
-          at (inl f) = let u = s .below i d in foot z a (λ g. f) (omega arith)
+          at (inl f) = let u = s .below i d in arrival z a (λ g. f) (omega arith)
           at (inr f) = run d f
-      go (inr d) (inl e) = foot z a (λ f. absurd (omega arith)) e
+      go (inr d) (inl e) = arrival z a (λ f. absurd (omega arith)) e
       go (inr d) (inr e) = last z e d
 
--- FEET: f y is the first of the columns 0 to w at which the staircase is on track y, and w where it is on it at none of them but perhaps the last
+-- ARRIVALS: f y is the first of the columns 0 to w at which the staircase is on track y, and w where it is on it at none of them but perhaps the last
 pub record Reaches (h f : ℕ → ℕ) (w : ℕ) : Type 0 where
   pub within : (y : ℕ) → f y ≤ w
   pub earlier : (k y : ℕ) → k < f y → h k < y
   pub later : (k y : ℕ) → k < w → f y ≤ k → y ≤ h k
 
-feet-rise : {h f : ℕ → ℕ} {w : ℕ} → Reaches h f w → (y : ℕ) → f y ≤ f (suc y)
-feet-rise {h} {f} {w} r y = go (le-or-lt (f y) (f (suc y)))
+arrivals-rise : {h f : ℕ → ℕ} {w : ℕ} → Reaches h f w → (y : ℕ) → f y ≤ f (suc y)
+arrivals-rise {h} {f} {w} r y = go (le-or-lt (f y) (f (suc y)))
   where
     go : (f y ≤ f (suc y)) ⊎ (f (suc y) < f y) → f y ≤ f (suc y)
     go (inl l) = l
     go (inr l) = absurd (omega (arith, r .within y, r .earlier (f (suc y)) y l, r .later (f (suc y)) (suc y) (omega (arith, r .within y)) (omega arith)))
 
--- a point from one foot to the next
+-- a point from one arrival to the next
 pub record Between (t : ℕ) (g : ℕ → ℕ) (z : Point) : Type 0 where
   pub column : ℕ
   pub is : z .column ≡ pos column
@@ -119,8 +119,8 @@ pub record Between (t : ℕ) (g : ℕ → ℕ) (z : Point) : Type 0 where
   pub upto : column ≤ max (g (z .track)) (g (suc (z .track)))
   pub top : z .track ≤ t
 
--- a path by its feet g
-pub record Footed (t : ℕ) (g : ℕ → ℕ) (w : List Point) : Type 0 where
+-- a path by its arrivals g
+pub record Arriving (t : ℕ) (g : ℕ → ℕ) (w : List Point) : Type 0 where
   pub way : ((y : ℕ) → g y ≤ g (suc y)) ⊎ ((y : ℕ) → g (suc y) ≤ g y)
   pub on : (z : Point) → on-path z w ≡ true → Between t g z
   pub there : (c y : ℕ) → y ≤ t → min (g y) (g (suc y)) ≤ c → c ≤ max (g y) (g (suc y)) → on-path (point (pos c) y) w ≡ true
@@ -169,21 +169,21 @@ module _ (x h f : ℕ → ℕ) (t w : ℕ) (s : Course x h t w) (r : Reaches h f
       stairs-rise x h t w s (f (suc y)) y (r .within (suc y)) (low (f (suc y)) y (omega arith)) (λ d. r .later (f (suc y)) (suc y) d (omega arith)) l
 
 -- RIGHT AND LEFT
-pub right-footed : (p : ℕ) (h f : ℕ → ℕ) (t w : ℕ) → Course (λ k. p + k) h t w → Reaches h f w → Footed t (λ y. p + f y) (staircase (λ k. p + k) h t w)
+pub right-arriving : (p : ℕ) (h f : ℕ → ℕ) (t w : ℕ) → Course (λ k. p + k) h t w → Reaches h f w → Arriving t (λ y. p + f y) (staircase (λ k. p + k) h t w)
 unfolding steps-between
-right-footed p h f t w s r = record {
-  way = inl (λ y. omega (arith, feet-rise r y));
+right-arriving p h f t w s r = record {
+  way = inl (λ y. omega (arith, arrivals-rise r y));
   on = λ z o.
       let u = placed x h f t w s r once z o in
       record { column = p + u .at; is = u .column; from = omega (arith, u .from); upto = omega (arith, u .upto); top = u .top };
   there = λ c y l m n.
-      let e : p + (c - p) ≡ c = omega (arith, feet-rise r y) in
-      rw e at (here x h f t w s r once (c - p) y l (omega (arith, feet-rise r y)) (omega (arith, feet-rise r y)));
+      let e : p + (c - p) ≡ c = omega (arith, arrivals-rise r y) in
+      rw e at (here x h f t w s r once (c - p) y l (omega (arith, arrivals-rise r y)) (omega (arith, arrivals-rise r y)));
   runs = λ c y m n.
-      let e : p + (c - p) ≡ c = omega (arith, feet-rise r y) in
-      let d : p + suc (c - p) ≡ suc c = omega (arith, feet-rise r y) in
+      let e : p + (c - p) ≡ c = omega (arith, arrivals-rise r y) in
+      let d : p + suc (c - p) ≡ suc c = omega (arith, arrivals-rise r y) in
       or-left (leads (point (pos c) y) (point (pos (suc c)) y) ws) (leads (point (pos (suc c)) y) (point (pos c) y) ws)
-      (rw (e, d) at (runs-here x h f t w s r once (c - p) y (omega (arith, feet-rise r y)) (omega (arith, feet-rise r y))));
+      (rw (e, d) at (runs-here x h f t w s r once (c - p) y (omega (arith, arrivals-rise r y)) (omega (arith, arrivals-rise r y))));
   rises = λ y l. rises-here x h f t w s r once y l;
 }
   where
@@ -205,18 +205,18 @@ left-there p a b c l m g h = (omega arith, omega arith, omega arith)
 left-runs : (p a b c : ℕ) → a ≤ b → b ≤ p → p - b ≤ c → c < p - a → (p - (p - suc c) ≡ suc c) × (p - suc (p - suc c) ≡ c) × (a ≤ p - suc c) × (p - suc c < b)
 left-runs p a b c l m g h = (omega arith, omega arith, omega arith, omega arith)
 
-pub left-footed : (p : ℕ) (h f : ℕ → ℕ) (t w : ℕ) → w ≤ p → Course (λ k. p - k) h t w → Reaches h f w → Footed t (λ y. p - f y) (staircase (λ k. p - k) h t w)
+pub left-arriving : (p : ℕ) (h f : ℕ → ℕ) (t w : ℕ) → w ≤ p → Course (λ k. p - k) h t w → Reaches h f w → Arriving t (λ y. p - f y) (staircase (λ k. p - k) h t w)
 unfolding steps-between
-left-footed p h f t w wide s r = record {
-  way = inr (λ y. omega (arith, feet-rise r y));
+left-arriving p h f t w wide s r = record {
+  way = inr (λ y. omega (arith, arrivals-rise r y));
   on = λ z o.
       let u = placed x h f t w s r once z o in
       record { column = p - u .at; is = u .column; from = rw (ends (z .track) .0) (omega (arith, u .upto)); upto = rw (ends (z .track) .1) (omega (arith, u .from)); top = u .top };
   there = λ c y l m n.
-      let d = left-there p (f y) (f (suc y)) c (feet-rise r y) (below y) (rw (ends y .0) at m) (rw (ends y .1) at n) in
+      let d = left-there p (f y) (f (suc y)) c (arrivals-rise r y) (below y) (rw (ends y .0) at m) (rw (ends y .1) at n) in
       rw (d .0) at (here x h f t w s r once (p - c) y l (d .1) (d .2));
   runs = λ c y m n.
-      let d = left-runs p (f y) (f (suc y)) c (feet-rise r y) (below y) (rw (ends y .0) at m) (rw (ends y .1) at n) in
+      let d = left-runs p (f y) (f (suc y)) c (arrivals-rise r y) (below y) (rw (ends y .0) at m) (rw (ends y .1) at n) in
       or-right (leads (point (pos c) y) (point (pos (suc c)) y) ws) (leads (point (pos (suc c)) y) (point (pos c) y) ws)
       (rw (d .0, d .1) at (runs-here x h f t w s r once (p - suc c) y (d .2) (d .3)));
   rises = λ y l. rises-here x h f t w s r once y l;
@@ -232,7 +232,7 @@ left-footed p h f t w wide s r = record {
     once i k l m e = omega arith
 
     ends : (y : ℕ) → (min (p - f y) (p - f (suc y)) ≡ p - f (suc y)) × (max (p - f y) (p - f (suc y)) ≡ p - f y)
-    ends y = left-ends p (f y) (f (suc y)) (feet-rise r y)
+    ends y = left-ends p (f y) (f (suc y)) (arrivals-rise r y)
 
     below : (y : ℕ) → f (suc y) ≤ p
     below y = omega (arith, r .within (suc y))
