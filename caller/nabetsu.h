@@ -35,9 +35,10 @@ uint64_t nabetsu_write_table(const uint8_t *text, size_t text_length, uint8_t *o
  * drawn, and no placement that can be drawn in that spread has a smaller total. */
 uint64_t nabetsu_answer_spread(const uint8_t *text, size_t text_length, uint32_t spread, uint32_t *output, size_t output_length);
 
-/* The page of a channel, from 1, in the answer for a spread: a line for each track, the highest first, and zeros in the rest of the output; answers how many
- * bytes it has. Or a refusal, 1 to 6, then 3 without line and field where there is no such channel, 7, 9 for a spread above 63, then 8 exactly if the page is
- * longer than the output, and zeros in the whole output. The paths on the page are paths by document 01's rule, none leaves the spread, and # never appears. */
+/* The page of a channel, from 1, in the answer for a spread of at most 63: a line of 69 bytes for each track, the highest first, and zeros in the rest of the
+ * output; answers how many bytes it has. Or a refusal: 1 to 6, then 3 without line and field where there is no such channel, 7, 9 where the spread is above 63, then 8
+ * exactly if the page is longer than the output; and zeros in the whole output. The page shows one path for each pair of the channel, from terminal to terminal, no point
+ * shared, none outside the spread; every point of a path has a character other than the dot, every other point the dot; and # never appears. */
 uint64_t nabetsu_write_page(const uint8_t *text, size_t text_length, uint32_t spread, uint32_t channel, uint8_t *output, size_t output_length);
 
 /* The trial of eight separations and nine positions: 1 exactly if they are legal, with zeros in unused places; 2 if not, or if there are not 17 numbers. Or a

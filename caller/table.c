@@ -1,5 +1,5 @@
-/* Prints the table of the stack on standard input, or the refusal's number, line and field. It also asks for the answer at each row's spread and tries it:
- * a row that differs from its answer, or is not found legal, is an error. */
+/* Prints the table of the stack on standard input, or with a spread and a channel the page of that channel; or the refusal's number, line and field. Of a table
+ * it also asks for the answer at each row's spread and tries it: a row that differs from its answer, or is not found legal, is an error. */
 #include "nabetsu.h"
 
 #include <stdio.h>
@@ -33,19 +33,28 @@ static int is_row_right(size_t length, const char *row, int k) {
     return strncmp(row, line, (size_t)end) == 0 && nabetsu_try_placement(text, length, (uint32_t)spread, answer + 1, NABETSU_PLACEMENT_NUMBERS) == 1;
 }
 
-int main(void) {
+static int are_rows_right(size_t length) {
+    int k = output[6] - '0';
+    for (const char *row = strchr((char *)output, '\n') + 1; *row != 0; row = strchr(row, '\n') + 1) {
+        if (!is_row_right(length, row, k)) {
+            return 0;
+        }
+    }
+    return 1;
+}
+
+int main(int count, char **words) {
+    int is_page = count == 3;
     size_t length = fread(text, 1, sizeof text, stdin);
-    uint64_t code = nabetsu_write_table(text, length, output, NABETSU_TABLE_BYTES);
+    uint64_t code = is_page ? nabetsu_write_page(text, length, (uint32_t)strtoul(words[1], NULL, 10), (uint32_t)strtoul(words[2], NULL, 10), output, NABETSU_PAGE_BYTES)
+                            : nabetsu_write_table(text, length, output, NABETSU_TABLE_BYTES);
     if (NABETSU_IS_REFUSED(code)) {
         printf("%u\t%u\t%u\n", NABETSU_NUMBER(code), NABETSU_LINE(code), NABETSU_FIELD(code));
         return 1;
     }
-    int k = output[6] - '0';
-    for (const char *row = strchr((char *)output, '\n') + 1; *row != 0; row = strchr(row, '\n') + 1) {
-        if (!is_row_right(length, row, k)) {
-            fprintf(stderr, "a row is not the answer at its spread\n");
-            return 2;
-        }
+    if (!is_page && !are_rows_right(length)) {
+        fprintf(stderr, "a row is not the answer at its spread\n");
+        return 2;
     }
     return fwrite(output, 1, (size_t)code, stdout) == code ? 0 : 2;
 }
