@@ -11,8 +11,9 @@ use Rattle.numbers.proofs.Lists.{map-set, filled-steps}
 use Rattle.lines.specs.Lines.{all-digits, value, same-bytes}
 use Rattle.lines.specs.Numbers.{Digits-read}
 use Rattle.lines.specs.declared.DigitsRead.{DigitsRead}
-use Rattle.commands.specs.Words.{is-number, number-in, Number-read, help-word, short-help, long-help, version-option, trial-word, spread-word, is-help, command-alone, command-in}
-use Rattle.commands.specs.declared.Command.the-variants.{Table, Spread, Trial, Help, Version, Wrong}
+use Rattle.commands.specs.Words.{is-number, number-in, Number-read, help-word, short-help, long-help, version-option, trial-word, spread-word, page-word, is-help, if-named, command-alone, command-in}
+use Rattle.commands.specs.declared.Command.{Command}
+use Rattle.commands.specs.declared.Command.the-variants.{Table, Spread, Page, Trial, Help, Version, Wrong}
 
 -- NUMBERS
 none : (xs : List ℕ) → is-number xs ≡ false → Number-read xs (record { good = false; value = 0 })
@@ -68,19 +69,23 @@ module _ (w : List ℕ) (a : Bool) (word : a ≡ same-bytes w help-word) where
     unfolding is-help
     help-by-long c k e = e ∙ rw (sym word ∙ h, sym short ∙ k)
 
+module _ (w name : List ℕ) (c : Command) (a : Bool) (same : a ≡ same-bytes w name) where
+  pub named : a ≡ true → c ≡ if-named w name c
+  unfolding if-named
+  named h = rw (sym same ∙ h)
+
+  pub unnamed : a ≡ false → Wrong ≡ if-named w name c
+  unfolding if-named
+  unnamed h = rw (sym same ∙ h)
+
 module _ (w : List ℕ) (a : Bool) (help : a ≡ is-help w) where
   pub alone-help : a ≡ true → Help ≡ command-alone w
   unfolding command-alone
   alone-help h = rw (sym help ∙ h)
 
-  module _ (h : a ≡ false) (b : Bool) (option : b ≡ same-bytes w version-option) where
-    pub alone-version : b ≡ true → Version ≡ command-alone w
-    unfolding command-alone
-    alone-version k = rw (sym help ∙ h, sym option ∙ k)
-
-    pub alone-wrong : b ≡ false → Wrong ≡ command-alone w
-    unfolding command-alone
-    alone-wrong k = rw (sym help ∙ h, sym option ∙ k)
+  pub alone-option : a ≡ false → if-named w version-option Version ≡ command-alone w
+  unfolding command-alone
+  alone-option h = rw (sym help ∙ h)
 
 module _ (w : List ℕ) (n : ℕ) where
   pub no-words : n ≡ 0 → Table ≡ command-in w n
@@ -97,18 +102,18 @@ module _ (w : List ℕ) (n : ℕ) where
       unfolding command-in
       trial-there h = rw (ne-eqb n 0 some, ne-eqb n 1 more, sym same ∙ h)
 
-      pub many-wrong : b ≡ false → (n ≡ 2 → ⊥) → Wrong ≡ command-in w n
-      unfolding command-in
-      many-wrong h two = rw (ne-eqb n 0 some, ne-eqb n 1 more, sym same ∙ h, ne-eqb n 2 two)
-
-      module _ (h : b ≡ false) (two : n ≡ 2) (a : Bool) (like : a ≡ same-bytes w spread-word) where
-        pub spread-there : a ≡ true → Spread ≡ command-in w n
+      module _ (h : b ≡ false) where
+        pub two-words : n ≡ 2 → if-named w spread-word Spread ≡ command-in w n
         unfolding command-in
-        spread-there k = rw (ne-eqb n 0 some, ne-eqb n 1 more, sym same ∙ h, eq-eqb n 2 two, sym like ∙ k)
+        two-words e = rw (ne-eqb n 0 some, ne-eqb n 1 more, sym same ∙ h, eq-eqb n 2 e)
 
-        pub two-wrong : a ≡ false → Wrong ≡ command-in w n
+        pub three-words : (n ≡ 2 → ⊥) → n ≡ 3 → if-named w page-word Page ≡ command-in w n
         unfolding command-in
-        two-wrong k = rw (ne-eqb n 0 some, ne-eqb n 1 more, sym same ∙ h, eq-eqb n 2 two, sym like ∙ k)
+        three-words two e = rw (ne-eqb n 0 some, ne-eqb n 1 more, sym same ∙ h, ne-eqb n 2 two, eq-eqb n 3 e)
+
+        pub many-wrong : (n ≡ 2 → ⊥) → (n ≡ 3 → ⊥) → Wrong ≡ command-in w n
+        unfolding command-in
+        many-wrong two three = rw (ne-eqb n 0 some, ne-eqb n 1 more, sym same ∙ h, ne-eqb n 2 two, ne-eqb n 3 three)
 
 -- a trial has words
 pub trial-words : (w : List ℕ) (n : ℕ) → Trial ≡ command-in w n → 0 < n

@@ -1,5 +1,5 @@
 -- The laws of what is printed, and of the status that goes with it: a line put is printed where there is space for it, a refusal stands for any text, and then
--- the table, the row and the verdict, each where it is accepted and where it is refused. Assumes nothing.
+-- the table, the page, the row and the verdict, each where it is accepted and where it is refused. Assumes nothing.
 use mathlib.Core.Path.{_≡_, refl, sym, ap, _∙_}
 use mathlib.Core.Bool.{Bool, true, false}
 use mathlib.Core.List.{List, [], _++_}
@@ -7,11 +7,11 @@ use Prim.Native.Nat.{ℕ, zero, suc, _+_, _*_, _-_, _≤_}
 use native.Mathlib.Omega.{arith}
 use lib.Dec.{leb, eqb}
 use lib.ListN.{length, getD, take, drop, replicate, length-append}
-use lib.Seq.{take-append-seam, take-at}
+use lib.Seq.{take-append-seam, take-at, length-take-le}
 use borrow.Author.Tests.{le-leb, eq-eqb, ne-eqb}
 use Rattle.numbers.specs.Lists.{padded}
 use Rattle.stack.specs.Value.{tracks-of}
-use Rattle.stack.specs.Stack.{Stack, Row, sum}
+use Rattle.stack.specs.Stack.{Stack, Row, Rows-are, Answer, sum}
 use Rattle.stack.proofs.Within.{few-channels, stack-channels}
 use Rattle.text.specs.Text.{Refusal, refusal, fine, text-refusal, stack-in}
 use Rattle.text.specs.Outcome.{number-of, refusal-of, is-accepted}
@@ -25,11 +25,13 @@ use Rattle.writing.specs.TableText.{row-text, table-text, refusal-text}
 use Rattle.writing.specs.Output.{over, fitted, written, line-bytes, Line-put, row-of, Row-asks}
 use Rattle.trial.specs.Legal.{is-legal}
 use Rattle.answer.proofs.Answers.{legal-lengths}
+use Rattle.page.specs.Page.{channel-page}
+use Rattle.nabetsu.specs.Pages.{page-refusal, Paged, Page-says}
 use Rattle.nabetsu.specs.Entry.{spread-refusal, placed-is, Answered, Spread-says, table-told, Fits, Tabled, Table-says, Trial-says}
 use Rattle.nabetsu.specs.declared.SpreadAnswer.{SpreadAnswer}
 use Rattle.nabetsu.specs.declared.TableAnswer.{TableAnswer}
 use Rattle.nabetsu.specs.declared.TrialAnswer.{TrialAnswer}
-use Rattle.commands.specs.Output.{Printed, unless-refused, status-of, Replied, channels, Table-printed, Spread-printed, separations-in, positions-in, verdict-text, trial-text, trial-status}
+use Rattle.commands.specs.Output.{Printed, unless-refused, status-of, Replied, channels, Table-printed, Spread-printed, Page-printed, separations-in, positions-in, verdict-text, trial-text, trial-status}
 use Rattle.commands.specs.declared.Reply.{Reply}
 
 -- what is printed is as long as the part of the output that is written
@@ -49,15 +51,19 @@ put-printed {t} {before} {after} s h p =
       with-status = refl;
     }
 
--- NOTHING
-pub nothing-printed : (out : List ℕ) (s : ℕ) → Printed [] s out (record { length = 0; status = s })
-nothing-printed out s = record { counted = refl; within = omega arith; stands = refl; with-status = refl }
+-- WHAT IS WRITTEN already
+written-printed : (out : List ℕ) (n s : ℕ) → n ≤ length out → Printed (take n out) s out (record { length = n; status = s })
+written-printed out n s h = record { counted = sym (length-take-le n out h); within = h; stands = refl; with-status = refl }
 
 -- A REFUSAL
 module _ (f : Refusal) (t out : List ℕ) (r : Reply) where
   accepted-replied : f .number ≡ 0 → Printed t 0 out r → Replied f t out r
   unfolding unless-refused status-of
   accepted-replied h p = rw (eq-eqb (f .number) 0 h) p
+
+  replied-accepted : f .number ≡ 0 → Replied f t out r → Printed t 0 out r
+  unfolding unless-refused status-of
+  replied-accepted h p = rw (eq-eqb (f .number) 0 h) at p
 
   refused-replied : (f .number ≡ 0 → ⊥) → Printed (refusal-text (f .number) (f .line) (f .field)) 1 out r → Replied f t out r
   unfolding unless-refused status-of
@@ -70,66 +76,108 @@ module _ (f : Refusal) (t out : List ℕ) (r : Reply) where
       let same : unless-refused f u ≡ unless-refused f t = rw (ne-eqb (f .number) 0 h) in
       rw same at p
 
-pub outcome-accepted : (o : Outcome) (out : List ℕ) → o ≡ Accepted → Replied (refusal-of o) [] out (record { length = 0; status = 0 })
+pub outcome-accepted : (o : Outcome) (out : List ℕ) (n : ℕ) → n ≤ length out → o ≡ Accepted → Replied (refusal-of o) (take n out) out (record { length = n; status = 0 })
 unfolding fine refusal
-outcome-accepted o out e = rw e (accepted-replied fine [] out _ refl (nothing-printed out 0))
+outcome-accepted o out n h e = rw e (accepted-replied fine (take n out) out _ refl (written-printed out n 0 h))
 
-pub outcome-refused : {out : List ℕ} {r : Reply} (o : Outcome) (w : Refused-struct) → o ≡ Refused w → Printed (refusal-text (number-of (w .why)) (w .line) (w .field)) 1 out r →
-    Replied (refusal-of o) [] out r
+pub outcome-refused : {out : List ℕ} {r : Reply} (t : List ℕ) (o : Outcome) (w : Refused-struct) → o ≡ Refused w → Printed (refusal-text (number-of (w .why)) (w .line) (w .field)) 1 out r →
+    Replied (refusal-of o) t out r
 unfolding refusal
-outcome-refused {out} {r} o w e p = rw e (refused-replied (refusal-of (Refused w)) [] out r (refused-number (Refused w) refl) p)
+outcome-refused {out} {r} t o w e p = rw e (refused-replied (refusal-of (Refused w)) t out r (refused-number (Refused w) refl) p)
 
 -- no outcome is accepted and refused
 accepted-number : (o : Outcome) → is-accepted o ≡ true → refusal-of o .number ≡ 0
 unfolding fine refusal
 accepted-number o a = ap (λ (f : Refusal). f .number) (accepted-fine o a)
 
+-- A TEXT WHERE IT FITS, or a refusal: what a table's answer and a page's have in common
+data Settled (f : Refusal) (t : List ℕ) (a : TableAnswer) (o x : List ℕ) : Type 0 where
+  fits : f .number ≡ 0 → Fits (leb (length t) (length o)) t a o x → Settled f t a o x
+  sent-back : (f .number ≡ 0 → ⊥) → table-told f 0 a → Settled f t a o x
+
+module _ (t : List ℕ) (a : TableAnswer) (o x : List ℕ) where
+  fits-within : (v : Bool) → Fits v t a o x → a .written ≤ length x
+  unfolding Fits table-told
+  fits-within true p = rw (p .1, length-append) (omega (arith, p .0 .1))
+  fits-within false p = omega (arith, p .0 .1)
+
+  fits-stands : (v : Bool) → Fits v t a o x → refusal-of (a .outcome) .number ≡ 0 → take (a .written) x ≡ t
+  unfolding Fits table-told refusal
+  fits-stands true p none = rw (p .1) (take-at t (replicate (length o - length t) 0) (a .written) (sym (p .0 .1)))
+  fits-stands false p none = let q : _≡_ {A = ℕ} 8 0 = sym (ap (λ (f : Refusal). f .number) (p .0 .0)) ∙ none in absurd (omega arith)
+
+  module _ (f : Refusal) where
+    settled-within : Settled f t a o x → a .written ≤ length x
+    unfolding table-told
+    settled-within (fits z p) = fits-within (leb (length t) (length o)) p
+    settled-within (sent-back n p) = omega (arith, p .1)
+
+    -- where the space is enough, what is printed is the text, or the refusal's line
+    settled-replied : (enough : f .number ≡ 0 → refusal-of (a .outcome) .number ≡ 0) (out : List ℕ) (r : Reply) → Settled f t a o x →
+        Replied (refusal-of (a .outcome)) (take (a .written) x) out r → Replied f t out r
+    unfolding table-told
+    settled-replied enough out r (fits z p) q =
+        let e : take (a .written) x ≡ t = fits-stands (leb (length t) (length o)) p (enough z) in
+        accepted-replied f t out r z (replied-accepted (refusal-of (a .outcome)) t out r (enough z) (rw e at q))
+    settled-replied enough out r (sent-back n p) q = refused-any f t out r (take (a .written) x) n (rw (p .0) at q)
+
 -- THE TABLE
 module _ (bs : List ℕ) (a : TableAnswer) (o x : List ℕ) where
-  abbrev whole : List Row → List ℕ
-  whole rs = table-text (channels bs) rs
+  abbrev Table-settled : Type 0
+  Table-settled =
+      (rs : List Row) × (text-refusal bs .number ≡ 0 → Rows-are (stack-in bs) rs) × Settled (text-refusal bs) (table-text (channels bs) rs) a o x
 
-  -- where the space is enough, a refusal is the text's own
-  module _ (enough : text-refusal bs .number ≡ 0 → refusal-of (a .outcome) .number ≡ 0) (out : List ℕ) (r : Reply) (refused : is-accepted (a .outcome) ≡ false) (p : Replied (refusal-of (a .outcome)) [] out r) where
-    some : text-refusal bs .number ≡ 0 → ⊥
-    some z = refused-number (a .outcome) refused (enough z)
+  table-from : (m : ℕ) → text-refusal bs .number ≡ m → Tabled m (text-refusal bs) (stack-in bs) a o x → Table-settled
+  unfolding Tabled
+  table-from zero e t = (t .0, (λ _. t .1), fits e (t .2))
+  table-from (suc m) e t = ([], (λ z. absurd (omega (arith, e, z))), sent-back (λ z. absurd (omega (arith, e, z))) (t .0))
 
-    by-number : (m : ℕ) → text-refusal bs .number ≡ m → Tabled m (text-refusal bs) (stack-in bs) a o x → Table-printed bs out r
-    unfolding Tabled table-told
-    by-number zero e t = absurd (some e)
-    by-number (suc m) e t =
-        record { rows = []; rows-are = λ z. absurd (some z); printed = rw (← t .0 .0) (refused-any (refusal-of (a .outcome)) (whole []) out r [] (refused-number (a .outcome) refused) p) }
+  table-settled : Table-says bs a o x → Table-settled
+  unfolding Table-says
+  table-settled t = table-from (text-refusal bs .number) refl t
 
-    pub table-refused : Table-says bs a o x → Table-printed bs out r
-    unfolding Table-says
-    table-refused t = by-number (text-refusal bs .number) refl t
+  pub table-within : Table-says bs a o x → a .written ≤ length x
+  table-within t =
+      let s = table-settled t in
+      settled-within (table-text (channels bs) (s .0)) a o x (text-refusal bs) (s .2)
 
-  module _ (accepted : is-accepted (a .outcome) ≡ true) where
-    none : refusal-of (a .outcome) .number ≡ 0
-    none = accepted-number (a .outcome) accepted
+  pub table-printed : (text-refusal bs .number ≡ 0 → refusal-of (a .outcome) .number ≡ 0) → (out : List ℕ) (r : Reply) → Table-says bs a o x →
+      Replied (refusal-of (a .outcome)) (take (a .written) x) out r → Table-printed bs out r
+  table-printed enough out r t p =
+      let s = table-settled t in
+      record { rows = s .0; rows-are = s .1; printed = settled-replied (table-text (channels bs) (s .0)) a o x (text-refusal bs) enough out r (s .2) p }
 
-    there : (rs : List Row) (v : Bool) → leb (length (whole rs)) (length o) ≡ v → text-refusal bs .number ≡ 0 → Fits v (whole rs) a o x →
-        Replied (text-refusal bs) (whole rs) x (record { length = a .written; status = 0 })
-    unfolding Fits table-told refusal
-    there rs true e z f =
-        let long : a .written ≡ length (whole rs) = f .0 .1 in
-        accepted-replied (text-refusal bs) (whole rs) x _ z
-        (record {
-          counted = long;
-          within = rw (f .1, length-append) (omega (arith, long));
-          stands = rw (f .1) (take-at (whole rs) (replicate (length o - length (whole rs)) 0) (a .written) (sym long));
-          with-status = refl;
-        })
-    there rs false e z f = let q : _≡_ {A = ℕ} 8 0 = sym (ap (λ (f : Refusal). f .number) (f .0 .0)) ∙ none in absurd (omega arith)
+-- A PAGE
+module _ (bs : List ℕ) (s n : ℕ) (a : TableAnswer) (o x : List ℕ) where
+  abbrev Page-settled : Type 0
+  Page-settled =
+      (ts : List ℕ) × (xs : List ℕ) × (page-refusal bs s n .number ≡ 0 → Answer (stack-in bs) s ts xs)
+      × Settled (page-refusal bs s n) (channel-page (stack-in bs) ts xs (n - 1)) a o x
 
-    from-number : (m : ℕ) → text-refusal bs .number ≡ m → Tabled m (text-refusal bs) (stack-in bs) a o x → Table-printed bs x (record { length = a .written; status = 0 })
-    unfolding Tabled table-told
-    from-number zero e t = record { rows = t .0; rows-are = λ _. t .1; printed = there (t .0) (leb (length (whole (t .0))) (length o)) refl e (t .2) }
-    from-number (suc m) e t = let q : _≡_ {A = ℕ} (suc m) 0 = sym e ∙ (sym (ap (λ (f : Refusal). f .number) (t .0 .0)) ∙ none) in absurd (omega arith)
+  page-from : (m : ℕ) → page-refusal bs s n .number ≡ m → Paged m (page-refusal bs s n) (stack-in bs) s n a o x → Page-settled
+  unfolding Paged
+  page-from zero e t = (t .0, t .1, (λ _. t .2), fits e (t .3))
+  page-from (suc m) e t = ([], [], (λ z. absurd (omega (arith, e, z))), sent-back (λ z. absurd (omega (arith, e, z))) (t .0))
 
-    pub table-accepted : Table-says bs a o x → Table-printed bs x (record { length = a .written; status = 0 })
-    unfolding Table-says
-    table-accepted t = from-number (text-refusal bs .number) refl t
+  page-settled : Page-says bs s n a o x → Page-settled
+  unfolding Page-says
+  page-settled t = page-from (page-refusal bs s n .number) refl t
+
+  pub page-within : Page-says bs s n a o x → a .written ≤ length x
+  page-within t =
+      let p = page-settled t in
+      settled-within (channel-page (stack-in bs) (p .0) (p .1) (n - 1)) a o x (page-refusal bs s n) (p .3)
+
+  pub page-printed : (page-refusal bs s n .number ≡ 0 → refusal-of (a .outcome) .number ≡ 0) → (out : List ℕ) (r : Reply) → Page-says bs s n a o x →
+      Replied (refusal-of (a .outcome)) (take (a .written) x) out r → Page-printed bs s n out r
+  page-printed enough out r t q =
+      let p = page-settled t in
+      record {
+        separations = p .0;
+        positions = p .1;
+        answered = p .2;
+        printed = settled-replied (channel-page (stack-in bs) (p .0) (p .1) (n - 1)) a o x (page-refusal bs s n) enough out r (p .3) q;
+      }
 
 -- how many channels a reading's stack has
 pub count-is : (bs : List ℕ) (g : Reading) → Stack-read bs g → text-refusal bs .number ≡ 0 → g .stack .count ≡ channels bs
@@ -194,7 +242,7 @@ module _ (bs : List ℕ) (g : Reading) (d : Stack-read bs g) (n : ℕ) (vs out :
     unfolding trial-text trial-status unless-refused
     trial-misfit h =
         let other : eqb n (2 * channels bs + 2) ≡ false = ne-eqb n (2 * channels bs + 2) (λ e. h (e ∙ rw count-there)) in
-        rw (eq-eqb (text-refusal bs .number) 0 fine-number, other) (nothing-printed out 2)
+        rw (eq-eqb (text-refusal bs .number) 0 fine-number, other) (written-printed out 0 2 (omega arith))
 
     pub trial-verdict : (t : TrialAnswer) (ts xs : List ℕ) (r : Reply) → n ≡ 2 * g .stack .count + 2 → ts ≡ separations-in (g .stack .count) vs → xs ≡ positions-in (g .stack .count) vs →
         Trial-says bs (getD vs 0 0) ts xs t → Printed (verdict-text (t .legal)) 0 out r → Printed (trial-text bs n vs) (trial-status bs n) out r

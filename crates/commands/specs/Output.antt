@@ -1,17 +1,19 @@
--- What is printed, a table, a row or a verdict, or the line of a refusal, and the exit status that goes with it. Assumes nothing: these are definitions.
+-- What is printed, a table, a row, a page or a verdict, or the line of a refusal, and the exit status that goes with it. Assumes nothing: these are definitions.
 use mathlib.Core.Path.{_≡_}
 use mathlib.Core.Bool.{Bool, cond}
 use mathlib.Core.List.{List, [], _∷_}
-use Prim.Native.Nat.{ℕ, _+_, _*_, _≤_}
+use Prim.Native.Nat.{ℕ, _+_, _*_, _-_, _≤_}
 use lib.Dec.{eqb}
 use lib.ListN.{length, getD, take}
 use Rattle.numbers.specs.Lists.{filled}
-use Rattle.stack.specs.Stack.{Row, Rows-are}
+use Rattle.stack.specs.Stack.{Row, Rows-are, Answer}
 use Rattle.text.specs.Text.{Refusal, text-refusal, stack-in}
 use Rattle.writing.specs.TableText.{row-text, table-text, refusal-text}
 use Rattle.writing.specs.Output.{row-of}
 use Rattle.trial.specs.Legal.{is-legal}
+use Rattle.page.specs.Page.{channel-page}
 use Rattle.nabetsu.specs.Entry.{spread-refusal, Spread-says}
+use Rattle.nabetsu.specs.Pages.{page-refusal}
 use Rattle.nabetsu.specs.declared.SpreadAnswer.{SpreadAnswer}
 use Rattle.commands.specs.declared.Reply.{Reply}
 
@@ -48,6 +50,13 @@ pub record Spread-printed (bs : List ℕ) (s : ℕ) (output : List ℕ) (r : Rep
   pub answer : SpreadAnswer
   pub says : Spread-says bs s answer
   pub printed : Replied (spread-refusal bs s) (row-text (row-of (channels bs) s (answer .separations) (answer .positions))) output r
+
+-- A PAGE: 1 to 7 and 9, else the page of the answer's channel; the space is enough for every page too
+pub record Page-printed (bs : List ℕ) (s channel : ℕ) (output : List ℕ) (r : Reply) : Type 0 where
+  pub separations : List ℕ
+  pub positions : List ℕ
+  pub answered : page-refusal bs s channel .number ≡ 0 → Answer (stack-in bs) s separations positions
+  pub printed : Replied (page-refusal bs s channel) (channel-page (stack-in bs) separations positions (channel - 1)) output r
 
 -- A TRIAL's numbers: the spread, k separations, k + 1 positions; zeros in unused places
 unfoldable pub separations-in : (k : ℕ) → (numbers : List ℕ) → List ℕ

@@ -8,7 +8,7 @@ use lib.ListN.{length}
 use Rattle.lines.specs.Lines.{all-digits, value, same-bytes}
 use Rattle.commands.specs.declared.Number.{Number}
 use Rattle.commands.specs.declared.Command.{Command}
-use Rattle.commands.specs.declared.Command.the-variants.{Table, Spread, Trial, Help, Version, Wrong}
+use Rattle.commands.specs.declared.Command.the-variants.{Table, Spread, Page, Trial, Help, Version, Wrong}
 
 -- a NUMBER: 1 to 10 decimal digits, at most 4294967295
 unfoldable pub is-number : List ℕ → Bool
@@ -22,7 +22,7 @@ pub record Number-read (xs : List ℕ) (r : Number) : Type 0 where
   pub good : r .good ≡ is-number xs
   pub value : r .value ≡ number-in xs
 
--- the words help, trial and spread, and the options -h, --help and --version
+-- the words help, trial, spread and page, and the options -h, --help and --version
 unfoldable pub help-word : List ℕ
 help-word = 104 ∷ 101 ∷ 108 ∷ 112 ∷ []
 
@@ -31,6 +31,9 @@ trial-word = 116 ∷ 114 ∷ 105 ∷ 97 ∷ 108 ∷ []
 
 unfoldable pub spread-word : List ℕ
 spread-word = 115 ∷ 112 ∷ 114 ∷ 101 ∷ 97 ∷ 100 ∷ []
+
+unfoldable pub page-word : List ℕ
+page-word = 112 ∷ 97 ∷ 103 ∷ 101 ∷ []
 
 unfoldable pub short-help : List ℕ
 short-help = 45 ∷ 104 ∷ []
@@ -44,14 +47,19 @@ version-option = 45 ∷ 45 ∷ 118 ∷ 101 ∷ 114 ∷ 115 ∷ 105 ∷ 111 ∷ 1
 unfoldable pub is-help : List ℕ → Bool
 is-help w = same-bytes w help-word || (same-bytes w short-help || same-bytes w long-help)
 
+-- a command, where the word is its name
+unfoldable pub if-named : (word name : List ℕ) → Command → Command
+if-named w name c = cond (same-bytes w name) c Wrong
+
 -- a COMMAND of one word
 unfoldable pub command-alone : List ℕ → Command
-command-alone w = cond (is-help w) Help (cond (same-bytes w version-option) Version Wrong)
+command-alone w = cond (is-help w) Help (if-named w version-option Version)
 
--- a COMMAND of so many words, of which w is the first: none is the table; spread has one number, trial some
+-- a COMMAND of so many words, of which w is the first: none is the table; spread has one number, page two, trial some
 unfoldable pub command-in : List ℕ → (words : ℕ) → Command
 command-in w n =
     cond (eqb n 0) Table
     (cond (eqb n 1) (command-alone w)
     (cond (same-bytes w trial-word) Trial
-    (cond (eqb n 2) (cond (same-bytes w spread-word) Spread Wrong) Wrong)))
+    (cond (eqb n 2) (if-named w spread-word Spread)
+    (cond (eqb n 3) (if-named w page-word Page) Wrong))))

@@ -1,16 +1,17 @@
 // The program's commands, on slices: what its arguments stand for, and for each command what is printed of a text and the exit status that goes with it.
 ghost use mathlib.Core.Path.{_≡_};
-ghost use mathlib.Core.List.{[]};
 ghost use Prim.Native.Nat.{_≤_};
+ghost use lib.ListN.{length, take};
 ghost use Rattle.stack.specs.Value.{tracks-of, columns-of};
 ghost use Rattle.text.specs.Outcome.{refusal-of};
 ghost use Rattle.writing.specs.Output.{Line-put};
-ghost use Rattle.commands.specs.Words.{Number-read, is-help, command-alone, command-in};
+ghost use Rattle.commands.specs.Words.{Number-read, is-help, if-named, command-alone, command-in};
 ghost use Rattle.commands.specs.Output.{
   Printed,
   Replied,
   Table-printed,
   Spread-printed,
+  Page-printed,
   separations-in,
   positions-in,
   verdict-text,
@@ -22,6 +23,7 @@ use lines::read_digits;
 use nabetsu::TABLE_BYTES;
 use nabetsu::answer_spread;
 use nabetsu::try_placement;
+use nabetsu::write_page;
 use nabetsu::write_table;
 use stack::Columns;
 use stack::Stack;
@@ -82,6 +84,7 @@ pub fn read_number(word: &[u8]) -> Number
 pub enum Command {
     Table,
     Spread,
+    Page,
     Trial,
     Help,
     Version,
@@ -101,6 +104,16 @@ fn is_help(word: &[u8]) -> bool
     is_word(word, b"--help")
 }
 
+// The command, where the word is its name.
+fn if_named(word: &[u8], name: &[u8], command: Command) -> Command
+    ensures { λ r. ⌜ r ≡ if-named (now (word .entry)) (now (name .entry)) command ⌝ }
+{
+    if is_word(word, name) {
+        return command;
+    }
+    Command::Wrong
+}
+
 // The command of one word.
 fn read_alone(word: &[u8]) -> Command
     ensures { λ r. ⌜ r ≡ command-alone (now (word .entry)) ⌝ }
@@ -108,10 +121,7 @@ fn read_alone(word: &[u8]) -> Command
     if is_help(word) {
         return Command::Help;
     }
-    if is_word(word, b"--version") {
-        return Command::Version;
-    }
-    Command::Wrong
+    if_named(word, b"--version", Command::Version)
 }
 
 // The command of so many words, of which this is the first.
@@ -127,11 +137,11 @@ pub fn read_command(word: &[u8], words: usize) -> Command
     if is_word(word, b"trial") {
         return Command::Trial;
     }
-    if words != 2 {
-        return Command::Wrong;
+    if words == 2 {
+        return if_named(word, b"spread", Command::Spread);
     }
-    if is_word(word, b"spread") {
-        return Command::Spread;
+    if words == 3 {
+        return if_named(word, b"page", Command::Page);
     }
     Command::Wrong
 }
@@ -142,13 +152,14 @@ pub struct Reply {
     pub status: u32,
 }
 
-// The line of a refusal; nothing where there is none.
-fn put_outcome(outcome: Outcome, output: &mut [u8; TABLE_BYTES]) -> Reply
-    ensures { λ r. ⌜ Replied (refusal-of outcome) [] (now (output .exit)) r ⌝ }
+// The line of a refusal; where there is none, the bytes that are written already.
+fn put_outcome(outcome: Outcome, written: usize, output: &mut [u8; TABLE_BYTES]) -> Reply
+    requires { ⌜ written ≤ length (now output) ⌝ }
+    ensures { λ r. ⌜ Replied (refusal-of outcome) (take written (now (output .entry))) (now (output .exit)) r ⌝ }
 {
     match outcome {
         Outcome::Accepted => Reply {
-            length: 0,
+            length: written,
             status: ANSWERED,
         },
         Outcome::Refused(r) => {
@@ -168,13 +179,7 @@ pub fn put_table(text: &[u8], output: &mut [u8; TABLE_BYTES]) -> Reply
 {
     let answer = write_table(text, output);
     let outcome = answer.outcome;
-    if !outcome.is_accepted() {
-        return put_outcome(outcome, output);
-    }
-    Reply {
-        length: answer.written,
-        status: ANSWERED,
-    }
+    put_outcome(outcome, answer.written, output)
 }
 
 // All that is printed for one spread: its row, or the refusal's line.
@@ -184,7 +189,7 @@ pub fn put_spread(text: &[u8], spread: u32, output: &mut [u8; TABLE_BYTES]) -> R
     let answer = answer_spread(text, spread);
     let outcome = answer.outcome;
     if !outcome.is_accepted() {
-        return put_outcome(outcome, output);
+        return put_outcome(outcome, 0, output);
     }
     let reading = read_stack(text);
     let total = answer.total;
@@ -202,6 +207,15 @@ pub fn put_spread(text: &[u8], spread: u32, output: &mut [u8; TABLE_BYTES]) -> R
         length,
         status: ANSWERED,
     }
+}
+
+// All that is printed of a channel in the answer for one spread: its page, or the refusal's line.
+pub fn put_page(text: &[u8], spread: u32, channel: u32, output: &mut [u8; TABLE_BYTES]) -> Reply
+    ensures { λ r. ⌜ Page-printed (now (text .entry)) spread channel (now (output .exit)) r ⌝ }
+{
+    let answer = write_page(text, spread, channel, output);
+    let outcome = answer.outcome;
+    put_outcome(outcome, answer.written, output)
 }
 
 // A trial's first k separations, and zeros.
@@ -251,7 +265,7 @@ pub fn put_trial(
     let reading = read_stack(text);
     let outcome = reading.outcome;
     if !outcome.is_accepted() {
-        return put_outcome(outcome, output);
+        return put_outcome(outcome, 0, output);
     }
     let k = reading.stack.count;
     if count != 2 * k + 2 {

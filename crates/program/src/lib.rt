@@ -1,5 +1,5 @@
-// The program stacktable: it prints the table of a stack, the answer for one spread, or the verdict on a placement. No contract can say what is read or
-// written, so what is printed and the status that goes with it come from crate commands; the functions here read, write and pass the status on.
+// The program stacktable: it prints the table of a stack, the answer for one spread, the page of a channel, or the verdict on a placement. No contract can say
+// what is read or written, so what is printed and the status that goes with it come from crate commands; the functions here read, write and pass the status on.
 ghost use mathlib.Core.Path.{_≡_};
 ghost use mathlib.Core.Bool.{false};
 ghost use Prim.Native.Nat.{_≤_, _<_};
@@ -7,6 +7,7 @@ ghost use lib.ListN.{set};
 ghost use Rattle.io.specs.Counts.{Counts};
 ghost use Rattle.text.specs.Text.{text-refusal};
 ghost use Rattle.nabetsu.specs.Entry.{spread-refusal};
+ghost use Rattle.nabetsu.specs.Pages.{page-refusal};
 ghost use Rattle.commands.specs.Output.{status-of, trial-status};
 ghost use Rattle.program.specs.Status.{Passed-on};
 use commands::ANSWERED;
@@ -14,6 +15,7 @@ use commands::Command;
 use commands::FAILED;
 use commands::NUMBERS;
 use commands::Number;
+use commands::put_page;
 use commands::put_spread;
 use commands::put_table;
 use commands::put_trial;
@@ -54,6 +56,7 @@ fn print_usage(fd: i32) -> bool {
         fd,
         b"usage: stacktable [-f FILE]
        stacktable [-f FILE] spread N
+       stacktable [-f FILE] page N CHANNEL
        stacktable [-f FILE] trial N T1..TK X0..XK
        stacktable help | -h | --help
        stacktable --version
@@ -72,6 +75,7 @@ fn print_help() -> u32
         b"Reads a stack from FILE, or from standard input, and prints
   its table;
   spread: the answer for spread N, as a row of a table;
+  page: the paths of a channel, from 1, in the answer for spread N, at most 63;
   trial: legal or not legal, for separations T1..TK and positions X0..XK in spread N.
 For a refused stack it prints the refusal's number, line and field.
 A number is 1 to 10 decimal digits, at most 4294967295.
@@ -87,7 +91,7 @@ Example: two strips of 4 columns and two pairs, in a spread of 5
 fn print_version() -> u32
     ensures { λ r. ⌜ Passed-on 0 r ⌝ }
 {
-    print(b"stacktable 1.0\n", ANSWERED)
+    print(b"stacktable 1.1\n", ANSWERED)
 }
 
 // Says what is wrong with the arguments, and how the program is used.
@@ -264,6 +268,16 @@ fn print_spread(text: &[u8], spread: u32) -> u32
     print(&output[..length], reply.status)
 }
 
+// The page of a channel in the answer for one spread.
+fn print_page(text: &[u8], spread: u32, channel: u32) -> u32
+    ensures { λ r. ⌜ Passed-on (status-of (page-refusal (now (text .entry)) spread channel)) r ⌝ }
+{
+    let mut output = [0u8; TABLE_BYTES];
+    let reply = put_page(text, spread, channel, &mut output);
+    let length = reply.length;
+    print(&output[..length], reply.status)
+}
+
 // The verdict on a trial of so many numbers.
 fn print_trial(text: &[u8], count: usize, numbers: [u32; NUMBERS]) -> u32
     ensures { λ r. ⌜ Passed-on (trial-status (now (text .entry)) count) r ⌝ }
@@ -308,6 +322,28 @@ fn run_spread(place: usize) -> u32
     print_spread(&text[..length], number.value)
 }
 
+// Reads the spread, the channel and the text, and prints the page.
+fn run_page(place: usize) -> u32
+    requires { ⌜ place ≤ 3 ⌝ }
+    ensures { λ r. ⌜ r ≤ 2 ⌝ }
+{
+    let spread = number_argument(place + 1);
+    if !spread.good {
+        return FAILED;
+    }
+    let channel = number_argument(place + 2);
+    if !channel.good {
+        return FAILED;
+    }
+    let mut text = [0u8; TEXT_BYTES];
+    let input = read_input(place, &mut text);
+    if !input.good {
+        return FAILED;
+    }
+    let length = input.length;
+    print_page(&text[..length], spread.value, channel.value)
+}
+
 // Reads the numbers and the text, and prints the verdict.
 fn run_trial(place: usize, end: usize) -> u32
     requires { ⌜ place < end ⌝ }
@@ -343,6 +379,7 @@ pub fn run() -> u32
     match read_command(&word[..n], end - place) {
         Command::Table => run_table(place),
         Command::Spread => run_spread(place),
+        Command::Page => run_page(place),
         Command::Trial => run_trial(place, end),
         Command::Help => print_help(),
         Command::Version => print_version(),

@@ -1,4 +1,4 @@
--- put_outcome meets its contract: nothing for what is accepted, and a refusal's line. Assumes nothing.
+-- put_outcome meets its contract: what is written where it is accepted, and a refusal's line. Assumes nothing.
 use Rattle.commands.proofs.Printing.{put-printed, outcome-accepted, outcome-refused}
 use borrow.Author.Needs.{needs}
 use Rattle.commands.proofs.put_outcome.Statement.{statement}
@@ -17,12 +17,12 @@ put-refusal-requires : tie.Need-put-refusal-requires
 put-refusal-requires c κs = search needs
 
 returns : tie.Need-returns
-returns c = outcome-accepted _ _ (c .enum-told .given .1)
+returns c = outcome-accepted _ _ _ (search needs) (c .enum-told .given .1)
 
 returns-2 : tie.Need-returns-2
 returns-2 c =
     let known = c .before .before .before .before .outcome .given in
-    outcome-refused _ (known .0 .0) (known .1) (rw (c .before .number .ensures) at (put-printed 1 (search needs) (c .put-refusal .ensures)))
+    outcome-refused _ _ (known .0 .0) (known .1) (rw (c .before .number .ensures) at (put-printed 1 (search needs) (c .put-refusal .ensures)))
 
 pub put-outcome-spec : {M : Type 1} → statement M
 put-outcome-spec =

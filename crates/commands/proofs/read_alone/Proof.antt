@@ -1,5 +1,5 @@
 -- read_alone meets its contract, word by word. Assumes nothing.
-use Rattle.commands.proofs.Arguments.{alone-help, alone-version, alone-wrong}
+use Rattle.commands.proofs.Arguments.{alone-help, alone-option}
 use Rattle.commands.specs.Words.{version-option}
 use borrow.Author.Needs.{needs}
 use Rattle.commands.proofs.read_alone.Statement.{statement}
@@ -11,27 +11,19 @@ is-help-requires c κs = search needs
 returns : tie.Need-returns
 returns c = alone-help (c .before .before .before .args .word .now) (c .before .is-help .result) (c .before .is-help .ensures) (c .if1 .taken)
 
-slice-aggregate-is-word : tie.Need-slice-aggregate-is-word
-slice-aggregate-is-word c = search needs
+slice-aggregate-if-named : tie.Need-slice-aggregate-if-named
+slice-aggregate-if-named c = search needs
 
-is-word-requires : tie.Need-is-word-requires
-is-word-requires c κs = search needs
+if-named-requires : tie.Need-if-named-requires
+if-named-requires c κs = search needs
 
 returns-2 : tie.Need-returns-2
 unfolding version-option
-returns-2 c = alone-version (c .before .before .before .before .before .before .args .word .now) (c .before .before .before .before .is-help .result) (c .before .before .before .before .is-help .ensures) (c .before .before .before .if1 .left) (c .before .is-word .result) (c .before .is-word .ensures) (c .if2 .taken)
-
-returns-3 : tie.Need-returns-3
-unfolding version-option
-returns-3 c = alone-wrong (c .before .before .before .before .before .before .args .word .now) (c .before .before .before .before .is-help .result) (c .before .before .before .before .is-help .ensures) (c .before .before .before .if1 .left) (c .before .is-word .result) (c .before .is-word .ensures) (c .if2 .left)
+returns-2 c =
+    let before = c .before .before .before in
+    rw (← alone-option _ (before .is-help .result) (before .is-help .ensures) (c .before .before .if1 .left)) (c .if-named .ensures)
 
 pub read-alone-spec : {M : Type 1} → statement M
 read-alone-spec =
     tie.close
-    (tie.spec
-    is-help-requires
-    returns
-    slice-aggregate-is-word
-    is-word-requires
-    returns-2
-    returns-3)
+    (tie.spec is-help-requires returns slice-aggregate-if-named if-named-requires returns-2)

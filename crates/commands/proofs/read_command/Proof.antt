@@ -1,6 +1,6 @@
 -- read_command meets its contract, case by case. Assumes nothing.
-use Rattle.commands.proofs.Arguments.{no-words, one-word, trial-there, many-wrong, spread-there, two-wrong}
-use Rattle.commands.specs.Words.{trial-word, spread-word}
+use Rattle.commands.proofs.Arguments.{no-words, one-word, trial-there, two-words, three-words, many-wrong}
+use Rattle.commands.specs.Words.{trial-word, spread-word, page-word}
 use borrow.Author.Needs.{needs}
 use Rattle.commands.proofs.read_command.Statement.{statement}
 use Rattle.commands.proofs.read_command.Tie as tie
@@ -26,29 +26,36 @@ returns-3 c =
     let start = c .before .before .before .before .before .before in
     trial-there (start .args .word .now) (start .args .words) (c .before .before .before .before .if1 .left) (c .before .before .before .if2 .left) (c .before .is-word .result) (c .before .is-word .ensures) (c .if3 .taken)
 
+slice-aggregate-if-named : tie.Need-slice-aggregate-if-named
+slice-aggregate-if-named c = search needs
+
+if-named-requires : tie.Need-if-named-requires
+if-named-requires c κs = search needs
+
 returns-4 : tie.Need-returns-4
-unfolding trial-word
+unfolding trial-word spread-word
 returns-4 c =
-    let start = c .before .before .before .before .before .before .before in
-    many-wrong (start .args .word .now) (start .args .words) (c .before .before .before .before .before .if1 .left) (c .before .before .before .before .if2 .left) (c .before .before .is-word .result) (c .before .before .is-word .ensures) (c .before .if3 .left) (c .if4 .taken)
+    let trial = c .before .before .before .before in
+    rw (← two-words _ _ (trial .before .before .before .if1 .left) (trial .before .before .if2 .left) (trial .is-word .result) (trial .is-word .ensures) (c .before .before .before .if3 .left) (c .before .before .if4 .taken)) (c .if-named .ensures)
 
-slice-aggregate-is-word-2 : tie.Need-slice-aggregate-is-word-2
-slice-aggregate-is-word-2 c = search needs
+slice-aggregate-if-named-2 : tie.Need-slice-aggregate-if-named-2
+slice-aggregate-if-named-2 c = search needs
 
-is-word-requires-2 : tie.Need-is-word-requires-2
-is-word-requires-2 c κs = search needs
+if-named-requires-2 : tie.Need-if-named-requires-2
+if-named-requires-2 c κs = search needs
 
 returns-5 : tie.Need-returns-5
-unfolding trial-word spread-word
+unfolding trial-word page-word
 returns-5 c =
-    let start = c .before .before .before .before .before .before .before .before .before .before in
-    spread-there (start .args .word .now) (start .args .words) (c .before .before .before .before .before .before .before .before .if1 .left) (c .before .before .before .before .before .before .before .if2 .left) (c .before .before .before .before .before .is-word .result) (c .before .before .before .before .before .is-word .ensures) (c .before .before .before .before .if3 .left) (c .before .before .before .if4 .left) (c .before .is-word2 .result) (c .before .is-word2 .ensures) (c .if5 .taken)
+    let trial = c .before .before .before .before .before in
+    rw (← three-words _ _ (trial .before .before .before .if1 .left) (trial .before .before .if2 .left) (trial .is-word .result) (trial .is-word .ensures) (c .before .before .before .before .if3 .left) (c .before .before .before .if4 .left) (c .before .before .if5 .taken)) (c .if-named2 .ensures)
 
 returns-6 : tie.Need-returns-6
-unfolding trial-word spread-word
+unfolding trial-word
 returns-6 c =
-    let start = c .before .before .before .before .before .before .before .before .before .before in
-    two-wrong (start .args .word .now) (start .args .words) (c .before .before .before .before .before .before .before .before .if1 .left) (c .before .before .before .before .before .before .before .if2 .left) (c .before .before .before .before .before .is-word .result) (c .before .before .before .before .before .is-word .ensures) (c .before .before .before .before .if3 .left) (c .before .before .before .if4 .left) (c .before .is-word2 .result) (c .before .is-word2 .ensures) (c .if5 .left)
+    let trial = c .before .before .before in
+    let start = trial .before .before .before .before .before in
+    many-wrong (start .args .word .now) (start .args .words) (trial .before .before .before .if1 .left) (trial .before .before .if2 .left) (trial .is-word .result) (trial .is-word .ensures) (c .before .before .if3 .left) (c .before .if4 .left) (c .if5 .left)
 
 pub read-command-spec : {M : Type 1} → statement M
 read-command-spec =
@@ -60,8 +67,10 @@ read-command-spec =
     slice-aggregate-is-word
     is-word-requires
     returns-3
+    slice-aggregate-if-named
+    if-named-requires
     returns-4
-    slice-aggregate-is-word-2
-    is-word-requires-2
+    slice-aggregate-if-named-2
+    if-named-requires-2
     returns-5
     returns-6)

@@ -55,23 +55,29 @@ run-spread-requires c κs = search needs
 enum-told-3 : tie.Need-enum-told-3
 enum-told-3 c = search needs
 
-run-trial-requires : tie.Need-run-trial-requires
-run-trial-requires c κs = omega (arith, trial-words _ _ (sym (c .enum-told3 .given .1) ∙ c .before .before .read-command .ensures))
+run-page-requires : tie.Need-run-page-requires
+run-page-requires c κs = search needs
 
 enum-told-4 : tie.Need-enum-told-4
 enum-told-4 c = search needs
 
-print-help-requires : tie.Need-print-help-requires
-print-help-requires c κs = search needs
+run-trial-requires : tie.Need-run-trial-requires
+run-trial-requires c κs = omega (arith, trial-words _ _ (sym (c .enum-told4 .given .1) ∙ c .before .before .read-command .ensures))
 
 enum-told-5 : tie.Need-enum-told-5
 enum-told-5 c = search needs
 
-print-version-requires : tie.Need-print-version-requires
-print-version-requires c κs = search needs
+print-help-requires : tie.Need-print-help-requires
+print-help-requires c κs = search needs
 
 enum-told-6 : tie.Need-enum-told-6
 enum-told-6 c = search needs
+
+print-version-requires : tie.Need-print-version-requires
+print-version-requires c κs = search needs
+
+enum-told-7 : tie.Need-enum-told-7
+enum-told-7 c = search needs
 
 slice-aggregate-print-wrong-2 : tie.Need-slice-aggregate-print-wrong-2
 slice-aggregate-print-wrong-2 c = search needs
@@ -89,13 +95,16 @@ returns-4 : tie.Need-returns-4
 returns-4 c = search needs
 
 returns-5 : tie.Need-returns-5
-returns-5 c = passed-within (omega arith) (c .print-help .ensures)
+returns-5 c = search needs
 
 returns-6 : tie.Need-returns-6
-returns-6 c = passed-within (omega arith) (c .print-version .ensures)
+returns-6 c = passed-within (omega arith) (c .print-help .ensures)
 
 returns-7 : tie.Need-returns-7
-returns-7 c = search needs
+returns-7 c = passed-within (omega arith) (c .print-version .ensures)
+
+returns-8 : tie.Need-returns-8
+returns-8 c = search needs
 
 pub run-spec : {M : Type 1} → statement M
 run-spec =
@@ -117,12 +126,14 @@ run-spec =
     enum-told-2
     run-spread-requires
     enum-told-3
-    run-trial-requires
+    run-page-requires
     enum-told-4
-    print-help-requires
+    run-trial-requires
     enum-told-5
-    print-version-requires
+    print-help-requires
     enum-told-6
+    print-version-requires
+    enum-told-7
     slice-aggregate-print-wrong-2
     print-wrong-requires-2
     returns-2
@@ -130,4 +141,5 @@ run-spec =
     returns-4
     returns-5
     returns-6
-    returns-7)
+    returns-7
+    returns-8)

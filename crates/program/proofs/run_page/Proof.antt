@@ -1,0 +1,58 @@
+-- run_page meets its contract: the status is one of three. Assumes nothing.
+use Rattle.program.proofs.Passing.{passed-within, status-within}
+use borrow.Author.Needs.{needs}
+use Rattle.program.proofs.run_page.Statement.{statement}
+use Rattle.program.proofs.run_page.Tie as tie
+
+add-number-argument : tie.Need-add-number-argument
+add-number-argument c = search needs
+
+number-argument-requires : tie.Need-number-argument-requires
+number-argument-requires c κs = search needs
+
+returns : tie.Need-returns
+returns c = search needs
+
+add-number-argument-2 : tie.Need-add-number-argument-2
+add-number-argument-2 c = search needs
+
+number-argument-requires-2 : tie.Need-number-argument-requires-2
+number-argument-requires-2 c κs = search needs
+
+returns-2 : tie.Need-returns-2
+returns-2 c = search needs
+
+read-input-requires : tie.Need-read-input-requires
+read-input-requires c κs = search needs
+
+returns-3 : tie.Need-returns-3
+returns-3 c = search needs
+
+array-share-prefix-text : tie.Need-array-share-prefix-text
+array-share-prefix-text c = search needs
+
+slice-aggregate-print-page : tie.Need-slice-aggregate-print-page
+slice-aggregate-print-page c = search needs
+
+print-page-requires : tie.Need-print-page-requires
+print-page-requires c κs = search needs
+
+returns-4 : tie.Need-returns-4
+returns-4 c = passed-within (status-within _) (c .print-page .ensures)
+
+pub run-page-spec : {M : Type 1} → statement M
+run-page-spec =
+    tie.close
+    (tie.spec
+    add-number-argument
+    number-argument-requires
+    returns
+    add-number-argument-2
+    number-argument-requires-2
+    returns-2
+    read-input-requires
+    returns-3
+    array-share-prefix-text
+    slice-aggregate-print-page
+    print-page-requires
+    returns-4)
