@@ -77,7 +77,7 @@ fn print_help() -> u32
   spread: the answer for spread N, as a row of a table;
   page: the paths of a channel, from 1, in the answer for spread N, at most 63;
   trial: legal or not legal, for separations T1..TK and positions X0..XK in spread N.
-For a refused stack it prints the refusal's number, line and field.
+Where the stack, the spread or the channel is refused it prints the refusal's number, line and field.
 A number is 1 to 10 decimal digits, at most 4294967295.
 It exits with 0 for an answer, 1 for a refusal, 2 for anything said on standard error.
 Example: two strips of 4 columns and two pairs, in a spread of 5

@@ -54,8 +54,7 @@ returns-2 c =
 
 put-channel-requires : tie.Need-put-channel-requires
 put-channel-requires c κs =
-    let asked = c .before .before .before in
-    (
+    let asked = c .before .before .before in (
       asked .before .before .before .before .read-stack .ensures .within,
       asked-number _ _ _ (asked .page-outcome .result) (asked .page-outcome .ensures) (sym (c .before .before .is-accepted2 .ensures) ∙ not-false _ (c .before .if2 .left)),
     )

@@ -47,8 +47,7 @@ loop-less c = search needs
 
 loop-again : tie.Need-loop-again Inv-loop μ-loop
 loop-again c =
-    let round = c .before .before .before .before .before .before .before .loop in
-    (
+    let round = c .before .before .before .before .before .before .before .loop in (
       omega arith,
       row-steps _ _ _ _ _ (round .row) _ _ _ _ (round .inv .1) (c .before .before .before .before .before .arrival .ensures) (c .before .before .before .before .arrival2 .ensures) (c .before .before .put-run .ensures),
     )

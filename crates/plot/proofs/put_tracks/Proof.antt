@@ -35,8 +35,7 @@ part-put-track-end c = search needs
 put-track-requires : tie.Need-put-track-requires Inv-loop μ-loop
 put-track-requires c κs =
     let inv = c .before .before .loop .inv in
-    let pre = c .before .before .before .before .pre in
-    (
+    let pre = c .before .before .before .before .pre in (
       pre .0,
       simp (length-take, length-drop) (omega (arith, inv .place, inv .same-length, pre .1)),
       omega (arith, inv .place, pre .2),
