@@ -44,11 +44,8 @@ climbs-later f a b bs (l, c) = c
 climbs-once : (f : Point → ℕ) (a : Point) (ws : List Point) → Climbs f a ws → once (a ∷ ws) ≡ true
 unfolding once on-path
 climbs-once f a [] c = refl
-climbs-once f a (b ∷ bs) c = and-both (not (on-path a (b ∷ bs))) (once (b ∷ bs)) (go (on-path a (b ∷ bs)) refl) (climbs-once f b bs (later f a b bs c))
+climbs-once f a (b ∷ bs) c = and-both (not (on-path a (b ∷ bs))) (once (b ∷ bs)) (go (on-path a (b ∷ bs)) refl) (climbs-once f b bs (climbs-later f a b bs c))
   where
-    later : (f : Point → ℕ) (a b : Point) (bs : List Point) → Climbs f a (b ∷ bs) → Climbs f b bs
-    later f a b bs c = climbs-later f a b bs c
-
     go : (v : Bool) → on-path a (b ∷ bs) ≡ v → not v ≡ true
     go true e = let k = climbs-above f a a (b ∷ bs) c e in absurd (omega arith)
     go false e = refl
@@ -148,13 +145,9 @@ tracks-differ : (u v : Point) → (u .track ≡ v .track → ⊥) → u ≡ v �
 tracks-differ u v n e = n (ap (λ (p : Point). p .track) e)
 
 before-not : (c m : ℕ) → before c ≡ pos m → c ≡ suc m
-unfolding before
+unfolding before column-of
 before-not zero m e = cc
-before-not (suc c) m e = let d : c ≡ m = ap column-of' e in omega arith
-  where
-    column-of' : ℤ → ℕ
-    column-of' (pos n) = n
-    column-of' (negsuc n) = 0
+before-not (suc c) m e = let d : c ≡ m = ap column-of e in omega arith
 
 module _ (ws : List (List Point)) (n : none-meet ws ≡ true) (o : (i : ℕ) → once (path-at ws i) ≡ true) (c y : ℕ) where
   three : (z u v s : Point) → (u ≡ v → ⊥) → (u ≡ s → ⊥) → (v ≡ s → ⊥) → joined z u ws ≡ true → joined z v ws ≡ true → joined z s ws ≡ true → ⊥
