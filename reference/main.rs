@@ -1,7 +1,8 @@
-//! The independent program: document 01 by plain formulas and by trying, sharing no code with the proved one.
-//! `channels`, `table`, `spread` and `trial` print what the proved programs must print for the same input.
+//! The independent program: documents 01 and 02 by plain formulas and by trying, sharing no code with the proved one.
+//! `channels`, `table`, `spread`, `page` and `trial` print what the proved programs must print for the same input.
 
 mod channel;
+mod page;
 mod random;
 mod reader;
 mod solver;
@@ -14,6 +15,7 @@ use std::io::{Read, Write};
 const USAGE: &str = "usage: reference channels < crates/channel_test/stdin
        reference table < STACK
        reference spread SPREAD < STACK
+       reference page SPREAD CHANNEL < STACK
        reference trial SPREAD SEPARATION.. POSITION.. < STACK    (k separations, k + 1 positions)
        reference specimens
        reference agree SEED COUNT";
@@ -55,14 +57,27 @@ fn table(text: &[u8]) -> String {
     }
 }
 
+/// The answer for a spread from the longest strip upward; every position is tried where that is soon done.
+fn answer(stack: &Stack, spread: i64) -> solver::Answer {
+    solver::answer(stack, spread, solver::small(stack) && spread <= solver::widest(stack) + 3)
+}
+
 fn spread(text: &[u8], spread: i64) -> String {
     match reader::read(text) {
         Ok(stack) if spread < solver::longest(&stack) => refusal_text((7, 0, 0)),
-        Ok(stack) => {
-            let brute = solver::small(&stack) && spread <= solver::widest(&stack) + 3;
-            solver::row_text(spread, &solver::answer(&stack, spread, brute))
-        }
+        Ok(stack) => solver::row_text(spread, &answer(&stack, spread)),
         Err(r) => refusal_text(r),
+    }
+}
+
+fn page(text: &[u8], spread: i64, channel: i64) -> String {
+    let stack = match reader::read(text) {
+        Ok(stack) => stack,
+        Err(r) => return refusal_text(r),
+    };
+    match page::refusal(&stack, spread, channel) {
+        Some(r) => refusal_text(r),
+        None => page::page(&stack, &answer(&stack, spread), spread, channel as usize),
     }
 }
 
@@ -82,7 +97,7 @@ fn trial(text: &[u8], spread: i64, placement: &[u32]) -> Option<String> {
     Some(if legal { "legal\n" } else { "not legal\n" }.to_string())
 }
 
-/// Every specimen of document 01; prints those that differ and says whether none does.
+/// Every specimen; prints those that differ and says whether none does.
 fn check_specimens() -> bool {
     let mut good = true;
     let mut check = |name: &str, found: String, due: String| {
@@ -101,6 +116,10 @@ fn check_specimens() -> bool {
     }
     for (name, text, at, due) in specimens::SPREADS {
         check(name, spread(specimens::tabbed(text).as_bytes(), at as i64), specimens::tabbed(due));
+    }
+    for (name, text, at, channel, due) in specimens::PAGES {
+        let due = due.map_or_else(refusal_text, specimens::page);
+        check(name, page(specimens::tabbed(text).as_bytes(), at as i64, channel as i64), due);
     }
     for (name, text, at, separations, positions, due) in specimens::TRIALS {
         let found = trial(specimens::tabbed(text).as_bytes(), at as i64, &[separations, positions].concat());
@@ -151,6 +170,10 @@ fn run(words: &[String]) -> Option<(String, bool)> {
         }
         ("table", 0) => Some((table(&read_input()), true)),
         ("spread", 1) => Some((spread(&read_input(), numbers(rest)?[0] as i64), true)),
+        ("page", 2) => {
+            let given = numbers(rest)?;
+            Some((page(&read_input(), given[0] as i64, given[1] as i64), true))
+        }
         ("trial", 4..) => {
             let given = numbers(rest)?;
             Some((trial(&read_input(), given[0] as i64, &given[1..])?, true))
