@@ -1,22 +1,26 @@
-//! Times of the proved library and of the plain program, per table and per one-spread answer, side by side.
+//! Times of the proved library and of the plain program, per table, per one-spread answer and per page, side by side.
 
 #[allow(dead_code)]
 #[path = "../tests/library.rs"]
 mod library;
+mod page;
 mod solver;
 
 use std::collections::HashMap;
 use std::hint::black_box;
 use std::time::Instant;
 
-const USAGE: &str = "usage: bench report COUNTS STACK..       times, beside the instructions in the file COUNTS
-       bench repeat PROGRAM JOB COUNT STACK    (proved or plain; table or answer)";
+const USAGE: &str = "usage: bench report COUNTS STACK..       tables and answers: times, beside the instructions in the file COUNTS
+       bench pages COUNTS STACK..        the same for the page of channel 1, the answer, and what the page takes besides
+       bench repeat PROGRAM JOB COUNT STACK    (proved or plain; table, answer or page)";
 
 /// Longer than every table.
 const SPACE: usize = 24576;
+/// As long as the longest page.
+const PAGE_SPACE: usize = 2277;
 const SAMPLES: usize = 31;
 const PROGRAMS: [&str; 2] = ["proved", "plain"];
-const JOBS: [&str; 2] = ["table", "answer"];
+const JOBS: [&str; 3] = ["table", "answer", "page"];
 
 struct Input {
     name: String,
@@ -35,12 +39,15 @@ fn input(path: &str) -> Input {
 
 /// Does the job so many times, into buffers that are not cleared between.
 fn repeat(program: &str, job: &str, count: u64, input: &Input) {
-    let mut space = vec![0; SPACE];
+    let mut space = vec![0; if job == "page" { PAGE_SPACE } else { SPACE }];
     let text = &input.text[..];
     for _ in 0..count {
         match (program, job) {
             ("proved", "table") => {
                 black_box(library::write_table(black_box(text), black_box(&mut space)));
+            }
+            ("proved", "page") => {
+                black_box(library::write_page(black_box(text), black_box(input.spread), black_box(1), black_box(&mut space)));
             }
             ("proved", _) => {
                 let mut answer = [0; 18];
@@ -48,6 +55,9 @@ fn repeat(program: &str, job: &str, count: u64, input: &Input) {
             }
             (_, "table") => {
                 black_box(solver::table(black_box(text), black_box(&mut space))).expect("a table");
+            }
+            (_, "page") => {
+                black_box(page::page(black_box(text), black_box(input.spread), black_box(1), black_box(&mut space))).expect("a page");
             }
             _ => {
                 black_box(solver::answer(black_box(text), black_box(input.spread))).expect("an answer");
@@ -65,6 +75,10 @@ fn compare(input: &Input) {
     let mut answer = [0; 18];
     library::answer_spread(&input.text, input.spread, &mut answer);
     assert_eq!(solver::answer(&input.text, input.spread), Ok(answer), "{}", input.name);
+    let told = library::write_page(&input.text, input.spread, 1, &mut proved);
+    let found = page::page(&input.text, input.spread, 1, &mut plain);
+    assert_eq!(found.map_or_else(|r| (r.0 as u64) << 40, |length| length as u64), told, "{}", input.name);
+    assert!(proved == plain, "{}: the pages differ", input.name);
 }
 
 fn nanoseconds(program: &str, job: &str, count: u64, input: &Input) -> f64 {
@@ -97,7 +111,34 @@ fn instructions(path: &str) -> HashMap<String, f64> {
     lines.lines().filter_map(|l| l.rsplit_once(' ')).map(|(key, n)| (key.to_string(), n.parse().expect("a count"))).collect()
 }
 
-fn report(counts: &str, paths: &[String]) {
+/// Of the proved library and of the plain program.
+struct Cost {
+    times: [f64; 2],
+    instructions: [Option<f64>; 2],
+}
+
+fn cost(counts: &HashMap<String, f64>, job: &str, input: &Input) -> Cost {
+    let instructions = PROGRAMS.map(|program| counts.get(&format!("{} {} {}", input.name, job, program)).copied());
+    Cost { times: medians(job, input), instructions }
+}
+
+/// What a job takes besides another.
+fn difference(whole: &Cost, part: &Cost) -> Cost {
+    let less = |p: usize| Some(whole.instructions[p]? - part.instructions[p]?);
+    Cost { times: [whole.times[0] - part.times[0], whole.times[1] - part.times[1]], instructions: [less(0), less(1)] }
+}
+
+fn print_cost(name: &str, job: &str, cost: &Cost) {
+    let times = cost.times;
+    print!("{:8} {:8} {:13.0} {:13.0} {:7.2}", name, job, times[0], times[1], times[0] / times[1]);
+    match cost.instructions {
+        [Some(proved), Some(plain)] => println!(" {:15.0} {:15.0} {:7.2}", proved, plain, proved / plain),
+        _ => println!(" {:>15} {:>15} {:>7}", "-", "-", "-"),
+    }
+}
+
+/// A line for each stack and job; with `pages` for each stack its page, its answer and the drawing, which is the difference.
+fn report(counts: &str, paths: &[String], pages: bool) {
     let counts = instructions(counts);
     println!(
         "{:8} {:8} {:>13} {:>13} {:>7} {:>15} {:>15} {:>7}",
@@ -106,14 +147,12 @@ fn report(counts: &str, paths: &[String]) {
     for path in paths {
         let input = input(path);
         compare(&input);
-        for job in JOBS {
-            let times = medians(job, &input);
-            print!("{:8} {:8} {:13.0} {:13.0} {:7.2}", input.name, job, times[0], times[1], times[0] / times[1]);
-            let found = PROGRAMS.map(|program| counts.get(&format!("{} {} {}", input.name, job, program)).copied());
-            match found {
-                [Some(proved), Some(plain)] => println!(" {:15.0} {:15.0} {:7.2}", proved, plain, proved / plain),
-                _ => println!(" {:>15} {:>15} {:>7}", "-", "-", "-"),
-            }
+        let first = if pages { "page" } else { "table" };
+        let (whole, answer) = (cost(&counts, first, &input), cost(&counts, "answer", &input));
+        print_cost(&input.name, first, &whole);
+        print_cost(&input.name, "answer", &answer);
+        if pages {
+            print_cost(&input.name, "drawing", &difference(&whole, &answer));
         }
     }
 }
@@ -122,7 +161,7 @@ fn main() {
     let words: Vec<String> = std::env::args().skip(1).collect();
     let names: Vec<&str> = words.iter().map(|w| w.as_str()).collect();
     match names[..] {
-        ["report", counts, _, ..] => report(counts, &words[2..]),
+        [command @ ("report" | "pages"), counts, _, ..] => report(counts, &words[2..], command == "pages"),
         ["repeat", program, job, count, path] if PROGRAMS.contains(&program) && JOBS.contains(&job) && count.parse::<u64>().is_ok() => {
             repeat(program, job, count.parse().unwrap(), &input(path))
         }

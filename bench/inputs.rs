@@ -1,4 +1,4 @@
-//! The inputs of the comparison: eight channels of 32 pairs each, made from fixed seeds.
+//! The inputs of the comparison: eight channels of 32 pairs each, made from fixed seeds; for pages one channel of 32 pairs.
 
 const CHANNELS: usize = 8;
 const PAIRS: usize = 32;
@@ -99,12 +99,25 @@ fn loose() -> String {
 pub fn sized(channels: usize, pairs: usize, length: u64) -> String {
     let mut random = Random(7);
     let bunch = length / 8;
-    let all: Vec<_> = (0..channels)
-        .map(|_| (random.some_terminals(pairs, 0, bunch), random.some_terminals(pairs, length - bunch, length)))
-        .collect();
+    let all: Vec<_> =
+        (0..channels).map(|_| (random.some_terminals(pairs, 0, bunch), random.some_terminals(pairs, length - bunch, length))).collect();
     text(&vec![length; channels + 1], &all)
 }
 
-pub fn all() -> [(&'static str, String); 5] {
-    [("short", short()), ("long", long()), ("skewed", skewed()), ("rows", rows()), ("loose", loose())]
+/// One channel between strips of 63, the last that a page shows, by pair; all 32 tracks are needed.
+fn paged(pair: impl Fn(u64) -> (u64, u64)) -> String {
+    text(&[63; 2], &[(0..PAIRS as u64).map(pair).unzip()])
+}
+
+pub fn all() -> [(&'static str, String); 8] {
+    [
+        ("short", short()),
+        ("long", long()),
+        ("skewed", skewed()),
+        ("rows", rows()),
+        ("loose", loose()),
+        ("right", paged(|j| (j, 32 + j))),
+        ("left", paged(|j| (32 + j, j))),
+        ("stairs", paged(|j| (2 * j, 32 + j))),
+    ]
 }

@@ -1,12 +1,14 @@
-//! `table` and `spread` print what the proved programs print; `generate` and `sized` make the inputs of the comparison.
+//! `table`, `spread` and `page` print what the proved programs print; `generate` and `sized` make the inputs of the comparison.
 
 mod inputs;
+mod page;
 mod solver;
 
 use std::io::{Read, Write};
 
 const USAGE: &str = "usage: plain table < STACK
        plain spread SPREAD < STACK
+       plain page SPREAD CHANNEL < STACK
        plain generate FOLDER
        plain sized CHANNELS PAIRS LENGTH";
 
@@ -20,9 +22,10 @@ fn refusal_text(r: solver::Refusal) -> Vec<u8> {
     format!("{}\t{}\t{}\n", r.0, r.1, r.2).into_bytes()
 }
 
-fn table(text: &[u8]) -> Vec<u8> {
+/// What is written into a space long enough, or the refusal's line.
+fn written(write: impl FnOnce(&mut [u8]) -> Result<usize, solver::Refusal>) -> Vec<u8> {
     let mut space = vec![0; 32768];
-    match solver::table(text, &mut space) {
+    match write(&mut space) {
         Ok(length) => space[..length].to_vec(),
         Err(r) => refusal_text(r),
     }
@@ -42,8 +45,12 @@ fn spread(text: &[u8], spread: u32) -> Vec<u8> {
 
 fn run(words: &[String]) -> Option<Vec<u8>> {
     match words {
-        [command] if command == "table" => Some(table(&read_input())),
+        [command] if command == "table" => Some(written(|out| solver::table(&read_input(), out))),
         [command, number] if command == "spread" => Some(spread(&read_input(), number.parse().ok()?)),
+        [command, number, channel] if command == "page" => {
+            let (number, channel) = (number.parse().ok()?, channel.parse().ok()?);
+            Some(written(|out| page::page(&read_input(), number, channel, out)))
+        }
         [command, folder] if command == "generate" => {
             for (name, text) in inputs::all() {
                 std::fs::write(format!("{}/{}.stack", folder, name), text).expect("a folder to write in");

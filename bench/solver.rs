@@ -1,9 +1,9 @@
-//! The proved library's job written for speed in plain Rust: a stack's text in, its table or its answer for one spread out.
+//! The proved library's job written for speed in plain Rust: a stack's text in, its table or its answer for one spread out; pages are in page.rs.
 //! It shares no code with reference/.
 
 const CHANNELS: usize = 8;
 const STRIPS: usize = CHANNELS + 1;
-const PAIRS: usize = 32;
+pub const PAIRS: usize = 32;
 const TOTALS: usize = CHANNELS * PAIRS + 1;
 
 // Columns fit sixteen bits, so that a vector holds many: nine strips of 1,000 are 9,000 wide.
@@ -18,12 +18,12 @@ const NOWHERE: i16 = 16_000;
 /// Number, line and field.
 pub type Refusal = (u32, u32, u32);
 
-struct Stack {
-    k: usize,
+pub struct Stack {
+    pub k: usize,
     lengths: [i16; STRIPS],
-    counts: [usize; CHANNELS],
-    lower: [[i16; PAIRS]; CHANNELS],
-    upper: [[i16; PAIRS]; CHANNELS],
+    pub counts: [usize; CHANNELS],
+    pub lower: [[i16; PAIRS]; CHANNELS],
+    pub upper: [[i16; PAIRS]; CHANNELS],
 }
 
 /// A number's value and what is behind it.
@@ -70,7 +70,7 @@ fn single<'a>(text: &'a [u8], word: &[u8]) -> Option<(i16, &'a [u8])> {
     (count == 1).then_some((kept[0], behind))
 }
 
-fn read(text: &[u8]) -> Result<Stack, Refusal> {
+pub fn read(text: &[u8]) -> Result<Stack, Refusal> {
     if text.len() > 8192 {
         return Err((1, 0, 0));
     }
@@ -203,10 +203,10 @@ struct Solver {
     spans: [Spans; STRIPS],
 }
 
-struct Placement {
+pub struct Placement {
     total: usize,
-    separations: [usize; CHANNELS],
-    positions: [i16; STRIPS],
+    pub separations: [usize; CHANNELS],
+    pub positions: [i16; STRIPS],
 }
 
 impl Solver {
@@ -324,16 +324,20 @@ impl Solver {
     }
 }
 
-/// The total, eight separations and nine positions at a spread; zeros in unused places.
-pub fn answer(text: &[u8], spread: u32) -> Result<[u32; 18], Refusal> {
-    let stack = read(text)?;
-    let mut solver = Solver::new(&stack);
+/// The placement at a spread.
+pub fn placement(stack: &Stack, spread: u32) -> Result<Placement, Refusal> {
+    let mut solver = Solver::new(stack);
     if spread < solver.longest() as u32 {
         return Err((7, 0, 0));
     }
     // Leftmost placements never reach beyond the sum of the lengths.
     let (total, _) = solver.scan(spread.min(solver.widest() as u32) as i16);
-    let placement = solver.place(total);
+    Ok(solver.place(total))
+}
+
+/// The total, eight separations and nine positions at a spread; zeros in unused places.
+pub fn answer(text: &[u8], spread: u32) -> Result<[u32; 18], Refusal> {
+    let placement = placement(&read(text)?, spread)?;
     let mut answer = [0; 18];
     answer[0] = placement.total as u32;
     for (place, t) in answer[1..9].iter_mut().zip(placement.separations) {
@@ -415,9 +419,13 @@ fn write_table(text: &[u8], out: &mut [u8]) -> Result<usize, Refusal> {
     Ok(at)
 }
 
-/// Writes the table and zeros behind it, or only zeros; the table's length.
-pub fn table(text: &[u8], out: &mut [u8]) -> Result<usize, Refusal> {
-    let written = write_table(text, out);
+/// Zeros behind what is written, or in the whole output.
+pub fn finish(written: Result<usize, Refusal>, out: &mut [u8]) -> Result<usize, Refusal> {
     out[written.unwrap_or(0)..].fill(0);
     written
+}
+
+/// Writes the table and zeros behind it, or only zeros; the table's length.
+pub fn table(text: &[u8], out: &mut [u8]) -> Result<usize, Refusal> {
+    finish(write_table(text, out), out)
 }
