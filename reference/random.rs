@@ -41,6 +41,11 @@ impl Random {
             }
             _ => (0, length),
         };
+        self.rising(m, from, upto)
+    }
+
+    /// m rising terminals from one column to another, or as many as there are.
+    pub fn rising(&mut self, m: usize, from: i64, upto: i64) -> Vec<i64> {
         let mut left: Vec<i64> = (from..=upto).collect();
         while left.len() > m {
             left.remove(self.below(left.len()));

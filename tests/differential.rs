@@ -5,8 +5,15 @@
 mod channel;
 mod damage;
 mod library;
-#[path = "../bench/solver.rs"]
-mod plain;
+#[path = "../reference/page.rs"]
+mod page;
+#[path = "../bench"]
+mod plain {
+    pub mod page;
+    pub mod solver;
+    pub use page::page;
+    pub use solver::{answer, table};
+}
 #[path = "../reference/random.rs"]
 mod random;
 #[path = "../reference/reader.rs"]
@@ -20,10 +27,11 @@ use random::Random;
 use reader::{Refusal, Stack};
 use std::collections::BTreeMap;
 
-const USAGE: &str = "usage: tests/differential [SEED [SMALL MIDDLE DAMAGED LIMITS]]    (a seed, and how many stacks or texts of each kind)";
+const USAGE: &str =
+    "usage: tests/differential [SEED [SMALL MIDDLE DAMAGED LIMITS PAGES]]    (a seed, and how many stacks or texts of each kind)";
 
-/// Small stacks, middle ones, damaged texts and stacks at the limits, unless told otherwise.
-const COUNTS: [u64; 4] = [4000, 1500, 50000, 50];
+/// Small stacks, middle ones, damaged texts, stacks at the limits and stacks for pages, unless told otherwise.
+const COUNTS: [u64; 5] = [4000, 1500, 50000, 50, 2000];
 
 /// What was due and what was found, in words.
 type Checked = Result<(), String>;
@@ -59,6 +67,65 @@ fn padded(answer: &solver::Answer) -> [u32; 18] {
     all
 }
 
+/// The answer that these numbers give.
+fn unpadded(stack: &Stack, all: &[u32; 18]) -> solver::Answer {
+    let k = stack.channels.len();
+    let separations = all[1..=k].iter().map(|t| *t as usize).collect();
+    let positions = all[9..=9 + k].iter().map(|x| *x as i64).collect();
+    solver::Answer { total: all[0] as usize, separations, positions }
+}
+
+/// One call of a writer with a space of 255s between guards.
+fn check_written(what: &str, space: usize, due: &Result<Vec<u8>, Refusal>, write: impl FnOnce(&mut [u8]) -> u64) -> Checked {
+    let mut output = vec![255; space + 32];
+    let told = write(&mut output[16..16 + space]);
+    let (code, written): (u64, &[u8]) = match due {
+        Ok(text) if text.len() <= space => (text.len() as u64, text),
+        Ok(_) => (code((8, 0, 0)), &[]),
+        Err(r) => (code(*r), &[]),
+    };
+    same_code(&format!("{} in a space of {}", what, space), told, code)?;
+    let (inside, guards) = (&output[16..16 + space], [&output[..16], &output[16 + space..]].concat());
+    if guards.iter().any(|b| *b != 255) {
+        return Err(format!("{} in a space of {}: bytes beside the space are changed", what, space));
+    }
+    if !inside.starts_with(written) {
+        let found = String::from_utf8_lossy(&inside[..written.len()]);
+        return Err(format!("{} in a space of {}: found\n{}\ndue\n{}", what, space, found, String::from_utf8_lossy(written)));
+    }
+    if inside[written.len()..].iter().any(|b| *b != 0) {
+        return Err(format!("{} in a space of {}: no zeros behind the first {} bytes", what, space, written.len()));
+    }
+    Ok(())
+}
+
+/// What is counted of a page that is refused: the number, and what it comes before.
+fn refused_page(stack: &Stack, spread: u32, number: u32) -> &'static str {
+    let (narrow, broad) = ((spread as i64) < solver::longest(stack), spread > 63);
+    match (number, narrow, broad) {
+        (3, true, true) => "pages, refused 3 before 7 and 9",
+        (3, true, _) => "pages, refused 3 before 7",
+        (3, _, true) => "pages, refused 3 before 9",
+        (3, ..) => "pages, refused 3",
+        (7, _, true) => "pages, refused 7 before 9",
+        (7, ..) => "pages, refused 7",
+        _ => "pages, refused 9",
+    }
+}
+
+/// What is counted of a page that is drawn: the sides to which paths go.
+fn drawn_page(stack: &Stack, answer: &solver::Answer, channel: usize) -> &'static str {
+    let offset = answer.positions[channel] - answer.positions[channel - 1];
+    let pairs = &stack.channels[channel - 1];
+    match (pairs.iter().any(|p| p.1 + offset > p.0), pairs.iter().any(|p| p.1 + offset < p.0)) {
+        (true, true) => "pages, paths to both sides",
+        (true, _) => "pages, paths to the right",
+        (_, true) => "pages, paths to the left",
+        _ if pairs.is_empty() => "pages, no paths",
+        _ => "pages, straight paths",
+    }
+}
+
 /// The trial's verdict on eight separations and nine positions.
 fn judged(stack: &Stack, spread: u32, placement: &[u32; 17]) -> bool {
     let k = stack.channels.len();
@@ -78,29 +145,9 @@ impl Run {
         *self.counts.entry(what).or_insert(0) += 1;
     }
 
-    /// One call of the table writer with a space of 255s between guards.
     fn table_in(&mut self, text: &[u8], space: usize, due: &Result<Vec<u8>, Refusal>) -> Checked {
         self.count("tables");
-        let mut output = vec![255; space + 32];
-        let told = library::write_table(text, &mut output[16..16 + space]);
-        let (code, written): (u64, &[u8]) = match due {
-            Ok(table) if table.len() <= space => (table.len() as u64, table),
-            Ok(_) => (code((8, 0, 0)), &[]),
-            Err(r) => (code(*r), &[]),
-        };
-        same_code(&format!("table in a space of {}", space), told, code)?;
-        let (inside, guards) = (&output[16..16 + space], [&output[..16], &output[16 + space..]].concat());
-        if guards.iter().any(|b| *b != 255) {
-            return Err(format!("table in a space of {}: bytes beside the space are changed", space));
-        }
-        if !inside.starts_with(written) {
-            let found = String::from_utf8_lossy(&inside[..written.len()]);
-            return Err(format!("table in a space of {}: found\n{}\ndue\n{}", space, found, String::from_utf8_lossy(written)));
-        }
-        if inside[written.len()..].iter().any(|b| *b != 0) {
-            return Err(format!("table in a space of {}: no zeros behind the first {} bytes", space, written.len()));
-        }
-        Ok(())
+        check_written("table", space, due, |output| library::write_table(text, output))
     }
 
     /// The table in a longer space, its own length, one less, some less and none.
@@ -115,6 +162,54 @@ impl Run {
             (Ok(length), Ok(table)) if output[..length] == table[..] && output[length..].iter().all(|b| *b == 0) => Ok(()),
             (Err(found), Err(r)) if found == *r && output.iter().all(|b| *b == 0) => Ok(()),
             (found, _) => Err(format!("the plain program's table: {:?}", found)),
+        }
+    }
+
+    /// The page of both programs in one space.
+    fn page_in(&mut self, text: &[u8], spread: u32, channel: u32, space: usize, due: &Result<Vec<u8>, Refusal>) -> Checked {
+        self.count("calls for a page");
+        if due.as_ref().is_ok_and(|page| page.len() > space) {
+            self.count("pages, short space");
+        }
+        let what = format!("page {} at spread {}", channel, spread);
+        check_written(&what, space, due, |output| library::write_page(text, spread, channel, output))?;
+        check_written(&format!("the plain program's {}", what), space, due, |output| {
+            plain::page(text, spread, channel, output).map_or_else(code, |length| length as u64)
+        })
+    }
+
+    /// A page of a stack, drawn from an answer that may be left out if the spread is refused, in spaces around its length.
+    fn page(&mut self, stack: &Stack, text: &[u8], spread: u32, channel: u32, answer: Option<&solver::Answer>) -> Checked {
+        let due = match page::refusal(stack, spread as i64, channel as i64) {
+            Some(r) => {
+                self.count(refused_page(stack, spread, r.0));
+                Err(r)
+            }
+            None => {
+                let answer = answer.ok_or("no answer to draw a page from")?;
+                self.count("pages");
+                self.count(drawn_page(stack, answer, channel as usize));
+                if answer.separations[channel as usize - 1] >= 10 {
+                    self.count("pages, numbers of two digits");
+                }
+                let drawn = std::panic::catch_unwind(|| page::page(stack, answer, spread as i64, channel as usize));
+                Ok(drawn.map_err(|_| format!("page {} at spread {} breaks a rule", channel, spread))?.into_bytes())
+            }
+        };
+        let length = due.as_ref().map_or(69, |page| page.len());
+        let (more, some) = (2 + self.random.below(200), self.random.below(length));
+        for space in [0, 1, some, length - 1, length, length + 1, length + more] {
+            self.page_in(text, spread, channel, space, &due)?;
+        }
+        Ok(())
+    }
+
+    /// One of the stack's channels, or now and then a number that is none.
+    fn channel(&mut self, stack: &Stack) -> u32 {
+        let k = stack.channels.len() as u32;
+        match self.random.below(10) {
+            0 => [0, 0, k + 1, k + 1, k + 256, k + (1 << 16), 1 << 31, u32::MAX][self.random.below(8)],
+            _ => 1 + self.random.below(k as usize) as u32,
         }
     }
 
@@ -214,10 +309,10 @@ impl Run {
         Ok(())
     }
 
-    /// Spreads below the longest strip, at it, around every row and past the last.
+    /// Spreads below the longest strip, at it, around every row and past the last, and around the last that a page shows.
     fn spreads(&mut self, stack: &Stack, rows: &[u32]) -> Vec<u32> {
         let (longest, widest) = (solver::longest(stack) as u32, solver::widest(stack) as u32);
-        let mut all = vec![0, longest - 1, longest, longest + 1, longest + 2, widest, widest + 1];
+        let mut all = vec![0, longest - 1, longest, longest + 1, longest + 2, widest, widest + 1, 63, 64];
         for row in rows {
             all.extend([row - 1, *row, row + 1]);
         }
@@ -240,14 +335,18 @@ impl Run {
         self.table(text, &Ok(solver::table_text(stack, &rows).into_bytes()))?;
         let row_spreads: Vec<u32> = rows.iter().map(|r| r.0 as u32).collect();
         for spread in self.spreads(stack, &row_spreads) {
+            let channel = self.channel(stack);
             if (spread as i64) < solver::longest(stack) {
                 self.answer(text, spread, Err((7, 0, 0)))?;
+                self.page(stack, text, spread, channel, None)?;
                 self.placements(stack, text, spread, 1)?;
                 continue;
             }
             let tried = brute && spread as i64 <= solver::widest(stack) + 3;
-            let due = padded(&solver::answer(stack, spread as i64, tried));
+            let answer = solver::answer(stack, spread as i64, tried);
+            let due = padded(&answer);
             self.answer(text, spread, Ok(due))?;
+            self.page(stack, text, spread, channel, Some(&answer))?;
             self.placements(stack, text, spread, 3)?;
             if row_spreads.contains(&spread) || self.random.chance(4) {
                 self.neighbours(stack, text, spread, &due)?;
@@ -272,12 +371,38 @@ impl Run {
         for spread in self.spreads(stack, &some) {
             let due = plain::answer(text, spread);
             self.answer(text, spread, due)?;
+            let answer = due.ok().map(|due| unpadded(stack, &due));
+            for channel in [self.channel(stack), 0, 9] {
+                self.page(stack, text, spread, channel, answer.as_ref())?;
+            }
             if let Ok(due) = due {
                 self.neighbours(stack, text, spread, &due)?;
             }
         }
         let spread = solver::widest(stack) + self.random.between(0, 9);
         self.answer(text, spread as u32, Ok(padded(&solver::answer(stack, spread, false))))
+    }
+
+    /// Every page of a stack at the longest strip, at the last spread that is shown and between, by the plain program's answers; other
+    /// channels and spreads too.
+    fn stack_for_pages(&mut self, stack: &Stack, text: &[u8]) -> Checked {
+        let (k, longest) = (stack.channels.len() as u32, solver::longest(stack));
+        for spread in [longest, self.random.between(longest, 63), self.random.between(longest, 63), 63] {
+            let due = plain::answer(text, spread as u32);
+            self.answer(text, spread as u32, due)?;
+            let answer = due.map(|due| unpadded(stack, &due)).map_err(|r| format!("the plain program refuses: {:?}", r))?;
+            for channel in 1..=k {
+                self.page(stack, text, spread as u32, channel, Some(&answer))?;
+            }
+            for channel in [0, k + 1] {
+                self.page(stack, text, spread as u32, channel, Some(&answer))?;
+            }
+        }
+        for spread in [longest as u32 - 1, 64, u32::MAX] {
+            let channel = self.channel(stack);
+            self.page(stack, text, spread, channel, None)?;
+        }
+        Ok(())
     }
 
     /// A damaged text: refused as the reference refuses it, or answered as the plain program does.
@@ -292,7 +417,10 @@ impl Run {
                 table.truncate(length);
                 self.table_in(text, length + 9, &Ok(table.clone()))?;
                 self.table_in(text, length - 1, &Ok(table))?;
-                self.answer(text, spread, plain::answer(text, spread))?;
+                let due = plain::answer(text, spread);
+                self.answer(text, spread, due)?;
+                let channel = self.channel(stack);
+                self.page(stack, text, spread, channel, due.ok().map(|due| unpadded(stack, &due)).as_ref())?;
                 self.placements(stack, text, spread, 1)
             }
             Err(r) => {
@@ -307,6 +435,9 @@ impl Run {
                 });
                 self.table(text, &Err(*r))?;
                 self.answer(text, spread, Err(*r))?;
+                self.count("pages, text refused");
+                let (channel, space) = ([0, 1, 2, 9, u32::MAX][self.random.below(5)], self.random.below(150));
+                self.page_in(text, spread, channel, space, &Err(*r))?;
                 let placement = [self.random.below(3) as u32; 17];
                 self.trial(text, spread, &placement, Err(*r))
             }
@@ -347,11 +478,7 @@ impl Run {
         let edge = |random: &mut Random, length: i64, left: bool| {
             let reach = if style == 1 { length } else { (31 + random.between(0, 99)).min(length) };
             let from = if left { 0 } else { length - reach };
-            let mut all: Vec<i64> = (from..=from + reach).collect();
-            while all.len() > 32 {
-                all.remove(random.below(all.len()));
-            }
-            all
+            random.rising(32, from, from + reach)
         };
         let mut channels = Vec::new();
         for i in 0..8 {
@@ -361,6 +488,37 @@ impl Run {
             channels.push(p.into_iter().zip(q).collect());
         }
         Stack { lengths, channels }
+    }
+
+    /// Up to eight channels of up to 32 pairs between strips that a page can show, most of them near the greatest length.
+    fn for_pages(&mut self) -> Stack {
+        let k = 1 + self.random.below(8);
+        let longest = [63, 63, self.random.between(1, 63)][self.random.below(3)];
+        let least = [1, longest, longest - longest / 4][self.random.below(3)].max(1);
+        let lengths: Vec<i64> = (0..=k).map(|_| self.random.between(least, longest)).collect();
+        let channels = lengths.windows(2).map(|l| self.channel_for_pages(l[0], l[1])).collect();
+        Stack { lengths, channels }
+    }
+
+    /// A channel whose paths go far right, far left, apart, together, anywhere, or rise at nearly each column.
+    fn channel_for_pages(&mut self, lower: i64, upper: i64) -> Vec<channel::Pair> {
+        let most = 32.min(lower + 1).min(upper + 1);
+        let m = if self.random.chance(2) { most } else { self.random.between(0, most) };
+        // So many terminals in the least part that holds them or a longer one: at the left end, in the middle, at the right end, or anywhere.
+        let edge = |random: &mut Random, length: i64, part: usize| {
+            let reach = random.between((m - 1).max(0), (m + m / 4).min(length).max((m - 1).max(0)));
+            let (from, upto) = match part {
+                0 => (0, reach),
+                1 => ((length - reach) / 2, (length - reach) / 2 + reach),
+                2 => (length - reach, length),
+                _ => (0, length),
+            };
+            random.rising(m as usize, from, upto)
+        };
+        let (p, q) = [(0, 2), (2, 0), (1, 3), (3, 1), (3, 3), (3, 2), (3, 0)][self.random.below(7)];
+        let p = edge(&mut self.random, lower, p);
+        let q = edge(&mut self.random, upper, q);
+        p.into_iter().zip(q).collect()
     }
 }
 
@@ -420,6 +578,16 @@ fn check_specimens(run: &mut Run) {
     }
 }
 
+fn check_page_specimens(run: &mut Run) {
+    for (name, text, spread, channel, due) in specimens::PAGES {
+        let text = specimens::tabbed(text).into_bytes();
+        let due = due.map(|lines| specimens::page(lines).into_bytes());
+        run.count("specimens");
+        let checked = run.page_in(&text, spread, channel, 300, &due);
+        expect(name, &text, checked);
+    }
+}
+
 /// So many random stacks of a kind, each compared; their texts are kept.
 fn compare_stacks(
     run: &mut Run,
@@ -445,7 +613,7 @@ fn main() {
     let (seed, counts) = match given.as_deref() {
         Some([]) => (1, COUNTS),
         Some([seed]) => (*seed, COUNTS),
-        Some([seed, a, b, c, d]) => (*seed, [*a, *b, *c, *d]),
+        Some([seed, a, b, c, d, e]) => (*seed, [*a, *b, *c, *d, *e]),
         _ => {
             eprintln!("{}", USAGE);
             std::process::exit(2);
@@ -453,10 +621,12 @@ fn main() {
     };
     let mut run = Run { random: Random(seed), counts: BTreeMap::new() };
     check_specimens(&mut run);
+    check_page_specimens(&mut run);
     let mut bases = Vec::new();
     compare_stacks(&mut run, counts[0], ["small stack", "small stacks"], Run::small, Run::stack, &mut bases);
     compare_stacks(&mut run, counts[1], ["middle stack", "middle stacks"], Run::middle, Run::stack, &mut bases);
     compare_stacks(&mut run, counts[3], ["stack at the limits", "stacks at the limits"], Run::large, Run::large_stack, &mut bases);
+    compare_stacks(&mut run, counts[4], ["stack for pages", "stacks for pages"], Run::for_pages, Run::stack_for_pages, &mut bases);
     if bases.is_empty() {
         bases.push(specimens::tabbed(specimens::TABLES[1].1).into_bytes());
     }

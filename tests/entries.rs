@@ -41,7 +41,11 @@ fn table_in(text: &[u8], space: usize) -> (u64, Vec<u8>) {
 fn check_table(name: &str, text: &[u8], table: &str) {
     let length = table.len();
     for space in [0, 1, length - 1, length, length + 1, length + 100, 21082] {
-        let due = if space < length { (code((8, 0, 0)), vec![0; space]) } else { (length as u64, [table.as_bytes(), &vec![0; space - length]].concat()) };
+        let due = if space < length {
+            (code((8, 0, 0)), vec![0; space])
+        } else {
+            (length as u64, [table.as_bytes(), &vec![0; space - length]].concat())
+        };
         same(&format!("{}, table in {} bytes", name, space), text, table_in(text, space), due);
     }
 }
@@ -53,19 +57,17 @@ fn page_in(text: &[u8], spread: u32, channel: u32, space: usize) -> (u64, Vec<u8
     (told, output)
 }
 
-/// A page whose lines show dots from their last column on, with zeros behind it in every longer space, and short space with zeros in every shorter one.
-fn check_page(name: &str, text: &str, spread: u32, channel: u32, lines: &[&str]) {
-    let page: String = lines.iter().map(|l| format!("{:.<68}\n", l)).collect();
-    let length = page.len();
+/// A page with zeros behind it in every longer space, and short space with zeros in every shorter one; or its refusal in every space.
+fn check_page(name: &str, text: &str, spread: u32, channel: u32, due: Result<String, Refusal>) {
+    let length = due.as_ref().map_or(69, |page| page.len());
     for space in [0, 1, length - 1, length, length + 1, 2277, 3000] {
-        let due = if space < length { (code((8, 0, 0)), vec![0; space]) } else { (length as u64, [page.as_bytes(), &vec![0; space - length]].concat()) };
-        same(&format!("{}, page {} at {} in {} bytes", name, channel, spread, space), text.as_bytes(), page_in(text.as_bytes(), spread, channel, space), due);
-    }
-}
-
-fn check_page_refused(name: &str, text: &str, spread: u32, channel: u32, number: u32) {
-    for space in [0, 1, 3000] {
-        same(&format!("{}, page {} at {}", name, channel, spread), text.as_bytes(), page_in(text.as_bytes(), spread, channel, space), (code((number, 0, 0)), vec![0; space]));
+        let due = match &due {
+            Err(r) => (code(*r), vec![0; space]),
+            Ok(_) if space < length => (code((8, 0, 0)), vec![0; space]),
+            Ok(page) => (length as u64, [page.as_bytes(), &vec![0; space - length]].concat()),
+        };
+        let what = format!("{}, page {} at {} in {} bytes", name, channel, spread, space);
+        same(&what, text.as_bytes(), page_in(text.as_bytes(), spread, channel, space), due);
     }
 }
 
@@ -80,7 +82,10 @@ fn check_refused(name: &str, text: &[u8], due: Refusal) {
         let told = library::answer_spread(text, spread, &mut answer);
         same(&format!("{}, spread {}", name, spread), text, (told, answer), (code(due), [0; 18]));
         same(&format!("{}, trial at {}", name, spread), text, library::try_placement(text, spread, &[0; 17]), code(due));
-        same(&format!("{}, page at {}", name, spread), text, page_in(text, spread, 0, 70), (code(due), vec![0; 70]));
+        for channel in [0, 1, 9] {
+            let what = format!("{}, page {} at {}", name, channel, spread);
+            same(&what, text, page_in(text, spread, channel, 70), (code(due), vec![0; 70]));
+        }
     }
 }
 
@@ -242,7 +247,8 @@ fn check_reused_space() {
 }
 
 fn check_answers() {
-    let (b, c, d) = (specimens::tabbed(specimens::TABLES[1].1), specimens::tabbed(specimens::TABLES[2].1), specimens::tabbed(specimens::TABLES[3].1));
+    let (b, c, d) =
+        (specimens::tabbed(specimens::TABLES[1].1), specimens::tabbed(specimens::TABLES[2].1), specimens::tabbed(specimens::TABLES[3].1));
     for spread in 0..4 {
         check_narrow("A", A, spread);
         check_narrow("B", &b, spread);
@@ -319,32 +325,57 @@ fn check_spaces() {
     same("narrow before short space", A.as_bytes(), output, [0; 3]);
 }
 
-/// Pages that go right, left and straight up, of one point, of the last column and without pairs; and their refusals in order.
+/// m pairs whose paths each go m columns right, or left, between strips just long enough: each has a run on a track of its own, so m tracks are
+/// needed at the strips' length. The text, and the lines of the page.
+fn bundle(m: usize, right: bool) -> (String, Vec<String>) {
+    let nets: String = (0..m).map(|j| if right { format!("\t{}\t{}", j, m + j) } else { format!("\t{}\t{}", m + j, j) }).collect();
+    let text = format!("STACK\t1\nPART\t{0}\nPART\t{0}\nNETS{1}\n", 2 * m - 1, nets);
+    let run = "-".repeat(m - 1);
+    let mut lines = vec![format!("{:>3} {}{}", m, if right { ".".repeat(m) } else { String::new() }, "o".repeat(m))];
+    for track in (1..m).rev() {
+        // Of the other paths some go up before the run, some behind it.
+        let (before, behind) = if right { (m - 1 - track, track) } else { (track, m - 1 - track) };
+        lines.push(format!("{:>3} {}+{}+{}", track, "|".repeat(before), run, "|".repeat(behind)));
+    }
+    lines.push(if right { format!("  0 {}{}+", "o".repeat(m), run) } else { format!("  0 +{}{}", run, "o".repeat(m)) });
+    (text, lines)
+}
+
+/// The pages of the specimens; then pages of the last column, without pairs, of two digits and of 33 lines.
 fn check_pages() {
-    check_page("A", A, 4, 1, &["  2 ..o.o", "  1 .++.|", "  0 o+o-+"]);
-    check_page("A", A, 5, 1, &["  1 ..o.o", "  0 .o+o+"]);
-    check_page("A", A, 6, 1, &["  0 ..o.o"]);
-    let left = "STACK\t1\nPART\t4\nPART\t4\nNETS\t0\t0\t3\t1\t4\t2\n";
-    check_page("left", left, 4, 1, &["  2 ooo", "  1 ||+-+", "  0 o+-oo"]);
+    for (name, text, spread, channel, due) in specimens::PAGES {
+        check_page(name, &specimens::tabbed(text), spread, channel, due.map(specimens::page));
+    }
     let wide = "STACK\t1\nPART\t63\nPART\t63\nNETS\t0\t63\n";
-    check_page("wide", wide, 63, 1, &[&format!("  1 {}o", ".".repeat(63)), &format!("  0 o{}+", "-".repeat(62))]);
-    let empty = bare(2, 3);
-    check_page("without pairs", &empty, 3, 2, &["  0 "]);
+    let lines = [&format!("  1 {}o", ".".repeat(63))[..], &format!("  0 o{}+", "-".repeat(62))];
+    check_page("wide", wide, 63, 1, Ok(specimens::page(&lines)));
+    let last = "STACK\t1\nPART\t63\nPART\t63\nNETS\t63\t63\n";
+    check_page("last column", last, 63, 1, Ok(specimens::page(&[&format!("  0 {}o", ".".repeat(63))])));
+    check_page("second of two without pairs", &bare(2, 3), 3, 2, Ok(specimens::page(&["  0 "])));
+    check_page("eighth of eight without pairs", &bare(8, 1), 63, 8, Ok(specimens::page(&["  0 "])));
+    for (m, right) in [(9, true), (10, true), (10, false), (11, false), (32, true), (32, false)] {
+        let (text, lines) = bundle(m, right);
+        let lines: Vec<&str> = lines.iter().map(|l| &l[..]).collect();
+        check_page("bundle", &text, 2 * m as u32 - 1, 1, Ok(specimens::page(&lines)));
+    }
+}
+
+/// The refusals of a page in order, besides those of the specimens.
+fn check_page_refusals() {
     let long = "STACK\t1\nPART\t100\nPART\t4\nNETS\n";
     for (name, text, spread, channel, number) in [
-        ("A", A, 4, 0, 3),
-        ("A", A, 4, 2, 3),
         ("A", A, 4, u32::MAX, 3),
-        ("channel before narrow", A, 3, 2, 3),
-        ("channel before broad", A, 64, 0, 3),
-        ("A", A, 3, 1, 7),
-        ("A", A, 64, 1, 9),
+        ("no such channel before narrow", A, 3, 2, 3),
+        ("no such channel before broad", A, u32::MAX, 0, 3),
+        ("no such channel before narrow and broad", long, 80, 2, 3),
+        ("A", A, 0, 1, 7),
         ("A", A, u32::MAX, 1, 9),
         ("narrow before broad", long, 80, 1, 7),
         ("broad", long, 100, 1, 9),
-        ("without pairs", &empty, 3, 3, 3),
+        ("two without pairs", &bare(2, 3), 3, 3, 3),
+        ("eight without pairs", &bare(8, 1), 1, 9, 3),
     ] {
-        check_page_refused(name, text, spread, channel, number);
+        check_page(name, text, spread, channel, Err((number, 0, 0)));
     }
 }
 
@@ -364,5 +395,10 @@ fn main() {
     check_trials();
     check_spaces();
     check_pages();
-    println!("entries: {} refused texts, {} tables, answers, trials and pages of the specimens: no difference", refused.len(), accepted.len());
+    check_page_refusals();
+    println!(
+        "entries: {} refused texts, {} tables, answers, trials and pages of the specimens: no difference",
+        refused.len(),
+        accepted.len()
+    );
 }
