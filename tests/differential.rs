@@ -494,7 +494,7 @@ impl Run {
     fn for_pages(&mut self) -> Stack {
         let k = 1 + self.random.below(8);
         let longest = [63, 63, self.random.between(1, 63)][self.random.below(3)];
-        let least = [1, longest, longest - longest / 4][self.random.below(3)].max(1);
+        let least = [1, longest, longest - longest / 4][self.random.below(3)];
         let lengths: Vec<i64> = (0..=k).map(|_| self.random.between(least, longest)).collect();
         let channels = lengths.windows(2).map(|l| self.channel_for_pages(l[0], l[1])).collect();
         Stack { lengths, channels }
@@ -506,7 +506,7 @@ impl Run {
         let m = if self.random.chance(2) { most } else { self.random.between(0, most) };
         // So many terminals in the least part that holds them or a longer one: at the left end, in the middle, at the right end, or anywhere.
         let edge = |random: &mut Random, length: i64, part: usize| {
-            let reach = random.between((m - 1).max(0), (m + m / 4).min(length).max((m - 1).max(0)));
+            let reach = random.between((m - 1).max(0), (m + m / 4).min(length));
             let (from, upto) = match part {
                 0 => (0, reach),
                 1 => ((length - reach) / 2, (length - reach) / 2 + reach),
