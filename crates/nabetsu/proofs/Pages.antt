@@ -144,7 +144,7 @@ module _ (k : Stack-struct) (s n : ℕ) (w : within-limits (stack-of k) ≡ true
     upper-is = position-is (n - 1 + 1) (omega (arith, channel-below)) ∙ ap (λ (i : ℕ). getD xs i 0) (add-one (n - 1))
 
     pub channel-asks : Channel-placed 63 (channel-of (getD (k .channels) (n - 1) no-terminals)) (getD (r .separations) (n - 1) (tracks 0) .0) (getD (r .positions) (n - 1) (columns 0) .0)
-        (getD (r .positions) (n - 1 + 1) (columns 0) .0) × (getD (r .separations) (n - 1) (tracks 0) .0 < 1000)
+        (getD (r .positions) (n - 1 + 1) (columns 0) .0) × (getD (r .separations) (n - 1) (tracks 0) .0 ≤ 64)
     channel-asks =
         let few = separations-small (stack-of k) w s ts xs there (n - 1) (omega (arith, channel-below, long .0)) in
         let placed = channel-placed (stack-of k) s ts xs (n - 1) w (there .is-legal) (omega (arith, channel-below, stack-channels k)) in

@@ -6,6 +6,7 @@ use mathlib.Core.List.{List, [], _∷_}
 use mathlib.Core.Logic.{_⊎_, inl, inr, ⊎-elim}
 use Prim.Native.Nat.{ℕ, zero, suc, _-_, _≤_, _<_, min, max}
 use native.Mathlib.Omega.{arith}
+use native.Mathlib.Nat.{zero-add}
 use borrow.Author.Tests.{leb-true, ltb-true, eqb-true, le-leb, lt-ltb, le-ltb, eq-eqb}
 use lib.Dec.{ltb, leb, eqb}
 use lib.IntN.{pos, negsuc}
@@ -20,7 +21,7 @@ use Rattle.routing.proofs.Points.{path-at, pos-injective}
 use Rattle.routing.proofs.Sufficiency.{wiring-clear}
 use Rattle.routing.proofs.Runs.{leads-on, wiring-at}
 use Rattle.page.specs.Page.{on-some, steps-between, joined, before, arm-left, arm-right, arm-up, arm-down, arms-character, character}
-use Rattle.page.specs.Arrivals.{Ends-are, arrival, drawn, painted}
+use Rattle.page.specs.Arrivals.{Ends-are, arrival, drawn, painted, track-painted}
 use Rattle.page.proofs.Arms.{joined-arm, arm-on, same-path}
 use Rattle.page.proofs.Arriving.{Arriving}
 use Rattle.page.proofs.Arrivals.{path-arriving}
@@ -199,26 +200,32 @@ module _ (c : List Pair) (t a b m : ℕ) (from upto : List ℕ) (ends : Ends-are
       go true e = shown ws (wiring-clear c t a b r f) t g j (arriving j h) x y e
       go false e = refl
 
-  painted-none : (n : ℕ) → n ≤ m → on-some z ws ≡ false → painted from upto m t y n x ≡ 46
-  unfolding painted
+  -- the column once the first n paths are drawn
+  begun : ℕ → ℕ
+  begun n = painted (λ j. arrival from upto m j y) (λ j. arrival from upto m j (suc y)) (ltb y t) (ltb 0 y) 0 n x 46
+
+  one-more : (n : ℕ) → n < m → begun (suc n) ≡ cond (on-path z (path-at ws n)) (character x y ws) (begun n)
+  unfolding begun painted
+  one-more n h = rw zero-add (drawn-is n h (painted (λ j. arrival from upto m j y) (λ j. arrival from upto m j (suc y)) (ltb y t) (ltb 0 y) 0 n x 46))
+
+  painted-none : (n : ℕ) → n ≤ m → on-some z ws ≡ false → begun n ≡ 46
+  unfolding begun painted
   painted-none zero h e = refl
   painted-none (suc n) h e =
-      drawn-is n h (painted from upto m t y n x)
-      ∙ rw (not-true-false (on-path z (path-at ws n)) (λ o. impossible (sym e ∙ on-some-at z ws n o))) (painted-none n (omega arith) e)
+      one-more n h ∙ rw (not-true-false (on-path z (path-at ws n)) (λ o. impossible (sym e ∙ on-some-at z ws n o))) (painted-none n (omega arith) e)
 
-  painted-one : (j : ℕ) → on-path z (path-at ws j) ≡ true → (n : ℕ) → n ≤ m → j < n → painted from upto m t y n x ≡ character x y ws
-  unfolding painted
+  painted-one : (j : ℕ) → on-path z (path-at ws j) ≡ true → (n : ℕ) → n ≤ m → j < n → begun n ≡ character x y ws
   painted-one j o zero h k = absurd (omega arith)
-  painted-one j o (suc n) h k = drawn-is n h (painted from upto m t y n x) ∙ go (on-path z (path-at ws n)) refl (λ d. painted-one j o n (omega arith) d)
+  painted-one j o (suc n) h k = one-more n h ∙ go (on-path z (path-at ws n)) refl (λ d. painted-one j o n (omega arith) d)
     where
-      go : (v : Bool) → on-path z (path-at ws n) ≡ v → (j < n → painted from upto m t y n x ≡ character x y ws) → cond v (character x y ws) (painted from upto m t y n x) ≡ character x y ws
+      go : (v : Bool) → on-path z (path-at ws n) ≡ v → (j < n → begun n ≡ character x y ws) → cond v (character x y ws) (begun n) ≡ character x y ws
       go true e next = refl
       go false e next = next (⊎-elim (λ d. absurd (impossible (sym e ∙ rw d at o))) (λ d. omega arith) (eq-or-not j n))
 
-  pub painted-right : painted from upto m t y m x ≡ character x y (wiring c t a b)
-  unfolding ws z character
+  pub painted-right : track-painted from upto m t y x ≡ character x y (wiring c t a b)
+  unfolding ws z character begun track-painted
   painted-right = go (on-some z ws) refl
     where
-      go : (v : Bool) → on-some z ws ≡ v → painted from upto m t y m x ≡ character x y ws
+      go : (v : Bool) → on-some z ws ≡ v → begun m ≡ character x y ws
       go true e = let u = on-one z ws e in painted-one (u .at) (u .on) m (omega arith) (omega (arith, u .within, ends .count, wiring-length c t a b))
       go false e = painted-none m (omega arith) e ∙ rw e

@@ -40,7 +40,11 @@ unfoldable pub drawn : (s e : ℕ) → (up down : Bool) → (c old : ℕ) → �
 drawn s e u d c old =
     cond (leb (min s e) c && leb c (max s e)) (arms-character (ltb (min s e) c) (ltb c (max s e)) (eqb c e && u) (eqb c s && d)) old
 
--- a track with its first n paths drawn
-unfoldable pub painted : (from upto : List ℕ) → (m t y n c : ℕ) → ℕ
-painted from upto m t y zero c = 46
-painted from upto m t y (suc n) c = drawn (arrival from upto m n y) (arrival from upto m n (suc y)) (ltb y t) (ltb 0 y) c (painted from upto m t y n c)
+-- what column c shows once the n paths from a on are drawn, each of which is on the track from its column in s to its column in e
+unfoldable pub painted : (s e : ℕ → ℕ) → (up down : Bool) → (a n : ℕ) → (c old : ℕ) → ℕ
+painted s e u d a zero c old = old
+painted s e u d a (suc n) c old = drawn (s (a + n)) (e (a + n)) u d c (painted s e u d a n c old)
+
+-- track y of a channel with separation t, all paths drawn over dots
+unfoldable pub track-painted : (from upto : List ℕ) → (m t y c : ℕ) → ℕ
+track-painted from upto m t y c = painted (λ j. arrival from upto m j y) (λ j. arrival from upto m j (suc y)) (ltb y t) (ltb 0 y) 0 m c 46

@@ -11,7 +11,7 @@ use lib.Dec.{ltb}
 use lib.ListN.{length, getD, set, take, drop, replicate, length-append, length-take, length-drop, length-set, drop-of-length-le}
 use lib.Seq.{take-all, drop-cons, set-at, take-at, length-take-le, append-snoc}
 use Rattle.numbers.specs.Lists.{tabulate}
-use Rattle.numbers.proofs.Lists.{length-tabulate, tabulate-same}
+use Rattle.numbers.proofs.Lists.{length-tabulate, getD-tabulate, tabulate-same}
 use Rattle.numbers.proofs.Orders.{le-or-lt}
 use Rattle.stack.specs.Stack.{Pair}
 use Rattle.routing.specs.Paths.{Point}
@@ -19,18 +19,27 @@ use Rattle.routing.specs.Wiring.{wiring}
 use Rattle.writing.specs.TableText.{digits-from, digits}
 use Rattle.writing.specs.Output.{over}
 use Rattle.page.specs.Page.{character, in-three, line-of, track-line, page-text}
-use Rattle.page.specs.Arrivals.{Channel-placed, Ends-are, painted}
-use Rattle.page.proofs.Painted.{painted-right}
-use Rattle.plot.specs.Drawing.{place, lines-below, Lines-put, Page-put}
+use Rattle.page.specs.Arrivals.{painted}
+use Rattle.plot.specs.Drawing.{place, Columns-shown, reached, track-drawn, Arrivals-shown, lines-below, Lines-put, Page-put}
+use Rattle.plot.proofs.Rows.{painted-same}
 
 -- A NUMBER IN THREE PLACES
-place-digit : (u n : ℕ) → u ≤ n → place u n ≡ 48 + n / u % 10
+pub place-digit : (u n : ℕ) → u ≤ n → place u n ≡ 48 + n / u % 10
 unfolding place
 place-digit u n l = rw (le-ltb n u l)
 
-place-space : (u n : ℕ) → n < u → 1 < u → place u n ≡ 32
+pub place-space : (u n : ℕ) → n < u → 1 < u → place u n ≡ 32
 unfolding place
 place-space u n l m = rw (lt-ltb n u l, lt-ltb 1 u m)
+
+-- the last place has a digit
+pub place-one : (u n : ℕ) → u ≤ 1 → place u n ≡ 48 + n / u % 10
+unfolding place
+place-one u n l = rw (le-ltb 1 u l) (go (ltb n u))
+  where
+    go : (b : Bool) → cond (b && false) 32 (48 + n / u % 10) ≡ 48 + n / u % 10
+    go true = refl
+    go false = refl
 
 place-last : (n : ℕ) → place 1 n ≡ 48 + n % 10
 unfolding place
@@ -78,11 +87,29 @@ line-put y f (x ∷ w ∷ z ∷ v ∷ os) row a b c l m p q r e =
     rw (line-long y f m, line-bytes y f m, p, q, r, e, drop-cons os 64 0 (omega arith), set-at (tabulate 64 0 f) (getD os 64 0) (drop 65 os) 10 64 (length-tabulate 64 0 f))
     (ap (λ (r : List ℕ). place 100 y ∷ place 10 y ∷ place 1 y ∷ 32 ∷ r) (sym (append-snoc (tabulate 64 0 f) 10 (drop 65 os))))
 
+line-same : (y : ℕ) (f g : ℕ → ℕ) → ((c : ℕ) → c < 64 → f c ≡ g c) → line-of y f ≡ line-of y g
+unfolding line-of
+line-same y f g h = rw (tabulate-same 64 0 f g (λ c l m. h c (omega arith)))
+
+-- a line drawn by the arrivals on its track and the next
+track-is : (ahead back upto starts ends : List ℕ) (m t n : ℕ) → m ≤ 32 → starts ≡ tabulate 32 0 (λ j. reached ahead back upto n j) → ends ≡ tabulate 32 0 (λ j. reached ahead back upto (suc n) j)
+    → line-of n (λ c. painted (λ j. getD starts j 0) (λ j. getD ends j 0) (ltb n t) (ltb 0 n) 0 m c 46) ≡ line-of n (λ c. track-drawn ahead back upto m t n c)
+unfolding track-drawn
+track-is ahead back upto starts ends m t n l d e =
+    line-same n _ _
+    (λ c k. painted-same (λ j. getD starts j 0) (λ j. getD ends j 0) (ltb n t) (ltb 0 n) (λ j. reached ahead back upto n j) (λ j. reached ahead back upto (suc n) j) 0 m c 46
+    (λ j i. (rw d (getD-tabulate 32 j (λ j. reached ahead back upto n j) 0 (omega arith)), rw e (getD-tabulate 32 j (λ j. reached ahead back upto (suc n) j) 0 (omega arith)))))
+
+-- the arrivals worked out are on the page
+pub rule-shown : (ahead back upto xs : List ℕ) (m y : ℕ) → Arrivals-shown ahead back upto m → m ≤ 32 → y ≤ 65 → xs ≡ tabulate 32 0 (λ j. reached ahead back upto y j) → Columns-shown m xs
+unfolding Arrivals-shown
+rule-shown ahead back upto xs m y s l h e j i = rw (e, getD-tabulate 32 j (λ j. reached ahead back upto y j) 0 (omega arith)) (s j y i h)
+
 -- THE LINES OF A PAGE
 pub lines-start : (f : ℕ → ℕ → ℕ) (t : ℕ) (o : List ℕ) → Lines-put f t 0 (t + 1) o o
 lines-start f t o = record { place = omega arith; same-length = refl; stands = rw add-one }
 
-pub lines-step : (f : ℕ → ℕ → ℕ) (t at y : ℕ) (before now part : List ℕ) → t < 1000 → 69 * suc t ≤ length before → Lines-put f t at y before now → 0 < y
+lines-step : (f : ℕ → ℕ → ℕ) (t at y : ℕ) (before now part : List ℕ) → t < 1000 → 69 * suc t ≤ length before → Lines-put f t at y before now → 0 < y
     → part ≡ over (line-of (y - 1) (f (y - 1))) (take (length now - at) (drop at now)) → Lines-put f t (at + 69) (y - 1) before (take at now ++ (part ++ drop (length now - at) (drop at now)))
 unfolding over lines-below
 lines-step f t at y before now part small fits p some e =
@@ -110,6 +137,17 @@ lines-step f t at y before now part small fits p some e =
       where
         unfolded : (n : ℕ) → take at now ++ lines-below f (suc n) ≡ lines-below f (suc t) → take at now ++ (line-of n (f n) ++ lines-below f n) ≡ lines-below f (suc t)
         unfolded n d = d
+
+-- the next line, by the arrivals on its track and on the track above
+pub track-step : (ahead back upto starts ends : List ℕ) (m t at y : ℕ) (before now part : List ℕ) → m ≤ 32 → t ≤ 64 → 69 * suc t ≤ length before
+    → Lines-put (λ y c. track-drawn ahead back upto m t y c) t at y before now → 0 < y → starts ≡ tabulate 32 0 (λ j. reached ahead back upto (y - 1) j)
+    → ends ≡ tabulate 32 0 (λ j. reached ahead back upto y j)
+    → part ≡ over (line-of (y - 1) (λ c. painted (λ j. getD starts j 0) (λ j. getD ends j 0) (ltb (y - 1) t) (ltb 0 (y - 1)) 0 m c 46)) (take (length now - at) (drop at now))
+    → Lines-put (λ y c. track-drawn ahead back upto m t y c) t (at + 69) (y - 1) before (take at now ++ (part ++ drop (length now - at) (drop at now)))
+track-step ahead back upto starts ends m t at y before now part few small fits p some d e h =
+    let z : suc (y - 1) ≡ y = omega arith in
+    lines-step (λ y c. track-drawn ahead back upto m t y c) t at y before now part (omega arith) fits p some
+    (rw (track-is ahead back upto starts ends m t (y - 1) few d (rw z e)) at h)
 
 pub lines-end : (f : ℕ → ℕ → ℕ) (t at y : ℕ) (before now : List ℕ) → y ≤ 0 → Lines-put f t at y before now → take (69 * suc t) now ≡ lines-below f (suc t)
 unfolding lines-below
@@ -140,11 +178,8 @@ module _ (c : List Pair) (t a b : ℕ) (small : t < 1000) where
       let long = page-long (wiring c t a b) t small in
       record { counted = omega arith; written = record { stands = λ k. absurd (omega arith); same-length = refl } }
 
-  pub page-whole : (m : ℕ) (from upto before after : List ℕ) → Channel-placed 63 c t a b → Ends-are c a b m from upto → length after ≡ length before
-      → take (69 * suc t) after ≡ lines-below (λ y x. painted from upto m t y m x) (suc t) → Page-put c t a b before after (69 * (t + 1))
-  page-whole m from upto before after p e s d =
+  pub page-whole : (before after : List ℕ) (f : ℕ → ℕ → ℕ) → ((y x : ℕ) → y ≤ t → f y x ≡ character x y (wiring c t a b)) → length after ≡ length before
+      → take (69 * suc t) after ≡ lines-below f (suc t) → Page-put c t a b before after (69 * (t + 1))
+  page-whole before after f h s d =
       let long = page-long (wiring c t a b) t small in
-      let lines : lines-below (λ y x. painted from upto m t y m x) (suc t) ≡ page-text t (wiring c t a b) =
-      page-lines (λ y x. painted from upto m t y m x) (wiring c t a b) t (λ y x l. painted-right c t a b m from upto e (p .rises) (p .good) x y l)
-      in
-      record { counted = omega arith; written = record { stands = λ h. rw long (d ∙ lines); same-length = s } }
+      record { counted = omega arith; written = record { stands = λ l. rw long (d ∙ page-lines f (wiring c t a b) t h); same-length = s } }

@@ -1,22 +1,23 @@
--- A track's row of characters: the table's characters, one character put in several columns, and a path's run. A row is 64 columns by a rule, and each store changes
--- the rule at one column. Assumes nothing.
+-- A track's row of characters: the table's characters, one character put in several columns, a path's run, and paths one by one. A row is 64 columns by a rule, and each store
+-- changes the rule at one column. Assumes nothing.
 use mathlib.Core.Path.{_≡_, refl, sym, ap, _∙_}
 use mathlib.Core.Bool.{Bool, true, false, _&&_, cond}
 use mathlib.Core.List.{List, [], _∷_}
 use mathlib.Core.Logic.{_⊎_, inl, inr}
-use Prim.Native.Nat.{ℕ, suc, _+_, _-_, _≤_, _<_, min, max}
+use Prim.Native.Nat.{ℕ, zero, suc, _+_, _-_, _≤_, _<_, min, max}
 use native.Mathlib.Numerals.{add-one}
 use native.Mathlib.Omega.{arith}
-use borrow.Author.Tests.{le-leb, lt-leb, lt-ltb, le-ltb, eq-eqb, ne-eqb, leb-true}
+use native.Mathlib.Nat.{zero-add}
+use borrow.Author.Tests.{le-leb, lt-leb, lt-ltb, le-ltb, eq-eqb, ne-eqb, eqb-true}
 use lib.Dec.{ltb, leb, eqb}
-use lib.ListN.{length, getD, set}
-use lib.Seq.{ext-getD}
+use lib.ListN.{length, getD, set, length-set, List·getD-eq-default}
+use lib.Seq.{ext-getD, getD-set-same, getD-set-other}
 use Rattle.numbers.specs.Lists.{tabulate}
 use Rattle.numbers.proofs.Lists.{length-tabulate, getD-tabulate, tabulate-same, tabulate-set}
-use Rattle.numbers.proofs.Orders.{le-or-lt, eq-or-not}
+use Rattle.numbers.proofs.Orders.{le-or-lt, lt-or-eq, eq-or-not}
 use Rattle.page.specs.Page.{how-many, arms-character}
-use Rattle.page.specs.Arrivals.{right-arrival, left-arrival, arrival, drawn, painted}
-use Rattle.plot.specs.Drawing.{Columns-within, filled-to}
+use Rattle.page.specs.Arrivals.{drawn, painted}
+use Rattle.plot.specs.Drawing.{filled-to, marked, run-mark, sum-from}
 
 -- THE TABLE is the rule
 unfoldable pub table : List ℕ
@@ -43,31 +44,6 @@ in-table true true true true = refl
 
 pub table-right : (l r u d : Bool) (a b c e : ℕ) → a ≡ cond l 1 0 → b ≡ cond r 2 0 → c ≡ cond u 4 0 → e ≡ cond d 8 0 → getD table (a + b + c + e) 0 ≡ arms-character l r u d
 table-right l r u d a b c e f g h i = rw (f, g, h, i) (in-table l r u d)
-
--- ARRIVALS
-pub right-counted : (from : List ℕ) (m q j y v : ℕ) → j + y < m → v ≡ min q (getD from (j + y) 0 - y) → v ≡ right-arrival from m q j y
-unfolding right-arrival
-right-counted from m q j y v h e = rw (lt-ltb (j + y) m h) e
-
-pub right-last : (from : List ℕ) (m q j y : ℕ) → m ≤ j + y → q ≡ right-arrival from m q j y
-unfolding right-arrival
-right-last from m q j y h = rw (le-ltb (j + y) m h)
-
-pub left-counted : (from : List ℕ) (q j y v : ℕ) → y ≤ j → v ≡ max q (getD from (j - y) 0 + y) → v ≡ left-arrival from q j y
-unfolding left-arrival
-left-counted from q j y v h e = rw (le-leb y j h) e
-
-pub left-last : (from : List ℕ) (q j y : ℕ) → j < y → q ≡ left-arrival from q j y
-unfolding left-arrival
-left-last from q j y h = rw (lt-leb y j h)
-
-pub arrival-right : (from upto : List ℕ) (m j y v : ℕ) → getD from j 0 ≤ getD upto j 0 → v ≡ right-arrival from m (getD upto j 0) j y → v ≡ arrival from upto m j y
-unfolding arrival
-arrival-right from upto m j y v h e = rw (le-leb (getD from j 0) (getD upto j 0) h) e
-
-pub arrival-left : (from upto : List ℕ) (m j y v : ℕ) → getD upto j 0 < getD from j 0 → v ≡ left-arrival from (getD upto j 0) j y → v ≡ arrival from upto m j y
-unfolding arrival
-arrival-left from upto m j y v h e = rw (lt-leb (getD from j 0) (getD upto j 0) h) e
 
 -- A ROW BY A RULE
 row-rule : (row : List ℕ) → length row ≡ 64 → row ≡ tabulate 64 0 (λ c. getD row c 0)
@@ -199,32 +175,171 @@ module _ (s e : ℕ) (u d : Bool) where
         go j m (inl k) = rw (k, eq-eqb s s refl) at-start
         go j m (inr k) = rw (ne-eqb j s k) (elsewhere j k m)
 
--- A ROW with its paths drawn one by one
-module _ (from upto : List ℕ) (m t y : ℕ) where
-  pub row-starts : (before row : List ℕ) → row ≡ tabulate 64 0 (λ c. filled-to 0 64 46 c (getD before c 0)) → row ≡ tabulate 64 0 (λ c. painted from upto m t y 0 c)
-  unfolding painted
-  row-starts before row e = rule-same (λ c. filled-to 0 64 46 c (getD before c 0)) (λ c. 46) (λ c l. filled-in 0 64 46 c (getD before c 0) (omega arith) l) e
-
-  pub row-steps : (before row : List ℕ) (n s e : ℕ) → before ≡ tabulate 64 0 (λ c. painted from upto m t y n c) → s ≡ arrival from upto m n y → e ≡ arrival from upto m n (y + 1)
-      → row ≡ tabulate 64 0 (λ c. drawn s e (ltb y t) (ltb 0 y) c (getD before c 0)) → row ≡ tabulate 64 0 (λ c. painted from upto m t y (n + 1) c)
-  unfolding painted
-  row-steps before row n s e h i j k =
-      rw (add-one n)
-      (rule-same (λ c. drawn s e (ltb y t) (ltb 0 y) c (getD before c 0)) (λ c. painted from upto m t y (suc n) c)
-      (λ c l. rw (h, getD-tabulate 64 c (λ c. painted from upto m t y n c) 0 l, i, j, add-one y)) k)
-
-  pub row-ends : (row : List ℕ) (n : ℕ) → m ≤ n → n ≤ m → row ≡ tabulate 64 0 (λ c. painted from upto m t y n c) → row ≡ tabulate 64 0 (λ c. painted from upto m t y m c)
-  row-ends row n l h e = let d : n ≡ m = omega arith in e ∙ ap (λ (i : ℕ). tabulate 64 0 (λ c. painted from upto m t y i c)) d
-
--- an arrival is on the page
-pub arrival-below : (from upto : List ℕ) (m j y : ℕ) → Columns-within m from upto → j < m → arrival from upto m j y < 64
-unfolding arrival right-arrival left-arrival
-arrival-below from upto m j y w l = go (leb (getD from j 0) (getD upto j 0)) (ltb (j + y) m) (leb y j) refl
+-- a path that only passes upward is one character
+drawn-point : (s : ℕ) (u d : Bool) (c old : ℕ) → drawn s s u d c old ≡ cond (eqb c s) (arms-character false false u d) old
+drawn-point s u d c old = go (eq-or-not c s)
   where
-    go : (r a b : Bool) → leb y j ≡ b → cond r (cond a (min (getD upto j 0) (getD from (j + y) 0 - y)) (getD upto j 0)) (cond b (max (getD upto j 0) (getD from (j - y) 0 + y)) (getD upto j 0)) < 64
-    go true true b e = omega (arith, w .upto-below j l)
-    go true false b e = w .upto-below j l
-    go false a true e =
-        let h = leb-true y j e in
-        omega (arith, w .upto-below j l, w .from-below j l, w .rises (j - y) y j (omega arith) l)
-    go false a false e = w .upto-below j l
+    beside : (c ≡ s → ⊥) → (s ≤ c) ⊎ (c < s) → (c < min s s) ⊎ (max s s < c)
+    beside n (inl m) = inr (omega arith)
+    beside n (inr m) = inl (omega arith)
+
+    go : (c ≡ s) ⊎ (c ≡ s → ⊥) → drawn s s u d c old ≡ cond (eqb c s) (arms-character false false u d) old
+    go (inl e) =
+        rw (e, eq-eqb s s refl)
+        (drawn-on s s u d s old (omega arith) (omega arith) ∙ rw (le-ltb (min s s) s (omega arith), le-ltb s (max s s) (omega arith), eq-eqb s s refl))
+    go (inr n) = rw (ne-eqb c s n) (drawn-off s s u d c old (beside n (le-or-lt s c)))
+
+-- PATHS drawn one by one
+module _ (s e : ℕ → ℕ) (u d : Bool) where
+  -- first some, then the next
+  painted-append : (a n k c old : ℕ) → painted s e u d (a + n) k c (painted s e u d a n c old) ≡ painted s e u d a (n + k) c old
+  unfolding painted
+  painted-append a n zero c old = let z : n + 0 ≡ n = omega arith in rw z
+  painted-append a n (suc k) c old =
+      let z : n + suc k ≡ suc (n + k) = omega arith in
+      let i : a + n + k ≡ a + (n + k) = omega arith in
+      rw (z, i, painted-append a n k c old)
+
+  pub painted-same : (f g : ℕ → ℕ) (a n c old : ℕ) → ((j : ℕ) → j < a + n → (s j ≡ f j) × (e j ≡ g j)) → painted s e u d a n c old ≡ painted f g u d a n c old
+  unfolding painted
+  painted-same f g a zero c old h = refl
+  painted-same f g a (suc n) c old h =
+      let k = h (a + n) (omega arith) in
+      rw (k .0, k .1, painted-same f g a n c old (λ j l. h j (omega arith)))
+
+  -- where none of them runs, each is one character
+  marked-painted : (v a n c old : ℕ) → v ≡ arms-character false false u d → ((i : ℕ) → i < n → s (a + i) ≡ e (a + i)) → marked e v a n c old ≡ painted s e u d a n c old
+  unfolding marked painted
+  marked-painted v a zero c old h k = refl
+  marked-painted v a (suc n) c old h k =
+      let same = k n (omega arith) in
+      rw (marked-painted v a n c old h (λ i l. k i (omega arith)), same, drawn-point (e (a + n)) u d c (painted s e u d a n c old), h)
+
+  -- A ROW, path by path
+  pub runs-start : (a : ℕ) (row : List ℕ) → length row ≡ 64 → row ≡ tabulate 64 0 (λ c. painted s e u d a (a - a) c (getD row c 0))
+  unfolding painted
+  runs-start a row l = let z : a - a ≡ 0 = omega arith in rw z (row-rule row l)
+
+  pub runs-step : (a j : ℕ) (before row next : List ℕ) → a ≤ j → row ≡ tabulate 64 0 (λ c. painted s e u d a (j - a) c (getD before c 0))
+      → next ≡ tabulate 64 0 (λ c. drawn (s j) (e j) u d c (getD row c 0)) → next ≡ tabulate 64 0 (λ c. painted s e u d a (j + 1 - a) c (getD before c 0))
+  unfolding painted
+  runs-step a j before row next l h k =
+      let z : j + 1 - a ≡ suc (j - a) = omega arith in
+      let i : a + (j - a) ≡ j = omega arith in
+      rw z
+      (rule-same (λ c. drawn (s j) (e j) u d c (getD row c 0)) (λ c. painted s e u d a (suc (j - a)) c (getD before c 0))
+      (λ c m. rw (h, getD-tabulate 64 c (λ c. painted s e u d a (j - a) c (getD before c 0)) 0 m, i)) k)
+
+  pub runs-end : (a b j : ℕ) (before row : List ℕ) → b ≤ j → j ≤ max a b → a ≤ j → row ≡ tabulate 64 0 (λ c. painted s e u d a (j - a) c (getD before c 0))
+      → row ≡ tabulate 64 0 (λ c. painted s e u d a (b - a) c (getD before c 0))
+  runs-end a b j before row l m n h = let z : j - a ≡ b - a = omega arith in rw z at h
+
+  pub row-starts : (before row : List ℕ) → row ≡ tabulate 64 0 (λ c. filled-to 0 64 46 c (getD before c 0)) → row ≡ tabulate 64 0 (λ c. painted s e u d 0 0 c 46)
+  unfolding painted
+  row-starts before row h = rule-same (λ c. filled-to 0 64 46 c (getD before c 0)) (λ c. 46) (λ c l. filled-in 0 64 46 c (getD before c 0) (omega arith) l) h
+
+  pub row-joins : (j n : ℕ) (row next : List ℕ) → row ≡ tabulate 64 0 (λ c. painted s e u d 0 j c 46) → next ≡ tabulate 64 0 (λ c. painted s e u d j n c (getD row c 0))
+      → next ≡ tabulate 64 0 (λ c. painted s e u d 0 (j + n) c 46)
+  row-joins j n row next h k =
+      rule-same (λ c. painted s e u d j n c (getD row c 0)) (λ c. painted s e u d 0 (j + n) c 46)
+      (λ c m. rw (h, getD-tabulate 64 c (λ c. painted s e u d 0 j c 46) 0 m) (rw zero-add at (painted-append 0 j n c 46))) k
+
+  pub row-ends : (j m : ℕ) (row next : List ℕ) → j ≤ m → row ≡ tabulate 64 0 (λ c. painted s e u d 0 j c 46) → next ≡ tabulate 64 0 (λ c. painted s e u d j (m - j) c (getD row c 0))
+      → next ≡ tabulate 64 0 (λ c. painted s e u d 0 m c 46)
+  row-ends j m row next l h k = let z : j + (m - j) ≡ m = omega arith in rw z at (row-joins j (m - j) row next h k)
+
+  pub eight-run : (a : ℕ) (before row : List ℕ) → row ≡ tabulate 64 0 (λ c. painted s e u d a (a + 8 - a) c (getD before c 0)) → row ≡ tabulate 64 0 (λ c. painted s e u d a 8 c (getD before c 0))
+  eight-run a before row h = let z : a + 8 - a ≡ 8 = omega arith in rw z at h
+
+  pub eight-marked : (v a : ℕ) (before row : List ℕ) → v ≡ arms-character false false u d → ((i : ℕ) → i < 8 → s (a + i) ≡ e (a + i))
+      → row ≡ tabulate 64 0 (λ c. marked e v a 8 c (getD before c 0)) → row ≡ tabulate 64 0 (λ c. painted s e u d a 8 c (getD before c 0))
+  eight-marked v a before row h k m =
+      rule-same (λ c. marked e v a 8 c (getD before c 0)) (λ c. painted s e u d a 8 c (getD before c 0)) (λ c l. marked-painted v a 8 c (getD before c 0) h k) m
+
+-- ONE CHARACTER AT SEVERAL COLUMNS
+module _ (e : ℕ → ℕ) (v a : ℕ) where
+  pub marks-start : (row : List ℕ) → length row ≡ 64 → row ≡ tabulate 64 0 (λ c. marked e v a 0 c (getD row c 0))
+  unfolding marked
+  marks-start row l = row-rule row l
+
+  pub marks-step : (i : ℕ) (before row : List ℕ) → row ≡ tabulate 64 0 (λ c. marked e v a i c (getD before c 0))
+      → set row (e (a + i)) v ≡ tabulate 64 0 (λ c. marked e v a (i + 1) c (getD before c 0))
+  unfolding marked
+  marks-step i before row h =
+      rw (add-one i)
+      (rule-stored (λ c. marked e v a i c (getD before c 0)) (λ c. marked e v a (suc i) c (getD before c 0)) (e (a + i)) v (rw (eq-eqb (e (a + i)) (e (a + i)) refl))
+      (λ j n. rw (ne-eqb j (e (a + i)) n)) h)
+
+  pub marks-end : (before : List ℕ) (i : ℕ) (row : List ℕ) → 8 ≤ i → i ≤ 8 → row ≡ tabulate 64 0 (λ c. marked e v a i c (getD before c 0)) → row ≡ tabulate 64 0 (λ c. marked e v a 8 c (getD before c 0))
+  marks-end before i row l m h = let z : i ≡ 8 = omega arith in rw z at h
+
+-- WHICH PATHS RUN
+sum-none : (xs : List ℕ) (a n : ℕ) → sum-from xs a n ≡ 0 → (i : ℕ) → i < n → getD xs (a + i) 0 ≡ 0
+unfolding sum-from
+sum-none xs a zero h i l = absurd (omega arith)
+sum-none xs a (suc n) h i l = go (lt-or-eq i n (omega arith)) (λ k. sum-none xs a n (omega arith) i k)
+  where
+    go : (i < n) ⊎ (i ≡ n) → (i < n → getD xs (a + i) 0 ≡ 0) → getD xs (a + i) 0 ≡ 0
+    go (inl k) less = less k
+    go (inr k) less = rw k (omega arith)
+
+pub sum-eight : (xs : List ℕ) (a : ℕ)
+    → getD xs a 0 + getD xs (a + 1) 0 + getD xs (a + 2) 0 + getD xs (a + 3) 0 + (getD xs (a + 4) 0 + getD xs (a + 5) 0 + getD xs (a + 6) 0 + getD xs (a + 7) 0)
+    ≡ sum-from xs a 8
+unfolding sum-from
+sum-eight xs a = let z : a + 0 ≡ a = omega arith in rw z (omega arith)
+
+same-mark : (s e : ℕ) → run-mark s e ≡ 0 → s ≡ e
+unfolding run-mark
+same-mark s e h = go (eq-or-not s e)
+  where
+    go : (s ≡ e) ⊎ (s ≡ e → ⊥) → s ≡ e
+    go (inl k) = k
+    go (inr k) = let z : _≡_ {A = ℕ} 1 0 = rw (ne-eqb s e k) at h in absurd (omega arith)
+
+pub none-run : (starts ends marks : List ℕ) (a : ℕ) → a ≤ 24 → marks ≡ tabulate 32 0 (λ j. run-mark (getD starts j 0) (getD ends j 0)) → eqb (sum-from marks a 8) 0 ≡ true
+    → (i : ℕ) → i < 8 → getD starts (a + i) 0 ≡ getD ends (a + i) 0
+none-run starts ends marks a l m h i k =
+    same-mark (getD starts (a + i) 0) (getD ends (a + i) 0)
+    (sym (rw m (getD-tabulate 32 (a + i) (λ j. run-mark (getD starts j 0) (getD ends j 0)) 0 (omega arith))) ∙ sum-none marks a 8 (eqb-true (sum-from marks a 8) 0 h) i k)
+
+pub mark-same : (s e : ℕ) → s ≡ e → 0 ≡ run-mark s e
+unfolding run-mark
+mark-same s e h = rw (eq-eqb s e h)
+
+pub mark-other : (s e : ℕ) → (s ≡ e → ⊥) → 1 ≡ run-mark s e
+unfolding run-mark
+mark-other s e h = rw (ne-eqb s e h)
+
+mark-low : (s e : ℕ) → run-mark s e ≤ 1
+unfolding run-mark
+mark-low s e = go (eqb s e)
+  where
+    go : (b : Bool) → cond b 0 1 ≤ 1
+    go true = omega arith
+    go false = omega arith
+
+-- a list by a rule is as low as the rule
+pub rule-low : (n b : ℕ) (f : ℕ → ℕ) (xs : List ℕ) → xs ≡ tabulate n 0 f → ((j : ℕ) → j < n → f j ≤ b) → (j : ℕ) → getD xs j 0 ≤ b
+rule-low n b f xs e h j = go (le-or-lt n j)
+  where
+    go : (n ≤ j) ⊎ (j < n) → getD xs j 0 ≤ b
+    go (inl l) = rw (e, List·getD-eq-default (tabulate n 0 f) 0 {n = j} (rw length-tabulate l)) (omega arith)
+    go (inr l) = rw (e, getD-tabulate n j f 0 l) (h j l)
+
+pub marks-low : (starts ends marks : List ℕ) → marks ≡ tabulate 32 0 (λ j. run-mark (getD starts j 0) (getD ends j 0)) → (j : ℕ) → getD marks j 0 ≤ 1
+marks-low starts ends marks m = rule-low 32 1 (λ j. run-mark (getD starts j 0) (getD ends j 0)) marks m (λ j l. mark-low (getD starts j 0) (getD ends j 0))
+
+-- A LIST FILLED by a rule from its front
+pub front-step : (f : ℕ → ℕ) (xs : List ℕ) (n v : ℕ) → n < length xs → v ≡ f n → ((j : ℕ) → j < n → getD xs j 0 ≡ f j) → (j : ℕ) → j < n + 1 → getD (set xs n v) j 0 ≡ f j
+front-step f xs n v l e h j m = go (lt-or-eq j n (omega arith))
+  where
+    go : (j < n) ⊎ (j ≡ n) → getD (set xs n v) j 0 ≡ f j
+    go (inl k) = getD-set-other xs n j v 0 (omega arith) ∙ h j k
+    go (inr k) = rw k (getD-set-same xs n v 0 l ∙ e)
+
+pub front-long : (xs : List ℕ) (n k v : ℕ) → length xs ≡ n → length (set xs k v) ≡ n
+front-long xs n k v e = length-set xs k v ∙ e
+
+pub front-end : (f : ℕ → ℕ) (xs : List ℕ) (n k : ℕ) → n ≤ k → length xs ≡ n → ((j : ℕ) → j < k → getD xs j 0 ≡ f j) → xs ≡ tabulate n 0 f
+front-end f xs n k l e h = ext-getD 0 xs (tabulate n 0 f) (e ∙ sym (length-tabulate n 0 f)) (λ i m. h i (omega arith) ∙ sym (getD-tabulate n i f 0 (omega arith)))

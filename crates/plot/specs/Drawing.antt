@@ -2,22 +2,27 @@
 use mathlib.Core.Path.{_≡_}
 use mathlib.Core.Bool.{_&&_, cond}
 use mathlib.Core.List.{List, [], _++_}
-use Prim.Native.Nat.{ℕ, zero, suc, _+_, _*_, _/_, _%_, _≤_, _<_}
-use lib.Dec.{ltb, leb}
+use Prim.Native.Nat.{ℕ, zero, suc, _+_, _*_, _-_, _/_, _%_, _≤_, _<_, min, max}
+use lib.Dec.{ltb, leb, eqb}
 use lib.ListN.{length, getD, take}
 use Rattle.stack.specs.Stack.{Pair}
 use Rattle.stack.specs.Value.{columns}
 use Rattle.stack.specs.declared.Columns.{Columns}
+use Rattle.stack.specs.declared.Terminals.{Terminals}
 use Rattle.routing.specs.Wiring.{wiring}
 use Rattle.writing.specs.Output.{Written}
 use Rattle.page.specs.Page.{line-of, page-text}
+use Rattle.page.specs.Arrivals.{painted}
 
--- the columns of m paths' ends are on the page, and rise along the lower edge
-pub record Columns-within (m : ℕ) (from upto : List ℕ) : Type 0 where
-  pub few : m ≤ 32
-  pub from-below : (j : ℕ) → j < m → getD from j 0 < 64
-  pub upto-below : (j : ℕ) → j < m → getD upto j 0 < 64
-  pub rises : (i n j : ℕ) → i + n ≡ j → j < m → getD from i 0 + n ≤ getD from j 0
+-- the columns of the first m paths are on the page
+abbrev pub Columns-shown : (m : ℕ) → List ℕ → Type 0
+Columns-shown m xs = (j : ℕ) → j < m → getD xs j 0 < 64
+
+-- what a row's writer asks
+pub record Row-asks (m : ℕ) (row starts ends : List ℕ) : Type 0 where
+  pub columns : length row ≡ 64
+  pub starts-shown : Columns-shown m starts
+  pub ends-shown : Columns-shown m ends
 
 -- what a run's writer asks
 pub record Run-asks (row : List ℕ) (s e : ℕ) : Type 0 where
@@ -28,6 +33,20 @@ pub record Run-asks (row : List ℕ) (s e : ℕ) : Type 0 where
 -- what column c shows once one character stands in the columns from one up to another
 unfoldable pub filled-to : (from upto character c old : ℕ) → ℕ
 filled-to from upto v c old = cond (leb from c && ltb c upto) v old
+
+-- what column c shows once a character stands at the columns of the n paths from a on
+unfoldable pub marked : (e : ℕ → ℕ) → (character a n c old : ℕ) → ℕ
+marked e v a zero c old = old
+marked e v a (suc n) c old = cond (eqb c (e (a + n))) v (marked e v a n c old)
+
+-- 1 where a path runs, 0 where it only passes upward
+unfoldable pub run-mark : (start end : ℕ) → ℕ
+run-mark s e = cond (eqb s e) 0 1
+
+-- the sum of n numbers from place a on
+unfoldable pub sum-from : List ℕ → (a n : ℕ) → ℕ
+sum-from xs a zero = 0
+sum-from xs a (suc n) = sum-from xs a n + getD xs (a + n) 0
 
 -- a number's digit in a place of units, or a space where the number has none there
 unfoldable pub place : (unit n : ℕ) → ℕ
@@ -44,12 +63,43 @@ pub record Lines-put (f : ℕ → ℕ → ℕ) (t at y : ℕ) (before now : List
   pub same-length : length now ≡ length before
   pub stands : take at now ++ lines-below f y ≡ lines-below f (suc t)
 
--- the first n pairs' columns are filled in
-pub record Ends-filled (ps qs : List Columns) (lower upper n : ℕ) (from upto : List ℕ) : Type 0 where
-  pub sized-from : length from ≡ 32
+-- WHAT ARRIVALS ARE WORKED OUT FROM: by pair, the column of its lower terminal less its number, with 64 behind the last pair and 0 before the first, and the
+-- column of its upper terminal. What path j comes to on track y is its last column, or what a terminal ahead or back says
+unfoldable pub reached : (ahead back upto : List ℕ) → (y j : ℕ) → ℕ
+reached ahead back upto y j =
+    min (getD upto j 0) (getD ahead (j + y) 0 + j) + max (getD upto j 0) (getD back (32 + j - min y 32) 0 + j) - getD upto j 0
+
+unfoldable pub track-drawn : (ahead back upto : List ℕ) → (m t y c : ℕ) → ℕ
+track-drawn ahead back upto m t y c = painted (λ j. reached ahead back upto y j) (λ j. reached ahead back upto (suc y) j) (ltb y t) (ltb 0 y) 0 m c 46
+
+-- they fit a byte
+pub record Levels-low (ahead back upto : List ℕ) : Type 0 where
+  pub ahead-low : (i : ℕ) → getD ahead i 0 ≤ 64
+  pub back-low : (i : ℕ) → getD back i 0 ≤ 64
+  pub upto-low : (j : ℕ) → getD upto j 0 < 64
+
+-- the arrivals of the first m paths are on the page
+unfoldable pub Arrivals-shown : (ahead back upto : List ℕ) → (m : ℕ) → Type 0
+Arrivals-shown ahead back upto m = (j y : ℕ) → j < m → y ≤ 65 → reached ahead back upto y j < 64
+
+-- terminals that are on the page and rise along the lower edge
+pub record Ends-ask (k : Terminals) (lower upper : ℕ) : Type 0 where
+  pub few : k .count ≤ 32
+  pub lower-shown : (j : ℕ) → j < k .count → lower + getD (k .lower) j (columns 0) .0 < 64
+  pub upper-shown : (j : ℕ) → j < k .count → upper + getD (k .upper) j (columns 0) .0 < 64
+  pub past : (j : ℕ) → j < k .count → j ≤ lower + getD (k .lower) j (columns 0) .0
+
+-- the first n pairs are filled in
+pub record Levels-filled (ps qs : List Columns) (lower upper n : ℕ) (ahead back upto : List ℕ) : Type 0 where
+  pub sized-ahead : length ahead ≡ 98
+  pub sized-back : length back ≡ 64
   pub sized-upto : length upto ≡ 32
-  pub from-are : (j : ℕ) → j < n → getD from j 0 ≡ lower + getD ps j (columns 0) .0
+  pub ahead-are : (j : ℕ) → j < n → getD ahead j 0 ≡ lower + getD ps j (columns 0) .0 - j
+  pub ahead-none : (j : ℕ) → n ≤ j → j < 98 → getD ahead j 0 ≡ 64
+  pub back-are : (j : ℕ) → j < n → getD back (32 + j) 0 ≡ lower + getD ps j (columns 0) .0 - j
+  pub back-none : (j : ℕ) → j < 32 → getD back j 0 ≡ 0
   pub upto-are : (j : ℕ) → j < n → getD upto j 0 ≡ upper + getD qs j (columns 0) .0
+  pub low : Levels-low ahead back upto
 
 -- the page's whole text stands if there is space for it
 pub record Page-put (c : List Pair) (t lower upper : ℕ) (before after : List ℕ) (r : ℕ) : Type 0 where

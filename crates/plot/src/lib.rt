@@ -1,25 +1,49 @@
 // Drawing a channel's page line by line: from which column to which each path is on a track, and the character of each of its points there.
 ghost use mathlib.Core.Path.{_≡_};
 ghost use mathlib.Core.Bool.{cond};
-ghost use Prim.Native.Nat.{suc, _+_, _-_, _*_, _≤_, _<_};
-ghost use lib.ListN.{length, getD, take};
+ghost use Prim.Native.Nat.{ℕ, suc, _+_, _-_, _*_, _/_, _%_, _≤_, _<_, min, max};
+ghost use lib.Dec.{ltb, eqb};
+ghost use lib.ListN.{length, getD, take, replicate};
 ghost use Rattle.numbers.specs.Lists.{tabulate};
 ghost use Rattle.stack.specs.Value.{channel-of};
 ghost use Rattle.writing.specs.Output.{over};
 ghost use Rattle.page.specs.Page.{arms-character, line-of};
-ghost use Rattle.page.specs.Arrivals.{Channel-placed, Ends-are, right-arrival, left-arrival, arrival, drawn, painted};
-ghost use Rattle.plot.specs.Drawing.{place, Columns-within, filled-to, Run-asks, lines-below, Page-put};
-use numbers::difference;
-use numbers::greater;
-use numbers::lesser;
+ghost use Rattle.page.specs.Arrivals.{Channel-placed, drawn, painted};
+ghost use Rattle.plot.specs.Drawing.{
+  place,
+  Columns-shown,
+  Row-asks,
+  filled-to,
+  Run-asks,
+  marked,
+  run-mark,
+  sum-from,
+  Levels-low,
+  reached,
+  track-drawn,
+  Arrivals-shown,
+  lines-below,
+  Ends-ask,
+  Levels-filled,
+  Page-put,
+};
 use stack::Columns;
 use stack::Terminals;
 use stack::Tracks;
 
 const PAIRS: usize = Terminals::MAX_PAIRS;
 
+// Paths that are looked at together.
+const EIGHT: usize = 8;
+
 // The columns of a page.
-const COLUMNS: usize = 64;
+const COLUMNS: u8 = 64;
+
+// The greatest separation of a page is 64, and a path may be asked for its arrival at the track behind: so many pairs from the first on, with none behind the last.
+const AHEAD: usize = 98;
+
+// As many pairs back from the last, with none before the first.
+const BACK: usize = 64;
 
 // A line's bytes: three places for the track, a space, the columns, a line feed.
 const LINE_BYTES: usize = 69;
@@ -49,42 +73,20 @@ fn character(left: bool, right: bool, up: bool, down: bool) -> u8
     CHARACTERS[arm(left, 1) + arm(right, 2) + arm(up, 4) + arm(down, 8)]
 }
 
-// The column at which a path that goes right to column q comes to track y.
-fn right_arrival(from: &[u64; PAIRS], m: usize, q: u64, j: usize, y: usize) -> u64
-    requires { ⌜ (m ≤ 32) × (j < m) × (y ≤ 1000) ⌝ }
-    ensures { λ r. ⌜ r ≡ right-arrival (now (from .entry)) m q j y ⌝ }
+fn lesser(a: u8, b: u8) -> u8
+    ensures { λ r. ⌜ r ≡ min a b ⌝ }
 {
-    if j + y < m {
-        return lesser(q, difference(from[j + y], y as u64));
-    }
-    q
+    if a < b { a } else { b }
 }
 
-// The column at which a path that goes left to column q comes to track y.
-fn left_arrival(from: &[u64; PAIRS], q: u64, j: usize, y: usize) -> u64
-    requires { ⌜ (j < 32) × (y ≤ 1000) × (getD (now from) (j - y) 0 < 64) ⌝ }
-    ensures { λ r. ⌜ r ≡ left-arrival (now (from .entry)) q j y ⌝ }
+fn greater(a: u8, b: u8) -> u8
+    ensures { λ r. ⌜ r ≡ max a b ⌝ }
 {
-    if y <= j {
-        return greater(q, from[j - y] + y as u64);
-    }
-    q
-}
-
-// The column at which path j comes to track y.
-fn arrival(from: &[u64; PAIRS], upto: &[u64; PAIRS], m: usize, j: usize, y: usize) -> u64
-    requires { ⌜ Columns-within m (now from) (now upto) × (j < m) × (y ≤ 1000) ⌝ }
-    ensures { λ r. ⌜ r ≡ arrival (now (from .entry)) (now (upto .entry)) m j y ⌝ }
-{
-    let q = upto[j];
-    if from[j] <= q {
-        return right_arrival(from, m, q, j, y);
-    }
-    left_arrival(from, q, j, y)
+    if a < b { b } else { a }
 }
 
 // One character in the columns from one up to another.
-fn fill(row: &mut [u8], from: u64, upto: u64, character: u8)
+fn fill(row: &mut [u8], from: u8, upto: u8, character: u8)
     requires { ⌜ (length (now row) ≡ 64) × (upto ≤ 64) ⌝ }
     ensures { λ _. ⌜ now (row .exit) ≡ tabulate 64 0 (λ c. filled-to from upto character c (getD (now (row .entry)) c 0)) ⌝ }
 {
@@ -94,7 +96,7 @@ fn fill(row: &mut [u8], from: u64, upto: u64, character: u8)
 }
 
 // The points of a path that is on a track from column s to column e, in the track's row of characters.
-fn put_run(row: &mut [u8], s: u64, e: u64, up: bool, down: bool)
+fn put_run(row: &mut [u8], s: u8, e: u8, up: bool, down: bool)
     requires { ⌜ Run-asks (now row) s e ⌝ }
     ensures { λ _. ⌜ now (row .exit) ≡ tabulate 64 0 (λ c. drawn s e up down c (getD (now (row .entry)) c 0)) ⌝ }
 {
@@ -112,83 +114,217 @@ fn put_run(row: &mut [u8], s: u64, e: u64, up: bool, down: bool)
     row[e as usize] = character(s < e, e < s, up, false);
 }
 
-// The characters of track y.
-fn put_row(row: &mut [u8], from: &[u64; PAIRS], upto: &[u64; PAIRS], m: usize, t: usize, y: usize)
-    requires { ⌜ Columns-within m (now from) (now upto) × (length (now row) ≡ 64) × (y < 1000) ⌝ }
-    ensures { λ _. ⌜ now (row .exit) ≡ tabulate 64 0 (λ c. painted (now (from .entry)) (now (upto .entry)) m t y m c) ⌝ }
+// The runs of the paths from one up to another, in the track's row.
+fn put_runs(
+    row: &mut [u8],
+    starts: &[u8; PAIRS],
+    ends: &[u8; PAIRS],
+    from: usize,
+    upto: usize,
+    up: bool,
+    down: bool,
+)
+    requires { ⌜ Row-asks upto (now row) (now starts) (now ends) × (upto ≤ 32) ⌝ }
+    ensures { λ _. ⌜ now (row .exit) ≡ tabulate 64 0 (λ c. painted (λ j. getD (now (starts .entry)) j 0) (λ j. getD (now (ends .entry)) j 0) up down from (upto - from) c (getD (now (row .entry)) c 0)) ⌝ }
 {
-    fill(row, 0, COLUMNS as u64, DOT);
-    for j in 0..m {
-        let s = arrival(from, upto, m, j, y);
-        let e = arrival(from, upto, m, j, y + 1);
-        put_run(row, s, e, y < t, 0 < y);
+    for j in from..upto {
+        put_run(row, starts[j], ends[j], up, down);
     }
 }
 
-// A number's digit in a place of units, or a space where the number has none there.
+// One character at the columns of eight paths.
+fn put_uprights(row: &mut [u8], ends: &[u8; PAIRS], from: usize, character: u8)
+    requires { ⌜ (length (now row) ≡ 64) × Columns-shown (from + 8) (now ends) × (from ≤ 24) ⌝ }
+    ensures { λ _. ⌜ now (row .exit) ≡ tabulate 64 0 (λ c. marked (λ j. getD (now (ends .entry)) j 0) character from 8 c (getD (now (row .entry)) c 0)) ⌝ }
+{
+    for i in 0..EIGHT {
+        row[ends[from + i] as usize] = character;
+    }
+}
+
+// 1 where a path runs, 0 where it only passes upward.
+fn mark(start: u8, end: u8) -> u8
+    ensures { λ r. ⌜ r ≡ run-mark start end ⌝ }
+{
+    if start == end { 0 } else { 1 }
+}
+
+// Which paths run on a track.
+fn mark_runs(marks: &mut [u8; PAIRS], starts: &[u8; PAIRS], ends: &[u8; PAIRS])
+    requires { ⌜ length (now marks) ≡ 32 ⌝ }
+    ensures { λ _. ⌜ now (marks .exit) ≡ tabulate 32 0 (λ j. run-mark (getD (now (starts .entry)) j 0) (getD (now (ends .entry)) j 0)) ⌝ }
+{
+    for j in 0..PAIRS {
+        marks[j] = mark(starts[j], ends[j]);
+    }
+}
+
+// Whether none of eight paths runs.
+fn is_none_run(marks: &[u8; PAIRS], from: usize) -> bool
+    requires { ⌜ (from ≤ 24) × ((j : ℕ) → getD (now marks) j 0 ≤ 1) ⌝ }
+    ensures { λ r. ⌜ r ≡ eqb (sum-from (now (marks .entry)) from 8) 0 ⌝ }
+{
+    let four = marks[from] + marks[from + 1] + marks[from + 2] + marks[from + 3];
+    let more = marks[from + 4] + marks[from + 5] + marks[from + 6] + marks[from + 7];
+    four + more == 0
+}
+
+// The runs of eight paths; where none of them runs, only one character each.
+fn put_eight(
+    row: &mut [u8],
+    starts: &[u8; PAIRS],
+    ends: &[u8; PAIRS],
+    marks: &[u8; PAIRS],
+    from: usize,
+    up: bool,
+    down: bool,
+)
+    requires { ⌜ Row-asks (from + 8) (now row) (now starts) (now ends) × (from ≤ 24) × (now marks ≡ tabulate 32 0 (λ j. run-mark (getD (now starts) j 0) (getD (now ends) j 0))) ⌝ }
+    ensures { λ _. ⌜ now (row .exit) ≡ tabulate 64 0 (λ c. painted (λ j. getD (now (starts .entry)) j 0) (λ j. getD (now (ends .entry)) j 0) up down from 8 c (getD (now (row .entry)) c 0)) ⌝ }
+{
+    if is_none_run(marks, from) {
+        put_uprights(row, ends, from, character(false, false, up, down));
+        return;
+    }
+    put_runs(row, starts, ends, from, from + EIGHT, up, down);
+}
+
+// The characters of a track on which each path is from its column in starts to its column in ends.
+fn put_row(row: &mut [u8], starts: &[u8; PAIRS], ends: &[u8; PAIRS], m: usize, up: bool, down: bool)
+    requires { ⌜ Row-asks m (now row) (now starts) (now ends) × (m ≤ 32) ⌝ }
+    ensures { λ _. ⌜ now (row .exit) ≡ tabulate 64 0 (λ c. painted (λ j. getD (now (starts .entry)) j 0) (λ j. getD (now (ends .entry)) j 0) up down 0 m c 46) ⌝ }
+{
+    fill(row, 0, COLUMNS, DOT);
+    let mut marks = [0u8; PAIRS];
+    mark_runs(&mut marks, starts, ends);
+    let mut j = 0;
+    while j + EIGHT <= m {
+        put_eight(row, starts, ends, &marks, j, up, down);
+        j += EIGHT;
+    }
+    put_runs(row, starts, ends, j, m, up, down);
+}
+
+// A number's digit in a place of units.
+fn digit(unit: usize, n: usize) -> u8
+    requires { ⌜ 0 < unit ⌝ }
+    ensures { λ r. ⌜ r ≡ 48 + n / unit % 10 ⌝ }
+{
+    ZERO + (n / unit % 10) as u8
+}
+
+// The same, or a space where the number has none there.
 fn place(unit: usize, n: usize) -> u8
     requires { ⌜ 0 < unit ⌝ }
     ensures { λ r. ⌜ r ≡ place unit n ⌝ }
 {
-    let digit = ZERO + (n / unit % 10) as u8;
     if unit <= n {
-        return digit;
+        return digit(unit, n);
     }
     if unit <= 1 {
-        return digit;
+        return digit(unit, n);
     }
     SPACE
 }
 
 // The line of track y over the output's first bytes.
-fn put_track(out: &mut [u8], from: &[u64; PAIRS], upto: &[u64; PAIRS], m: usize, t: usize, y: usize)
-    requires { ⌜ Columns-within m (now from) (now upto) × (69 ≤ length (now out)) × (y < 1000) ⌝ }
-    ensures { λ _. ⌜ now (out .exit) ≡ over (line-of y (λ c. painted (now (from .entry)) (now (upto .entry)) m t y m c)) (now (out .entry)) ⌝ }
+fn put_track(out: &mut [u8], starts: &[u8; PAIRS], ends: &[u8; PAIRS], m: usize, t: usize, y: usize)
+    requires { ⌜ Columns-shown m (now starts) × Columns-shown m (now ends) × (m ≤ 32) × (69 ≤ length (now out)) × (y < 1000) ⌝ }
+    ensures { λ _. ⌜ now (out .exit) ≡ over (line-of y (λ c. painted (λ j. getD (now (starts .entry)) j 0) (λ j. getD (now (ends .entry)) j 0) (ltb y t) (ltb 0 y) 0 m c 46)) (now (out .entry)) ⌝ }
 {
     out[0] = place(100, y);
     out[1] = place(10, y);
     out[2] = place(1, y);
     out[3] = SPACE;
-    put_row(&mut out[4..LINE_BYTES - 1], from, upto, m, t, y);
+    put_row(&mut out[4..LINE_BYTES - 1], starts, ends, m, y < t, 0 < y);
     out[LINE_BYTES - 1] = LINE_FEED;
 }
 
-// The lines of tracks t to 0, each directly behind the line before it: the output's part from there on is lent on to the line's writer.
-fn put_tracks(out: &mut [u8], from: &[u64; PAIRS], upto: &[u64; PAIRS], m: usize, t: usize)
-    requires { ⌜ Columns-within m (now from) (now upto) × (69 * suc t ≤ length (now out)) × (t < 1000) ⌝ }
-    ensures { λ _. ⌜ take (69 * suc t) (now (out .exit)) ≡ lines-below (λ y c. painted (now (from .entry)) (now (upto .entry)) m t y m c) (suc t) ⌝ }
+// The column at which path j, whose last column is q, comes to a track: a path that goes right is not held back by terminals behind it, nor one that goes left by
+// terminals ahead, so one of the two is q.
+fn arrival(q: u8, ahead: u8, back: u8, j: usize) -> u8
+    requires { ⌜ (q < 64) × (ahead ≤ 64) × (back ≤ 64) × (j < 32) ⌝ }
+    ensures { λ r. ⌜ r ≡ min q (ahead + j) + max q (back + j) - q ⌝ }
 {
+    let pair = j as u8;
+    lesser(q, ahead + pair) + greater(q, back + pair) - q
+}
+
+// The arrivals of all paths at track y.
+fn fill_arrivals(
+    at: &mut [u8; PAIRS],
+    ahead: &[u8; AHEAD],
+    back: &[u8; BACK],
+    upto: &[u8; PAIRS],
+    y: usize,
+)
+    requires { ⌜ (length (now at) ≡ 32) × Levels-low (now ahead) (now back) (now upto) × (y ≤ 65) ⌝ }
+    ensures { λ _. ⌜ now (at .exit) ≡ tabulate 32 0 (λ j. reached (now (ahead .entry)) (now (back .entry)) (now (upto .entry)) y j) ⌝ }
+{
+    let behind = within(y);
+    for j in 0..PAIRS {
+        at[j] = arrival(upto[j], ahead[j + y], back[PAIRS + j - behind], j);
+    }
+}
+
+// A number of pairs back: from the first pair's place on there are none.
+fn within(y: usize) -> usize
+    ensures { λ r. ⌜ r ≡ min y 32 ⌝ }
+{
+    if y < PAIRS { y } else { PAIRS }
+}
+
+// The lines of tracks t to 0, each directly behind the line before it: the output's part from there on is lent on to the line's writer.
+fn put_tracks(
+    out: &mut [u8],
+    ahead: &[u8; AHEAD],
+    back: &[u8; BACK],
+    upto: &[u8; PAIRS],
+    m: usize,
+    t: usize,
+)
+    requires { ⌜ Levels-low (now ahead) (now back) (now upto) × Arrivals-shown (now ahead) (now back) (now upto) m × (m ≤ 32) × (69 * suc t ≤ length (now out)) × (t ≤ 64) ⌝ }
+    ensures { λ _. ⌜ take (69 * suc t) (now (out .exit)) ≡ lines-below (λ y c. track-drawn (now (ahead .entry)) (now (back .entry)) (now (upto .entry)) m t y c) (suc t) ⌝ }
+{
+    let mut starts = [0u8; PAIRS];
+    fill_arrivals(&mut starts, ahead, back, upto, t + 1);
     let mut at = 0;
     let mut y = t + 1;
     while 0 < y {
         y -= 1;
-        put_track(&mut out[at..], from, upto, m, t, y);
+        let ends = starts;
+        fill_arrivals(&mut starts, ahead, back, upto, y);
+        put_track(&mut out[at..], &starts, &ends, m, t, y);
         at += LINE_BYTES;
     }
 }
 
 // A terminal's column on a strip at a position.
-fn column(position: Columns, terminal: Columns) -> u64
+fn column(position: Columns, terminal: Columns) -> u8
+    requires { ⌜ position .0 + terminal .0 < 64 ⌝ }
     ensures { λ r. ⌜ r ≡ position .0 + terminal .0 ⌝ }
 {
-    position.0 as u64 + terminal.0 as u64
+    (position.0 + terminal.0) as u8
 }
 
-// The columns of the paths' ends.
+// What the arrivals are worked out from: the lower terminals' columns less their pairs' numbers, and the upper terminals' columns.
 fn fill_ends(
     terminals: Terminals,
     lower: Columns,
     upper: Columns,
-    from: &mut [u64; PAIRS],
-    upto: &mut [u64; PAIRS],
+    ahead: &mut [u8; AHEAD],
+    back: &mut [u8; BACK],
+    upto: &mut [u8; PAIRS],
 )
-    requires { ⌜ (terminals .count ≤ 32) × (length (now from) ≡ 32) × (length (now upto) ≡ 32) ⌝ }
-    ensures { λ _. ⌜ Ends-are (channel-of terminals) (lower .0) (upper .0) (terminals .count) (now (from .exit)) (now (upto .exit)) ⌝ }
+    requires { ⌜ Ends-ask terminals (lower .0) (upper .0) × (now ahead ≡ replicate 98 64) × (now back ≡ replicate 64 0) × (now upto ≡ replicate 32 0) ⌝ }
+    ensures { λ _. ⌜ Levels-filled (terminals .lower) (terminals .upper) (lower .0) (upper .0) (terminals .count) (now (ahead .exit)) (now (back .exit)) (now (upto .exit)) ⌝ }
 {
     let ps = terminals.lower;
     let qs = terminals.upper;
     for j in 0..terminals.count {
-        from[j] = column(lower, ps[j]);
+        let level = column(lower, ps[j]) - j as u8;
+        ahead[j] = level;
+        back[PAIRS + j] = level;
         upto[j] = column(upper, qs[j]);
     }
 }
@@ -201,7 +337,7 @@ pub fn put_page(
     upper: Columns,
     out: &mut [u8],
 ) -> usize
-    requires { ⌜ Channel-placed 63 (channel-of terminals) (separation .0) (lower .0) (upper .0) × (separation .0 < 1000) ⌝ }
+    requires { ⌜ Channel-placed 63 (channel-of terminals) (separation .0) (lower .0) (upper .0) × (separation .0 ≤ 64) ⌝ }
     ensures { λ r. ⌜ Page-put (channel-of terminals) (separation .0) (lower .0) (upper .0) (now (out .entry)) (now (out .exit)) r ⌝ }
 {
     let t = separation.0 as usize;
@@ -209,9 +345,10 @@ pub fn put_page(
     if out.len() < bytes {
         return bytes;
     }
-    let mut from = [0u64; PAIRS];
-    let mut upto = [0u64; PAIRS];
-    fill_ends(terminals, lower, upper, &mut from, &mut upto);
-    put_tracks(out, &from, &upto, terminals.count, t);
+    let mut ahead = [COLUMNS; AHEAD];
+    let mut back = [0u8; BACK];
+    let mut upto = [0u8; PAIRS];
+    fill_ends(terminals, lower, upper, &mut ahead, &mut back, &mut upto);
+    put_tracks(out, &ahead, &back, &upto, terminals.count, t);
     bytes
 }

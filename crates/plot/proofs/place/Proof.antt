@@ -1,30 +1,31 @@
--- place meets its contract. Assumes nothing.
-use borrow.Author.Tests.{lt-ltb, le-ltb}
-use Rattle.plot.specs.Drawing.{place}
+use mathlib.Core.Path.{sym, _∙_}
+use Rattle.plot.proofs.Lines.{place-digit, place-one, place-space}
 use borrow.Author.Needs.{needs}
 use Rattle.plot.proofs.place.Statement.{statement}
 use Rattle.plot.proofs.place.Tie as tie
+use Rattle.plot.proofs.place.Reads as reads
+use Rattle.plot.proofs.place.Lts as lts
+use Rattle.plot.proofs.digit.Reads as digit-reads
 
-div-digit : tie.Need-div-digit
-div-digit c = search needs
+-- src/lib.rt:228:9
+digit-requires : tie.Need-digit-requires
+digit-requires c κs = search needs
 
-cast-digit : tie.Need-cast-digit
-cast-digit c = search needs
-
-add-digit : tie.Need-add-digit
-add-digit c = search needs
-
+-- src/lib.rt:228:9
 returns : tie.Need-returns
-unfolding place
-returns c = rw (le-ltb _ _ (c .if1 .taken))
+returns c = c .digit .ensures ∙ sym (place-digit _ _ (c .before .if1 .taken))
 
+-- src/lib.rt:231:9
+digit-requires-2 : tie.Need-digit-requires-2
+digit-requires-2 c κs = search needs
+
+-- src/lib.rt:231:9
 returns-2 : tie.Need-returns-2
-unfolding place
-returns-2 c = rw (lt-ltb _ _ (c .before .if1 .left), le-ltb _ _ (c .if2 .taken))
+returns-2 c = c .digit2 .ensures ∙ sym (place-one _ _ (c .before .if2 .taken))
 
+-- src/lib.rt:223:1
 returns-3 : tie.Need-returns-3
-unfolding place
-returns-3 c = rw (lt-ltb _ _ (c .before .if1 .left), lt-ltb _ _ (c .if2 .left))
+returns-3 c = sym (place-space _ _ (c .before .if1 .left) (c .if2 .left))
 
 pub place-spec : {M : Type 1} → statement M
-place-spec = tie.close (tie.spec div-digit cast-digit add-digit returns returns-2 returns-3)
+place-spec = tie.close (tie.spec digit-requires returns digit-requires-2 returns-2 returns-3)

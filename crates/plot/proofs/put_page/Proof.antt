@@ -1,36 +1,57 @@
--- put_page meets its contract: nothing where there is no space, or the lines of all tracks. Assumes nothing.
 use mathlib.Core.Path.{refl}
 use native.Mathlib.Omega.{arith}
-use Rattle.stack.proofs.Values.{channel-length}
-use Rattle.plot.proofs.Ends.{ends-within}
+use Rattle.plot.proofs.Ends.{ends-asked, arrivals-shown, drawn-right}
 use Rattle.plot.proofs.Lines.{page-left-out, page-whole}
 use borrow.Author.Needs.{needs}
 use Rattle.plot.proofs.put_page.Statement.{statement}
 use Rattle.plot.proofs.put_page.Tie as tie
+use Rattle.plot.proofs.put_page.Reads as reads
+use Rattle.plot.proofs.put_page.Lts as lts
+use Rattle.plot.proofs.fill_ends.Reads as fill-ends-reads
+use Rattle.plot.proofs.put_tracks.Reads as put-tracks-reads
 
+-- src/lib.rt:357:13
 cast-t : tie.Need-cast-t
 cast-t c = search needs
 
+-- src/lib.rt:358:31
 add-bytes : tie.Need-add-bytes
 add-bytes c = search needs
 
+-- src/lib.rt:358:17
 mul-bytes : tie.Need-mul-bytes
 mul-bytes c = search needs
 
+-- src/lib.rt:360:9
 returns : tie.Need-returns
-returns c = page-left-out _ _ _ _ (c .before .before .before .pre .1) _ (search needs)
+returns c = page-left-out _ _ _ _ (omega (arith, c .before .before .before .pre .1)) _ (search needs)
 
+-- src/lib.rt:365:5
 fill-ends-requires : tie.Need-fill-ends-requires
-fill-ends-requires c κs = (omega (arith, c .before .before .before .before .before .pre .0 .few, channel-length (c .before .before .before .before .before .args .terminals)), refl, refl)
+fill-ends-requires c κs = (ends-asked (c .before .before .before .before .before .before .args .terminals) _ _ _ (c .before .before .before .before .before .before .pre .0), refl, refl, refl)
 
+-- src/lib.rt:366:5
 put-tracks-requires : tie.Need-put-tracks-requires
-put-tracks-requires c κs = (ends-within _ _ _ _ _ _ _ (c .before .before .before .before .before .before .before .before .before .pre .0) (c .before .before .before .fill-ends .ensures), omega (arith, c .before .before .before .before .before .before .if1 .left), c .before .before .before .before .before .before .before .before .before .pre .1)
+put-tracks-requires c κs =
+    let start = c .before .before .before .before .before .before .before .before .before .before .before in
+    let filled = c .before .before .before .before .fill-ends .ensures in (
+      filled .low,
+      arrivals-shown (start .args .terminals) _ _ _ (start .pre .0) _ _ _ filled,
+      ends-asked (start .args .terminals) _ _ _ (start .pre .0) .few,
+      omega (arith, c .before .before .before .before .before .before .before .before .if1 .left),
+      start .pre .1,
+    )
 
+-- src/lib.rt:347:1
 same-length : tie.Need-same-length
 same-length c = search needs
 
+-- src/lib.rt:347:1
 returns-2 : tie.Need-returns-2
-returns-2 c = page-whole _ _ _ _ (c .before .before .before .before .before .before .before .before .before .before .before .before .pre .1) _ _ _ _ _ (c .before .before .before .before .before .before .before .before .before .before .before .before .pre .0) (c .before .before .before .before .before .before .fill-ends .ensures) (search needs) (c .before .before .put-tracks .ensures)
+returns-2 c =
+    let start = c .before .before .before .before .before .before .before .before .before .before .before .before .before .before in
+    let filled = c .before .before .before .before .before .before .before .fill-ends .ensures in
+    page-whole _ _ _ _ (omega (arith, start .pre .1)) _ _ _ (drawn-right (start .args .terminals) _ _ _ (start .pre .0) _ _ _ filled (start .pre .1)) (search needs) (c .before .before .put-tracks .ensures)
 
 pub put-page-spec : {M : Type 1} → statement M
 put-page-spec =

@@ -1,62 +1,81 @@
--- put_row meets its contract: dots, and each path's run over them. Assumes nothing.
-use Prim.Native.Nat.{_-_, _≤_}
 use mathlib.Core.Path.{_≡_, sym, _∙_}
+use Prim.Native.Nat.{_-_, _≤_}
 use native.Mathlib.Omega.{arith}
+use lib.ListN.{getD}
 use Rattle.numbers.specs.Lists.{tabulate}
 use Rattle.page.specs.Arrivals.{painted}
-use Rattle.plot.proofs.Rows.{rule-long, row-starts, row-steps, row-ends, arrival-below}
+use Rattle.plot.specs.Drawing.{run-mark}
+use Rattle.plot.proofs.Rows.{rule-long, row-starts, row-joins, row-ends}
 use borrow.Author.Needs.{needs}
 use Rattle.plot.proofs.put_row.Statement.{statement}
 use Rattle.plot.proofs.put_row.Tie as tie
+use Rattle.plot.proofs.put_row.Reads as reads
+use Rattle.plot.proofs.put_row.Lts as lts
+use Rattle.plot.proofs.fill.Reads as fill-reads
+use Rattle.plot.proofs.mark_runs.Reads as mark-runs-reads
+use Rattle.plot.proofs.put_eight.Reads as put-eight-reads
+use Rattle.plot.proofs.put_runs.Reads as put-runs-reads
 
 abbrev Inv-loop : tie.InvT-loop
-Inv-loop row₀ from upto m t y j₀ row j = (j ≤ m) × (row ≡ tabulate 64 0 (λ c. painted from upto m t y j c))
+Inv-loop row₀ starts ends m up down marks j₀ row j = (j ≤ m) × (marks ≡ tabulate 32 0 (λ i. run-mark (getD starts i 0) (getD ends i 0))) × (row ≡ tabulate 64 0 (λ c. painted (λ i. getD starts i 0) (λ i. getD ends i 0) up down 0 j c 46))
 
 abbrev μ-loop : tie.MeasureT-loop
-μ-loop row₀ from upto m t y j₀ row j = m - j
+μ-loop row₀ starts ends m up down marks j₀ row j = m - j
 
+-- src/lib.rt:203:5
 fill-requires : tie.Need-fill-requires Inv-loop μ-loop
 fill-requires c κs = search needs
 
+-- src/lib.rt:205:5
+mark-runs-requires : tie.Need-mark-runs-requires Inv-loop μ-loop
+mark-runs-requires c κs = search needs
+
+-- src/lib.rt:207:5
 loop-holds : tie.Need-loop-holds Inv-loop μ-loop
-loop-holds c = (omega arith, row-starts _ _ _ _ _ (c .before .before .before .before .before .args .row .now) _ (c .before .before .fill .ensures))
+loop-holds c = (omega arith, c .mark-runs .ensures, row-starts _ _ _ _ (c .before .before .before .before .before .before .before .args .row .now) _ (c .before .before .before .before .fill .ensures))
 
-arrival-requires : tie.Need-arrival-requires Inv-loop μ-loop
-arrival-requires c κs = search needs
+-- src/lib.rt:207:11
+add-loop : tie.Need-add-loop Inv-loop μ-loop
+add-loop c = search needs
 
-add-arrival : tie.Need-add-arrival Inv-loop μ-loop
-add-arrival c = search needs
+-- src/lib.rt:208:9
+put-eight-requires : tie.Need-put-eight-requires Inv-loop μ-loop
+put-eight-requires c κs =
+    let asks = c .before .before .before .before .before .before .before .before .before .before .before .pre .0 in
+    let loop = c .before .before .before .loop in
+    (record { columns = rule-long _ (loop .inv .2); starts-shown = λ i l. asks .starts-shown i (omega (arith, c .before .before .loop-test .taken)); ends-shown = λ i l. asks .ends-shown i (omega (arith, c .before .before .loop-test .taken)) }, omega (arith, c .before .before .loop-test .taken, c .before .before .before .before .before .before .before .before .before .before .before .pre .1), loop .inv .1)
 
-arrival-requires-2 : tie.Need-arrival-requires-2 Inv-loop μ-loop
-arrival-requires-2 c κs = search needs
-
-put-run-requires : tie.Need-put-run-requires Inv-loop μ-loop
-put-run-requires c κs =
-    let start = c .before .before .before .before .before .before .before .before .before .before in
-    record {
-      columns = rule-long _ (c .before .before .before .before .loop .inv .1);
-      from = rw (c .before .before .arrival .ensures) (arrival-below _ _ _ _ _ (start .pre .0) (search needs));
-      upto = rw (c .before .arrival2 .ensures) (arrival-below _ _ _ _ _ (start .pre .0) (search needs));
-    }
-
+-- src/lib.rt:209:9
 add-j : tie.Need-add-j Inv-loop μ-loop
 add-j c = search needs
 
+-- src/lib.rt:207:5
 loop-less : tie.Need-loop-less Inv-loop μ-loop
 loop-less c = search needs
 
+-- src/lib.rt:207:5
 loop-again : tie.Need-loop-again Inv-loop μ-loop
 loop-again c =
-    let round = c .before .before .before .before .before .before .before .loop in (
-      omega arith,
-      row-steps _ _ _ _ _ (round .row) _ _ _ _ (round .inv .1) (c .before .before .before .before .before .arrival .ensures) (c .before .before .before .before .arrival2 .ensures) (c .before .before .put-run .ensures),
-    )
+    let start = c .before .before .before .before .before .before .before .before .before .before .before .before .before .before in
+    let loop = c .before .before .before .before .before .before .loop in
+    (omega (arith, c .before .before .before .before .before .loop-test .taken), loop .inv .1, row-joins (λ i. getD (start .args .starts .now) i 0) (λ i. getD (start .args .ends .now) i 0) (start .args .up) (start .args .down) (loop .j) 8 (loop .row) _ (loop .inv .2) (c .before .before .put-eight .ensures))
 
+-- src/lib.rt:211:5
+put-runs-requires : tie.Need-put-runs-requires Inv-loop μ-loop
+put-runs-requires c κs =
+    let asks = c .before .before .before .before .before .before .before .before .before .before .pre .0 in
+    (record { columns = rule-long _ (c .before .before .loop .inv .2); starts-shown = asks .starts-shown; ends-shown = asks .ends-shown }, c .before .before .before .before .before .before .before .before .before .before .pre .1)
+
+-- src/lib.rt:192:1
 same-length : tie.Need-same-length Inv-loop μ-loop
-same-length c = rule-long _ (c .before .loop .inv .1) ∙ sym (c .before .before .before .before .before .before .before .pre .1)
+same-length c = rule-long _ (c .before .before .put-runs .ensures) ∙ sym (c .before .before .before .before .before .before .before .before .before .before .before .before .before .pre .0 .columns)
 
+-- src/lib.rt:192:1
 returns : tie.Need-returns Inv-loop μ-loop
-returns c = row-ends _ _ _ _ _ _ _ (c .loop-test .left) (c .before .loop .inv .0) (c .before .loop .inv .1)
+returns c =
+    let start = c .before .before .before .before .before .before .before .before .before .before .before .before .before in
+    let loop = c .before .before .before .before .before .loop in
+    row-ends (λ i. getD (start .args .starts .now) i 0) (λ i. getD (start .args .ends .now) i 0) (start .args .up) (start .args .down) (loop .j) (start .args .m) (loop .row) _ (loop .inv .0) (loop .inv .2) (c .before .before .put-runs .ensures)
 
 pub put-row-spec : {M : Type 1} → statement M
 put-row-spec =
@@ -65,13 +84,13 @@ put-row-spec =
     Inv-loop
     μ-loop
     fill-requires
+    mark-runs-requires
     loop-holds
-    arrival-requires
-    add-arrival
-    arrival-requires-2
-    put-run-requires
+    add-loop
+    put-eight-requires
     add-j
     loop-less
     loop-again
+    put-runs-requires
     same-length
     returns)

@@ -41,7 +41,9 @@ part-put-row-end : tie.Need-part-put-row-end
 part-put-row-end c = simp length-set (omega arith)
 
 put-row-requires : tie.Need-put-row-requires
-put-row-requires c κs = search needs
+put-row-requires c κs =
+    let pre = c .before .before .before .before .before .pre in
+    (record { columns = search needs; starts-shown = pre .0; ends-shown = pre .1 }, pre .2)
 
 sub-out : tie.Need-sub-out
 sub-out c = search needs
@@ -50,18 +52,18 @@ slice-write-out-5 : tie.Need-slice-write-out-5
 slice-write-out-5 c =
     let start = c .before .before .before .before .before .before .before .before in
     let put = c .before .before .put-row in
-    omega (arith, line-room (start .args .out .now) (put .last .0) (c .before .before .before .before .before .before .place .result) (c .before .before .before .before .before .place2 .result) (c .before .before .before .before .place3 .result) (start .pre .1) (rule-long _ (put .ensures)), start .pre .1)
+    omega (arith, line-room (start .args .out .now) (put .last .0) (c .before .before .before .before .before .before .place .result) (c .before .before .before .before .before .place2 .result) (c .before .before .before .before .place3 .result) (start .pre .3) (rule-long _ (put .ensures)), start .pre .3)
 
 same-length : tie.Need-same-length
 same-length c =
     let start = c .before .before .before .before .before .before .before .before in
     let put = c .before .before .put-row in
-    simp length-set (line-room (start .args .out .now) (put .last .0) (c .before .before .before .before .before .before .place .result) (c .before .before .before .before .before .place2 .result) (c .before .before .before .before .place3 .result) (start .pre .1) (rule-long _ (put .ensures)))
+    simp length-set (line-room (start .args .out .now) (put .last .0) (c .before .before .before .before .before .before .place .result) (c .before .before .before .before .before .place2 .result) (c .before .before .before .before .place3 .result) (start .pre .3) (rule-long _ (put .ensures)))
 
 returns : tie.Need-returns
 returns c =
     let start = c .before .before .before .before .before .before .before .before in
-    line-put _ _ (start .args .out .now) _ _ _ _ (start .pre .1) (start .pre .2) (c .before .before .before .before .before .before .place .ensures) (c .before .before .before .before .before .place2 .ensures) (c .before .before .before .before .place3 .ensures)
+    line-put _ _ (start .args .out .now) _ _ _ _ (start .pre .3) (start .pre .4) (c .before .before .before .before .before .before .place .ensures) (c .before .before .before .before .before .place2 .ensures) (c .before .before .before .before .place3 .ensures)
     (c .before .before .put-row .ensures)
 
 pub put-track-spec : {M : Type 1} → statement M
