@@ -1,4 +1,5 @@
 -- Laws of a channel's limits.
 pub mod Between
-pub mod Seeking
+pub mod Terms
+pub mod Filling
 pub mod Trying

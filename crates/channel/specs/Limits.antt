@@ -6,11 +6,12 @@ use mathlib.Core.Bool.{Bool, true, _&&_}
 use mathlib.Core.List.{List}
 use Prim.Native.Nat.{ℕ, zero, suc, _+_, _*_, _-_, _^_, _≤_, _<_, min, max}
 use lib.Dec.{leb}
-use lib.ListN.{length}
+use lib.ListN.{length, getD}
 use Rattle.numbers.specs.Lists.{tabulate, filled}
-use Rattle.stack.specs.Stack.{Pair, p-at, q-at}
+use Rattle.stack.specs.Stack.{Pair, pair, p-at, q-at}
 use Rattle.stack.specs.Sizes.{separations-held}
-use Rattle.channel.specs.declared.Bounds.{Bounds}
+use Rattle.stack.specs.Value.{columns}
+use Rattle.stack.specs.declared.Columns.{Columns}
 use Rattle.channel.specs.declared.Limits.{Limits}
 
 -- p(j - t) + t - q(j) with j = i + t
@@ -52,22 +53,49 @@ pub record Wide (n r : ℕ) : Type 0 where
   pub same : r ≡ n
   pub fits : r < 2 ^ 32
 
--- the limits at one separation
-pub record Bounds-at (c : List Pair) (t : ℕ) (r : Bounds) : Type 0 where
-  pub low : r .low ≡ low-limit bias c t
-  pub high : r .high ≡ high-limit bias c t
+-- the code's bias while it seeks the greatest and the least of the terms
+abbrev pub term-bias : ℕ
+term-bias = 2048
 
--- while the limits at a separation are found: the first i terms are seen
-pub record Seeking (c : List Pair) (t i low high : ℕ) : Type 0 where
-  pub seen : i ≤ length c - t
-  pub greatest-seen : low ≡ greatest bias c t i
-  pub least-seen : high ≡ least bias c t i
+-- a term raised by it, raised by the code's bias
+abbrev pub raised : (term : ℕ) → ℕ
+raised x = bias - term-bias + x
 
--- while the arrays are filled: the first t separations stand, the rest is open
-pub record Filling (c : List Pair) (t : ℕ) (low high : List ℕ) : Type 0 where
-  pub below : t ≤ length c
-  pub lows : low ≡ filled separations-held t (λ s. low-limit bias c s) 0
-  pub highs : high ≡ filled separations-held t (λ s. high-limit bias c s) (2 * bias)
+-- a place for each index of a pair with a separation added
+abbrev pub places-held : ℕ
+places-held = 64
+
+-- the first so many numbers are at most n
+pub record At-most (n many : ℕ) (f : ℕ → ℕ) : Type 0 where
+  pub each : (j : ℕ) → j < many → f j ≤ n
+
+-- the terminals of an edge, and r behind the last
+unfoldable pub narrowed : (edge : List Columns) → (pairs r : ℕ) → List ℕ
+narrowed e n r = filled places-held n (λ j. getD e j (columns 0) .0) r
+
+-- the pairs of two such lists
+unfoldable pub paired : (ps qs : List ℕ) → List Pair
+paired ps qs = tabulate places-held 0 (λ j. pair (getD ps j 0) (getD qs j 0))
+
+-- the greatest and the least of 32 terms, raised by the code's bias
+abbrev pub low-found : (ps qs : List ℕ) → (t : ℕ) → ℕ
+low-found ps qs t = raised (greatest term-bias (paired ps qs) t 32)
+
+abbrev pub high-found : (ps qs : List ℕ) → (t : ℕ) → ℕ
+high-found ps qs t = raised (least term-bias (paired ps qs) t 32)
+
+-- a channel's pairs first, and pairs of the same two terminals behind them
+pub record Padded (c : List Pair) (p q : ℕ) (d : List Pair) : Type 0 where
+  pub p-same : (j : ℕ) → j < length c → p-at d j ≡ p-at c j
+  pub q-same : (j : ℕ) → j < length c → q-at d j ≡ q-at c j
+  pub p-rest : (j : ℕ) → length c ≤ j → j < places-held → p-at d j ≡ p
+  pub q-rest : (j : ℕ) → length c ≤ j → j < places-held → q-at d j ≡ q
+
+-- while the arrays are filled by two rules: the first t of n separations stand, the rest is open
+pub record Filling (f g : ℕ → ℕ) (n t : ℕ) (low high : List ℕ) : Type 0 where
+  pub below : t ≤ n
+  pub lows : low ≡ filled separations-held t f 0
+  pub highs : high ≡ filled separations-held t g (2 * bias)
 
 -- the limits for every separation
 pub record Limits-of (c : List Pair) (r : Limits) : Type 0 where

@@ -1,21 +1,35 @@
 // The limits on a channel's offset, and the test whether a channel is feasible.
 ghost use mathlib.Core.Path.{_≡_};
-ghost use Prim.Native.Nat.{_≤_, _<_};
+ghost use mathlib.Core.Bool.{true};
+ghost use Prim.Native.Nat.{_≤_, min, max};
+ghost use lib.ListN.{getD};
 ghost use Rattle.stack.specs.Stack.{feasible};
-ghost use Rattle.stack.specs.Value.{channel-of};
-ghost use Rattle.channel.specs.Limits.{Wide, Bounds-at, Limits-of, clear};
-use numbers::greater;
-use numbers::lesser;
+ghost use Rattle.stack.specs.Limits.{on-strips};
+ghost use Rattle.stack.specs.Value.{columns, channel-of};
+ghost use Rattle.channel.specs.Limits.{
+  Wide,
+  greatest,
+  least,
+  term-bias,
+  places-held,
+  At-most,
+  narrowed,
+  paired,
+  raised,
+  Limits-of,
+  clear,
+};
 use stack::Columns;
 use stack::Stack;
 use stack::Terminals;
 use stack::Tracks;
 
-// The least and greatest offset at one separation, raised by Stack::BIAS.
-pub struct Bounds {
-    pub low: u64,
-    pub high: u64,
-}
+// Added to the terms of L(t) and R(t) while the greatest and the least are sought, so that none is negative and all fit 16 bits, for which the processor has a
+// maximum and a minimum of eight numbers at once: more than a terminal and a separation together.
+const TERM_BIAS: u16 = 2048;
+
+// A place for each index of a pair with a separation added.
+const PLACES: usize = 2 * Terminals::MAX_PAIRS;
 
 // The least and greatest offset for each separation from 0 on, raised by Stack::BIAS.
 pub struct Limits {
@@ -29,38 +43,82 @@ fn wide(c: Columns) -> u64
     c.0 as u64
 }
 
-// L(t) and R(t) of a channel with more than t pairs.
-fn bounds_at(terminals: Terminals, t: usize) -> Bounds
-    requires { ⌜ (t < terminals .count) × (terminals .count ≤ 32) ⌝ }
-    ensures { λ r. ⌜ Bounds-at (channel-of terminals) t r ⌝ }
+fn greater(a: u16, b: u16) -> u16
+    ensures { λ r. ⌜ r ≡ max a b ⌝ }
 {
-    let wide_t = t as u64;
-    let mut low: u64 = 0;
-    let mut high: u64 = 2 * Stack::BIAS;
-    let terms = terminals.count - t;
-    for i in 0..terms {
-        let p_here = wide(terminals.lower[i]);
-        let q_here = wide(terminals.upper[i]);
-        let p_on = wide(terminals.lower[i + t]);
-        let q_on = wide(terminals.upper[i + t]);
-        low = greater(low, Stack::BIAS + p_here + wide_t - q_on);
-        high = lesser(high, Stack::BIAS + p_on - (wide_t + q_here));
-    }
-    Bounds { low, high }
+    if a < b { b } else { a }
 }
 
-// L(t) and R(t) for every t.
+fn lesser(a: u16, b: u16) -> u16
+    ensures { λ r. ⌜ r ≡ min a b ⌝ }
+{
+    if a < b { a } else { b }
+}
+
+// The terminals of an edge on 16 bits, and `rest` in the places behind the last.
+fn narrowed(edge: [Columns; Terminals::MAX_PAIRS], count: usize, rest: u16) -> [u16; PLACES]
+    requires { ⌜ (count ≤ 32) × At-most 1000 count (λ j. getD edge j (columns 0) .0) ⌝ }
+    ensures { λ r. ⌜ r ≡ narrowed edge count rest ⌝ }
+{
+    let mut narrow = [rest; PLACES];
+    for j in 0..count {
+        narrow[j] = edge[j].0 as u16;
+    }
+    narrow
+}
+
+// The greatest of 32 terms p(i) + t - q(i + t), raised by TERM_BIAS.
+fn greatest_term(p: &[u16; PLACES], q: &[u16; PLACES], t: usize) -> u16
+    requires { ⌜ (t ≤ 32) × At-most 1000 places-held (λ j. getD (now p) j 0) × At-most term-bias places-held (λ j. getD (now q) j 0) ⌝ }
+    ensures { λ r. ⌜ r ≡ greatest term-bias (paired (now (p .entry)) (now (q .entry))) t 32 ⌝ }
+{
+    let tracks = t as u16;
+    let mut most: u16 = 0;
+    for i in 0..Terminals::MAX_PAIRS {
+        most = greater(most, TERM_BIAS + p[i] + tracks - q[i + t]);
+    }
+    most
+}
+
+// The least of 32 terms p(i + t) - t - q(i), raised by TERM_BIAS.
+fn least_term(p: &[u16; PLACES], q: &[u16; PLACES], t: usize) -> u16
+    requires { ⌜ (t ≤ 32) × At-most term-bias places-held (λ j. getD (now p) j 0) × At-most 1000 places-held (λ j. getD (now q) j 0) ⌝ }
+    ensures { λ r. ⌜ r ≡ least term-bias (paired (now (p .entry)) (now (q .entry))) t 32 ⌝ }
+{
+    let tracks = t as u16;
+    let mut most: u16 = 2 * TERM_BIAS;
+    for i in 0..Terminals::MAX_PAIRS {
+        most = lesser(most, TERM_BIAS + p[i + t] - (tracks + q[i]));
+    }
+    most
+}
+
+// A term that is raised by TERM_BIAS, raised by Stack::BIAS.
+fn raised(term: u16) -> u64
+    ensures { λ r. ⌜ r ≡ raised term ⌝ }
+{
+    Stack::BIAS - TERM_BIAS as u64 + term as u64
+}
+
+// L(t) and R(t) for every t. Behind the last pair a terminal with t added to its index is TERM_BIAS and one without is 0, so a term past the last of L(t) is less
+// than every term of L(t), and one past the last of R(t) greater than every term of R(t): the greatest and the least of 32 terms are those of the terms there are.
 pub fn channel_limits(terminals: Terminals) -> Limits
     requires { ⌜ terminals .count ≤ 32 ⌝ }
+    requires { ⌜ on-strips 1000 1000 (channel-of terminals) ≡ true ⌝ }
     ensures { λ r. ⌜ Limits-of (channel-of terminals) r ⌝ }
 {
+    let pairs = terminals.count;
+    let lower = terminals.lower;
+    let upper = terminals.upper;
+    let p = narrowed(lower, pairs, 0);
+    let q = narrowed(upper, pairs, 0);
+    let p_on = narrowed(lower, pairs, TERM_BIAS);
+    let q_on = narrowed(upper, pairs, TERM_BIAS);
     let mut low = [0u64; Stack::SEPARATIONS];
     let mut high = [2 * Stack::BIAS; Stack::SEPARATIONS];
-    let pairs = terminals.count;
     for t in 0..pairs {
-        let at = bounds_at(terminals, t);
-        low[t] = at.low;
-        high[t] = at.high;
+        low[t] = raised(greatest_term(&p, &q_on, t));
+        high[t] = raised(least_term(&p_on, &q, t));
     }
     Limits { low, high }
 }

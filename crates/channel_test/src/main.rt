@@ -8,7 +8,6 @@ use numbers::difference;
 use stack::Columns;
 use stack::Stack;
 use stack::Strip;
-use stack::StripMade;
 use stack::Terminals;
 use stack::Tracks;
 use test_io::next_number;
@@ -98,10 +97,11 @@ fn read_values(text: &[u8], from: usize, count: usize, values: &mut [u32; 64]) -
     at
 }
 
-fn longest() -> Strip {
-    match Strip::new(Strip::MAX_LENGTH) {
-        StripMade::Made(s) => s,
-        StripMade::Length => Strip { length: Columns(0) },
+fn longest() -> Strip
+    ensures { λ r. ⌜ r .length .0 ≤ 1000 ⌝ }
+{
+    Strip {
+        length: Columns(Strip::MAX_LENGTH),
     }
 }
 

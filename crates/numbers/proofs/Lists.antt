@@ -8,8 +8,8 @@ use Prim.Native.Nat.{ℕ, zero, suc, _+_, _-_, _≤_, _<_}
 use native.Mathlib.Nat.{add-zero, zero-add, add-suc, suc-add, sub-zero}
 use native.Mathlib.Numerals.{add-one}
 use native.Mathlib.Omega.{arith}
-use lib.ListN.{length, getD, set, take, replicate}
-use lib.Seq.{set-at, take-at}
+use lib.ListN.{length, getD, set, take, replicate, List·getD-append, getD-replicate}
+use lib.Seq.{set-at, take-at, getD-append-add}
 use Rattle.numbers.specs.Lists.{tabulate, filled, padded}
 
 pub length-tabulate {ℓ} : {A : Type ℓ} (n i : ℕ) (f : ℕ → A) → length (tabulate n i f) ≡ n
@@ -93,6 +93,19 @@ filled-ends n t f d h k =
   where
     rest : tabulate (n - t) (0 + t) f ≡ tabulate (n - t) (0 + t) (λ s. d)
     rest = tabulate-same (n - t) (0 + t) f (λ s. d) (λ s l u. k s (omega (arith, zero-add t)))
+
+-- its elements: by the rule, and d
+pub filled-first {ℓ} : {A : Type ℓ} (n t j : ℕ) (f : ℕ → A) (d e : A) → j < t → getD (filled n t f d) j e ≡ f j
+unfolding filled
+filled-first n t j f d e h =
+    List·getD-append (tabulate t 0 f) (replicate (n - t) d) e j (omega (arith, length-tabulate t 0 f)) ∙ getD-tabulate t j f e h
+
+pub filled-rest {ℓ} : {A : Type ℓ} (n t j : ℕ) (f : ℕ → A) (d e : A) → t ≤ j → j < n → getD (filled n t f d) j e ≡ d
+unfolding filled
+filled-rest n t j f d e h k =
+    let at : j ≡ length (tabulate t 0 f) + (j - t) = omega (arith, length-tabulate t 0 f) in
+    ap (λ i. getD (tabulate t 0 f ++ replicate (n - t) d) i e) at
+    ∙ (getD-append-add (tabulate t 0 f) (replicate (n - t) d) (j - t) e ∙ getD-replicate (n - t) (j - t) d e (omega arith))
 
 -- a map of a list with one element written
 pub map-set : {A B : Type 0} (f : A → B) (xs : List A) (i : ℕ) (a : A) → map f (set xs i a) ≡ set (map f xs) i (f a)

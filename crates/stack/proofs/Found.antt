@@ -10,10 +10,11 @@ use native.Mathlib.Omega.{arith}
 use lib.Dec.{ltb, leb}
 use lib.ListN.{length, getD, drop, drop-of-length-le}
 use lib.Seq.{drop-cons}
-use borrow.Author.Tests.{leb-false, ltb-false, lt-ltb, le-ltb}
+use borrow.Author.Tests.{leb-false, ltb-false, lt-ltb, le-ltb, le-leb}
 use Rattle.numbers.specs.Lists.{tabulate}
 use Rattle.numbers.proofs.Lists.{length-tabulate, getD-tabulate, tabulate-snoc}
 use Rattle.stack.specs.Stack.{Pair, pair, p-at, q-at}
+use Rattle.stack.specs.Limits.{on-strips}
 use Rattle.stack.specs.Value.{columns, channel-of}
 use Rattle.stack.specs.Made.{not-above, is-good, pair-found, or-fault, pairs-found, terminals-found, kept, pairs-in, Pair-made, Making, Terminals-made, Stored}
 use Rattle.stack.specs.declared.Columns.{Columns}
@@ -174,3 +175,44 @@ made-few xs n lo hi r m = go (is-good (r .found)) refl
         let all : r .terminals .count ≡ length (pairs-in xs n) = counted ∙ rw (good-is (r .found) g) in
         omega arith
     go false g = let none : r .terminals .count ≡ 0 = counted ∙ rw (fault-keeps (r .found) (pairs-in xs n) [] g) in omega arith
+
+-- nothing is found, so neither of two tests found anything
+test-passed : (b : Bool) (f r : TerminalsFound) → is-good f ≡ false → is-good (cond b f r) ≡ true → (b ≡ false) × (is-good r ≡ true)
+test-passed true f r h e = let z : _≡_ {A = ℕ} 0 1 = cc in absurd (omega arith)
+test-passed false f r h e = (refl, e)
+
+both-good : (f r : TerminalsFound) → is-good (or-fault f r) ≡ true → (is-good f ≡ true) × (is-good r ≡ true)
+unfolding or-fault
+both-good Good r e = (refl, e)
+both-good Crowd r e = let z : _≡_ {A = ℕ} 0 1 = cc in absurd (omega arith)
+both-good (Overhang n) r e = let z : _≡_ {A = ℕ} 0 1 = cc in absurd (omega arith)
+both-good (Crossing n) r e = let z : _≡_ {A = ℕ} 0 1 = cc in absurd (omega arith)
+
+pair-on-strips : (c : List Pair) (lo hi p q : ℕ) → is-good (pair-found c lo hi p q) ≡ true → (p ≤ lo) × (q ≤ hi)
+unfolding pair-found
+pair-on-strips c lo hi p q e =
+    let n = length c in
+    let room = test-passed (leb 32 n) Crowd _ refl e in
+    let p-on = test-passed (ltb lo p) (Overhang (2 * n)) _ refl (room .1) in
+    let p-above = test-passed (not-above n (p-at c (n - 1)) p) (Crossing (2 * n)) _ refl (p-on .1) in
+    let q-on = test-passed (ltb hi q) (Overhang (2 * n + 1)) _ refl (p-above .1) in
+    (ltb-false lo p (p-on .0), ltb-false hi q (q-on .0))
+
+pairs-on-strips : (c : List Pair) (lo hi : ℕ) (xs : List Pair) → is-good (pairs-found c lo hi xs) ≡ true → on-strips lo hi xs ≡ true
+unfolding pairs-found on-strips
+pairs-on-strips c lo hi [] e = refl
+pairs-on-strips c lo hi (x ∷ xs) e =
+    let good = both-good (pair-found c lo hi (x .p) (x .q)) (pairs-found (c ++ (x ∷ [])) lo hi xs) e in
+    let on = pair-on-strips c lo hi (x .p) (x .q) (good .0) in
+    rw (le-leb (x .p) lo (on .0), le-leb (x .q) hi (on .1)) (pairs-on-strips (c ++ (x ∷ [])) lo hi xs (good .1))
+
+-- terminals that are made lie on their strips, whatever was found
+pub made-on-strips : (xs : List ℕ) (n lo hi : ℕ) (r : TerminalsMade) → Terminals-made xs n lo hi r → on-strips lo hi (channel-of (r .terminals)) ≡ true
+unfolding kept terminals-found on-strips
+made-on-strips xs n lo hi r m = go (is-good (r .found)) refl
+  where
+    go : (b : Bool) → is-good (r .found) ≡ b → on-strips lo hi (channel-of (r .terminals)) ≡ true
+    go true g =
+        let tests : is-good (terminals-found lo hi (pairs-in xs n)) ≡ true = rw (m .found) at g in
+        rw (m .pairs, good-is (r .found) g) (pairs-on-strips [] lo hi (pairs-in xs n) (test-passed (ltb 32 (length (pairs-in xs n))) Crowd _ refl tests .1))
+    go false g = rw (m .pairs, fault-keeps (r .found) (pairs-in xs n) [] g)

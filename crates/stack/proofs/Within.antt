@@ -9,10 +9,11 @@ use borrow.Author.Tests.{leb-true}
 use Rattle.numbers.proofs.Bools.{ands, impossible}
 use Rattle.numbers.proofs.Lists.{length-tabulate, getD-tabulate}
 use Rattle.stack.specs.Stack.{Pair, Stack, stack}
-use Rattle.stack.specs.Limits.{rising, all-rising, channel-within, channels-within, within-limits}
+use Rattle.stack.specs.Limits.{rising, all-rising, on-strips, channel-within, channels-within, strips-within, within-limits}
 use Rattle.stack.specs.Value.{strip, no-terminals, channel-of, length-at, channel-at, stack-of}
 use Rattle.stack.specs.declared.Stack.{Stack as Stack-struct}
 use Rattle.stack.proofs.Values.{channel-length}
+use Rattle.stack.proofs.OnStrips.{on-longer}
 
 -- one strip more than channels
 pub strips-length : (ls : List ℕ) (cs : List (List Pair)) → channels-within ls cs ≡ true → length ls ≡ suc (length cs)
@@ -32,6 +33,13 @@ channel-in-limits (l ∷ []) (c ∷ cs) i e h = impossible e
 channel-in-limits (l ∷ u ∷ ls) [] i e h = impossible e
 channel-in-limits (l ∷ u ∷ ls) (c ∷ cs) zero e h = search ands
 channel-in-limits (l ∷ u ∷ ls) (c ∷ cs) (suc i) e h = channel-in-limits (u ∷ ls) cs i (search ands) (omega arith)
+
+-- each strip's length is at most 1,000
+strip-length : (ls : List ℕ) (i : ℕ) → strips-within ls ≡ true → getD ls i 0 ≤ 1000
+unfolding strips-within
+strip-length [] i e = omega arith
+strip-length (l ∷ ls) zero e = leb-true l 1000 (search ands)
+strip-length (l ∷ ls) (suc i) e = strip-length ls i (search ands)
 
 channels-rising : (ls : List ℕ) (cs : List (List Pair)) → channels-within ls cs ≡ true → all-rising cs ≡ true
 unfolding channels-within channel-within all-rising
@@ -76,6 +84,17 @@ module _ (k : Stack-struct) (good : within-limits (stack-of k) ≡ true) where
       let w = channel-in-limits (stack-of k .strips) (stack-of k .channels) i (search ands) (omega (arith, stack-channels k)) in
       let n = leb-true (length (getD (stack-of k .channels) i [])) 32 (search ands) in
       omega (arith, ap length (stack-channel k i h), channel-length (getD (k .channels) i no-terminals))
+
+  -- its channels' terminals are at most the greatest length
+  pub on-longest-strips : (i : ℕ) → i < k .count → on-strips 1000 1000 (channel-of (getD (k .channels) i no-terminals)) ≡ true
+  unfolding within-limits channel-within
+  on-longest-strips i h =
+      let w = channel-in-limits (stack-of k .strips) (stack-of k .channels) i (search ands) (omega (arith, stack-channels k)) in
+      let l = getD (stack-of k .strips) i 0 in
+      let u = getD (stack-of k .strips) (suc i) 0 in
+      rw (stack-channel k i h) at
+      (on-longer l u 1000 1000 (getD (stack-of k .channels) i []) (strip-length (stack-of k .strips) i (search ands)) (strip-length (stack-of k .strips) (suc i) (search ands))
+      (search ands))
 
 -- a stack within the limits has one strip more than channels
 pub strips-count : (k : Stack) → within-limits k ≡ true → length (k .strips) ≡ suc (length (k .channels))

@@ -4,7 +4,7 @@ use Prim.Native.Nat.{_≤_, _-_}
 use native.Mathlib.Omega.{arith}
 use borrow.Author.Count.{falls}
 use Rattle.stack.specs.Value.{stack-of}
-use Rattle.stack.proofs.Within.{few-channels, few-pairs}
+use Rattle.stack.proofs.Within.{few-channels, few-pairs, on-longest-strips}
 use Rattle.answer.specs.Arrays.{Limits-in}
 use Rattle.answer.proofs.Standing.{limits-step}
 use borrow.Author.Needs.{needs}
@@ -27,7 +27,10 @@ element-copy-out-terminals : tie.Need-element-copy-out-terminals Inv-loop μ-loo
 element-copy-out-terminals c = omega (arith, few-channels (c .before .before .args .t1) (c .before .before .pre .0))
 
 channel-limits-requires : tie.Need-channel-limits-requires Inv-loop μ-loop
-channel-limits-requires c κs = few-pairs (c .before .before .before .args .t1) (c .before .before .before .pre .0) (c .before .before .loop .i) (c .before .loop-test .taken)
+channel-limits-requires c κs =
+    let a = c .before .before .before in
+    let i = c .before .before .loop .i in
+    (few-pairs (a .args .t1) (a .pre .0) i (c .before .loop-test .taken), on-longest-strips (a .args .t1) (a .pre .0) i (c .before .loop-test .taken))
 
 mul-lows : tie.Need-mul-lows Inv-loop μ-loop
 mul-lows c =

@@ -1,35 +1,66 @@
 -- channel_limits meets its contract: the loop keeps Filling. Assumes nothing.
+use mathlib.Core.Path.{ap, _∙_}
 use Prim.Native.Nat.{_-_}
 use native.Mathlib.Omega.{arith}
 use borrow.Author.Count.{falls}
-use Rattle.stack.specs.Value.{channel-of}
-use Rattle.stack.proofs.Values.{channel-length}
-use Rattle.channel.specs.Limits.{Filling}
-use Rattle.channel.proofs.Seeking.{filling-starts, filling-steps, filling-ends}
+use Rattle.channel.specs.Limits.{term-bias, raised, low-found, high-found, Filling}
+use Rattle.channel.proofs.Terms.{narrowed-held, terminals-at-most}
+use Rattle.channel.proofs.Filling.{filling-starts, filling-steps, filling-ends}
 use borrow.Author.Needs.{needs}
 use Rattle.channel.proofs.channel_limits.Statement.{statement}
 use Rattle.channel.proofs.channel_limits.Tie as tie
 
 abbrev Inv-loop : tie.InvT-loop
-Inv-loop terminals low₀ high₀ pairs t₀ low high t = Filling (channel-of terminals) t low high
+Inv-loop pairs p q p-on q-on low₀ high₀ t₀ low high t = Filling (λ s. low-found p q-on s) (λ s. high-found p-on q s) pairs t low high
 
 abbrev μ-loop : tie.MeasureT-loop
-μ-loop terminals low₀ high₀ pairs t₀ low high t = pairs - t
+μ-loop pairs p q p-on q-on low₀ high₀ t₀ low high t = pairs - t
+
+narrowed-requires : tie.Need-narrowed-requires Inv-loop μ-loop
+narrowed-requires c κs = (c .before .before .pre .0, terminals-at-most (c .before .before .args .terminals) (c .before .before .pre .1) .0)
+
+narrowed-requires-2 : tie.Need-narrowed-requires-2 Inv-loop μ-loop
+narrowed-requires-2 c κs = (c .before .before .before .pre .0, terminals-at-most (c .before .before .before .args .terminals) (c .before .before .before .pre .1) .1)
+
+narrowed-requires-3 : tie.Need-narrowed-requires-3 Inv-loop μ-loop
+narrowed-requires-3 c κs = (c .before .before .before .before .pre .0, terminals-at-most (c .before .before .before .before .args .terminals) (c .before .before .before .before .pre .1) .0)
+
+narrowed-requires-4 : tie.Need-narrowed-requires-4 Inv-loop μ-loop
+narrowed-requires-4 c κs = (c .before .before .before .before .before .pre .0, terminals-at-most (c .before .before .before .before .before .args .terminals) (c .before .before .before .before .before .pre .1) .1)
 
 mul-high : tie.Need-mul-high Inv-loop μ-loop
 mul-high c = search needs
 
 loop-holds : tie.Need-loop-holds Inv-loop μ-loop
-loop-holds c = filling-starts (channel-of (c .args .terminals))
+loop-holds c = filling-starts _ _ _
 
-bounds-at-requires : tie.Need-bounds-at-requires Inv-loop μ-loop
-bounds-at-requires c κs = search needs
+greatest-term-requires : tie.Need-greatest-term-requires Inv-loop μ-loop
+greatest-term-requires c κs =
+    let a = c .before .before .before .before .before .before .before .before .before .before in (
+      omega (arith, a .pre .0, c .before .before .loop-test .taken),
+      narrowed-held (a .args .terminals .lower) (a .args .terminals .count) 0 1000 _ (omega arith) (terminals-at-most (a .args .terminals) (a .pre .1) .0) (omega arith) (c .before .before .before .before .before .before .before .narrowed .ensures),
+      narrowed-held (a .args .terminals .upper) (a .args .terminals .count) term-bias term-bias _ (omega arith) (terminals-at-most (a .args .terminals) (a .pre .1) .1) (omega arith) (c .before .before .before .before .narrowed4 .ensures),
+    )
+
+raised-requires : tie.Need-raised-requires Inv-loop μ-loop
+raised-requires c κs = search needs
 
 mul-low : tie.Need-mul-low Inv-loop μ-loop
 mul-low c = search needs
 
 array-write-low : tie.Need-array-write-low Inv-loop μ-loop
 array-write-low c = search needs
+
+least-term-requires : tie.Need-least-term-requires Inv-loop μ-loop
+least-term-requires c κs =
+    let a = c .before .before .before .before .before .before .before .before .before .before .before .before .before .before in (
+      omega (arith, a .pre .0, c .before .before .before .before .before .before .loop-test .taken),
+      narrowed-held (a .args .terminals .lower) (a .args .terminals .count) term-bias term-bias _ (omega arith) (terminals-at-most (a .args .terminals) (a .pre .1) .0) (omega arith) (c .before .before .before .before .before .before .before .before .before .narrowed3 .ensures),
+      narrowed-held (a .args .terminals .upper) (a .args .terminals .count) 0 1000 _ (omega arith) (terminals-at-most (a .args .terminals) (a .pre .1) .1) (omega arith) (c .before .before .before .before .before .before .before .before .before .before .narrowed2 .ensures),
+    )
+
+raised-requires-2 : tie.Need-raised-requires-2 Inv-loop μ-loop
+raised-requires-2 c κs = search needs
 
 mul-high-2 : tie.Need-mul-high-2 Inv-loop μ-loop
 mul-high-2 c = search needs
@@ -41,13 +72,18 @@ add-t : tie.Need-add-t Inv-loop μ-loop
 add-t c = search needs
 
 loop-less : tie.Need-loop-less Inv-loop μ-loop
-loop-less c = falls _ _ (c .before .loop-test .taken)
+loop-less c = falls _ _ (c .before .before .before .before .before .before .before .before .loop-test .taken)
 
 loop-again : tie.Need-loop-again Inv-loop μ-loop
-loop-again c = filling-steps (channel-of (c .before .before .before .args .terminals)) (c .before .before .loop .t) (c .before .before .loop .low) (c .before .before .loop .high) (c .bounds-at .result) (omega (arith, channel-length (c .before .before .before .args .terminals))) (omega (arith, channel-length (c .before .before .before .args .terminals))) (c .before .before .loop .inv) (c .bounds-at .ensures)
+loop-again c = filling-steps _ _ _ (c .before .before .before .before .before .before .before .before .before .loop .t) (c .before .before .before .before .before .before .before .before .before .loop .low) (c .before .before .before .before .before .before .before .before .before .loop .high) (c .before .before .before .before .raised .result) (c .raised2 .result) (c .before .before .before .before .before .before .before .before .loop-test .taken) (c .before .before .before .before .before .before .before .before .before .before .before .before .before .before .before .before .pre .0) (c .before .before .before .before .before .before .before .before .before .loop .inv)
+    (c .before .before .before .before .raised .ensures ∙ ap (λ x. raised x) (c .before .before .before .before .before .greatest-term .ensures))
+    (c .raised2 .ensures ∙ ap (λ x. raised x) (c .before .least-term .ensures))
 
 returns : tie.Need-returns Inv-loop μ-loop
-returns c = filling-ends (channel-of (c .before .before .args .terminals)) (c .before .loop .t) (c .before .loop .low) (c .before .loop .high) (omega (arith, channel-length (c .before .before .args .terminals))) (omega (arith, channel-length (c .before .before .args .terminals))) (c .before .loop .inv)
+returns c =
+    let a = c .before .before .before .before .before .before .before .before in
+    filling-ends (a .args .terminals) (c .before .loop .t) _ _ _ _ (c .before .loop .low) (c .before .loop .high) (a .pre .0) (a .pre .1) (c .loop-test .left)
+    (c .before .before .before .before .before .narrowed .ensures) (c .before .before .before .before .narrowed2 .ensures) (c .before .before .before .narrowed3 .ensures) (c .before .before .narrowed4 .ensures) (c .before .loop .inv)
 
 pub channel-limits-spec : {M : Type 1} → statement M
 channel-limits-spec =
@@ -55,11 +91,18 @@ channel-limits-spec =
     (tie.spec
     Inv-loop
     μ-loop
+    narrowed-requires
+    narrowed-requires-2
+    narrowed-requires-3
+    narrowed-requires-4
     mul-high
     loop-holds
-    bounds-at-requires
+    greatest-term-requires
+    raised-requires
     mul-low
     array-write-low
+    least-term-requires
+    raised-requires-2
     mul-high-2
     array-write-high
     add-t

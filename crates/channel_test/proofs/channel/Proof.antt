@@ -1,5 +1,6 @@
--- channel is safe: terminals that are made are few. Assumes nothing.
-use Rattle.stack.proofs.Found.{made-few}
+-- channel is safe: terminals that are made are few and on the strips. Assumes nothing.
+use Rattle.stack.proofs.Found.{made-few, made-on-strips}
+use Rattle.stack.proofs.OnStrips.{on-longer}
 use borrow.Author.Needs.{needs}
 use Rattle.channel_test.proofs.channel.Statement.{statement}
 use Rattle.channel_test.proofs.channel.Tie as tie
@@ -62,7 +63,11 @@ print-number-requires c κs = search needs
 
 -- src/main.rt:124:18
 channel-limits-requires : tie.Need-channel-limits-requires
-channel-limits-requires c κs = made-few _ _ _ _ (c .before .before .before .before .before .before .new .result) (c .before .before .before .before .before .before .new .ensures)
+channel-limits-requires c κs =
+    let made = c .before .before .before .before .before .before in (
+      made-few _ _ _ _ (made .new .result) (made .new .ensures),
+      on-longer _ _ 1000 1000 _ (made .before .before .longest .ensures) (made .before .longest2 .ensures) (made-on-strips _ _ _ _ (made .new .result) (made .new .ensures)),
+    )
 
 -- src/main.rt:124:5
 print-limits-requires : tie.Need-print-limits-requires
