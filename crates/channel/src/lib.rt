@@ -24,8 +24,8 @@ use stack::Stack;
 use stack::Terminals;
 use stack::Tracks;
 
-// Added to the terms of L(t) and R(t) while the greatest and the least are sought, so that none is negative and all fit 16 bits, for which the processor has a
-// maximum and a minimum of eight numbers at once: more than a terminal and a separation together.
+// Added to the terms of L(t) and R(t) while the greatest and the least are sought: more than two terminals together, so that no term is negative, and all fit 16 bits,
+// of which the compiler takes eight at a time.
 const TERM_BIAS: u16 = 2048;
 
 // A place for each index of a pair with a separation added.
@@ -43,6 +43,7 @@ fn wide(c: Columns) -> u64
     c.0 as u64
 }
 
+// The greater and the lesser of two numbers of 16 bits.
 fn greater(a: u16, b: u16) -> u16
     ensures { λ r. ⌜ r ≡ max a b ⌝ }
 {
@@ -100,8 +101,8 @@ fn raised(term: u16) -> u64
     Stack::BIAS - TERM_BIAS as u64 + term as u64
 }
 
-// L(t) and R(t) for every t. Behind the last pair a terminal with t added to its index is TERM_BIAS and one without is 0, so a term past the last of L(t) is less
-// than every term of L(t), and one past the last of R(t) greater than every term of R(t): the greatest and the least of 32 terms are those of the terms there are.
+// L(t) and R(t) for every t. Behind the last pair stand zeros, and TERM_BIAS where t is added to the index. So a term past the last is less than every term of L(t),
+// or greater than every term of R(t), and 32 terms can be taken for every t: a constant number, without a remainder of fewer than eight.
 pub fn channel_limits(terminals: Terminals) -> Limits
     requires { ⌜ terminals .count ≤ 32 ⌝ }
     requires { ⌜ on-strips 1000 1000 (channel-of terminals) ≡ true ⌝ }
