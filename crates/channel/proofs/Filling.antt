@@ -5,10 +5,9 @@ use mathlib.Core.List.{List, _++_}
 use Prim.Native.Nat.{ℕ, _+_, _*_, _-_, _≤_, _<_}
 use native.Mathlib.Omega.{arith}
 use native.Mathlib.Nat.{zero-add}
-use lib.ListN.{length, set, replicate}
+use lib.ListN.{set, replicate}
 use Rattle.numbers.specs.Lists.{tabulate, filled}
 use Rattle.numbers.proofs.Lists.{filled-starts, filled-steps, filled-ends, tabulate-same}
-use Rattle.stack.specs.Stack.{Pair}
 use Rattle.stack.specs.Limits.{on-strips}
 use Rattle.stack.specs.Sizes.{separations-held}
 use Rattle.stack.specs.Value.{channel-of}

@@ -84,7 +84,7 @@ low-found ps qs t = raised (greatest term-bias (paired ps qs) t 32)
 abbrev pub high-found : (ps qs : List ℕ) → (t : ℕ) → ℕ
 high-found ps qs t = raised (least term-bias (paired ps qs) t 32)
 
--- a channel's pairs first, and pairs of the same two terminals behind them
+-- a channel's pairs, and behind them pairs of p and q
 pub record Padded (c : List Pair) (p q : ℕ) (d : List Pair) : Type 0 where
   pub p-same : (j : ℕ) → j < length c → p-at d j ≡ p-at c j
   pub q-same : (j : ℕ) → j < length c → q-at d j ≡ q-at c j

@@ -176,7 +176,7 @@ made-few xs n lo hi r m = go (is-good (r .found)) refl
         omega arith
     go false g = let none : r .terminals .count ≡ 0 = counted ∙ rw (fault-keeps (r .found) (pairs-in xs n) [] g) in omega arith
 
--- nothing is found, so neither of two tests found anything
+-- where no fault is found, none is found by a test or behind it
 test-passed : (b : Bool) (f r : TerminalsFound) → is-good f ≡ false → is-good (cond b f r) ≡ true → (b ≡ false) × (is-good r ≡ true)
 test-passed true f r h e = let z : _≡_ {A = ℕ} 0 1 = cc in absurd (omega arith)
 test-passed false f r h e = (refl, e)

@@ -2,7 +2,6 @@
 use mathlib.Core.Path.{_≡_, refl}
 use Prim.Native.Nat.{_+_, _-_, _≤_}
 use native.Mathlib.Omega.{arith}
-use borrow.Author.Count.{falls}
 use Rattle.channel.specs.Limits.{least, term-bias, paired}
 use Rattle.channel.proofs.Terms.{least-steps}
 use borrow.Author.Needs.{needs}

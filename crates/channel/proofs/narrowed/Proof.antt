@@ -2,7 +2,6 @@
 use mathlib.Core.Path.{_≡_, sym}
 use Prim.Native.Nat.{_-_, _≤_}
 use native.Mathlib.Omega.{arith}
-use borrow.Author.Count.{falls}
 use lib.ListN.{getD}
 use Rattle.numbers.specs.Lists.{filled}
 use Rattle.numbers.proofs.Lists.{filled-starts, filled-steps}
