@@ -284,8 +284,7 @@ sum-none xs a (suc n) h i l = go (lt-or-eq i n (omega arith)) (λ k. sum-none xs
     go (inr k) less = rw k (omega arith)
 
 pub sum-eight : (xs : List ℕ) (a : ℕ)
-    → getD xs a 0 + getD xs (a + 1) 0 + getD xs (a + 2) 0 + getD xs (a + 3) 0 + (getD xs (a + 4) 0 + getD xs (a + 5) 0 + getD xs (a + 6) 0 + getD xs (a + 7) 0)
-    ≡ sum-from xs a 8
+    → getD xs a 0 + getD xs (a + 1) 0 + getD xs (a + 2) 0 + getD xs (a + 3) 0 + getD xs (a + 4) 0 + getD xs (a + 5) 0 + getD xs (a + 6) 0 + getD xs (a + 7) 0 ≡ sum-from xs a 8
 unfolding sum-from
 sum-eight xs a = let z : a + 0 ≡ a = omega arith in rw z (omega arith)
 

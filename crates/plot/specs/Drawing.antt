@@ -29,6 +29,7 @@ pub record Run-asks (row : List ℕ) (s e : ℕ) : Type 0 where
   pub columns : length row ≡ 64
   pub from : s < 64
   pub upto : e < 64
+  pub runs : s ≡ e → ⊥
 
 -- what column c shows once one character stands in the columns from one up to another
 unfoldable pub filled-to : (from upto character c old : ℕ) → ℕ

@@ -1,6 +1,6 @@
 // Drawing a channel's page line by line: from which column to which each path is on a track, and the character of each of its points there.
 ghost use mathlib.Core.Path.{_≡_};
-ghost use mathlib.Core.Bool.{cond};
+ghost use mathlib.Core.Bool.{false, cond};
 ghost use Prim.Native.Nat.{ℕ, suc, _+_, _-_, _*_, _/_, _%_, _≤_, _<_, min, max};
 ghost use lib.Dec.{ltb, eqb};
 ghost use lib.ListN.{length, getD, take, replicate};
@@ -95,15 +95,11 @@ fn fill(row: &mut [u8], from: u8, upto: u8, character: u8)
     }
 }
 
-// The points of a path that is on a track from column s to column e, in the track's row of characters.
+// The points of a path that runs on a track from column s to column e, in the track's row of characters.
 fn put_run(row: &mut [u8], s: u8, e: u8, up: bool, down: bool)
     requires { ⌜ Run-asks (now row) s e ⌝ }
     ensures { λ _. ⌜ now (row .exit) ≡ tabulate 64 0 (λ c. drawn s e up down c (getD (now (row .entry)) c 0)) ⌝ }
 {
-    if s == e {
-        row[s as usize] = character(false, false, up, down);
-        return;
-    }
     fill(
         row,
         lesser(s, e) + 1,
@@ -114,8 +110,20 @@ fn put_run(row: &mut [u8], s: u8, e: u8, up: bool, down: bool)
     row[e as usize] = character(s < e, e < s, up, false);
 }
 
-// The runs of the paths from one up to another, in the track's row.
-fn put_runs(
+// The points of a path that is on a track from column s to column e: one character where it only passes upward.
+fn put_path(row: &mut [u8], s: u8, e: u8, upright: u8, up: bool, down: bool)
+    requires { ⌜ (length (now row) ≡ 64) × (s < 64) × (e < 64) × (upright ≡ arms-character false false up down) ⌝ }
+    ensures { λ _. ⌜ now (row .exit) ≡ tabulate 64 0 (λ c. drawn s e up down c (getD (now (row .entry)) c 0)) ⌝ }
+{
+    if s == e {
+        row[s as usize] = upright;
+        return;
+    }
+    put_run(row, s, e, up, down);
+}
+
+// The paths from one up to another, in the track's row.
+fn put_paths(
     row: &mut [u8],
     starts: &[u8; PAIRS],
     ends: &[u8; PAIRS],
@@ -127,8 +135,9 @@ fn put_runs(
     requires { ⌜ Row-asks upto (now row) (now starts) (now ends) × (upto ≤ 32) ⌝ }
     ensures { λ _. ⌜ now (row .exit) ≡ tabulate 64 0 (λ c. painted (λ j. getD (now (starts .entry)) j 0) (λ j. getD (now (ends .entry)) j 0) up down from (upto - from) c (getD (now (row .entry)) c 0)) ⌝ }
 {
+    let upright = character(false, false, up, down);
     for j in from..upto {
-        put_run(row, starts[j], ends[j], up, down);
+        put_path(row, starts[j], ends[j], upright, up, down);
     }
 }
 
@@ -164,9 +173,8 @@ fn is_none_run(marks: &[u8; PAIRS], from: usize) -> bool
     requires { ⌜ (from ≤ 24) × ((j : ℕ) → getD (now marks) j 0 ≤ 1) ⌝ }
     ensures { λ r. ⌜ r ≡ eqb (sum-from (now (marks .entry)) from 8) 0 ⌝ }
 {
-    let four = marks[from] + marks[from + 1] + marks[from + 2] + marks[from + 3];
-    let more = marks[from + 4] + marks[from + 5] + marks[from + 6] + marks[from + 7];
-    four + more == 0
+    let first = marks[from] + marks[from + 1] + marks[from + 2] + marks[from + 3];
+    first + marks[from + 4] + marks[from + 5] + marks[from + 6] + marks[from + 7] == 0
 }
 
 // The runs of eight paths; where none of them runs, only one character each.
@@ -186,7 +194,7 @@ fn put_eight(
         put_uprights(row, ends, from, character(false, false, up, down));
         return;
     }
-    put_runs(row, starts, ends, from, from + EIGHT, up, down);
+    put_paths(row, starts, ends, from, from + EIGHT, up, down);
 }
 
 // The characters of a track on which each path is from its column in starts to its column in ends.
@@ -202,7 +210,7 @@ fn put_row(row: &mut [u8], starts: &[u8; PAIRS], ends: &[u8; PAIRS], m: usize, u
         put_eight(row, starts, ends, &marks, j, up, down);
         j += EIGHT;
     }
-    put_runs(row, starts, ends, j, m, up, down);
+    put_paths(row, starts, ends, j, m, up, down);
 }
 
 // A number's digit in a place of units.

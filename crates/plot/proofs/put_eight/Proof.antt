@@ -8,7 +8,7 @@ use Rattle.plot.proofs.put_eight.Reads as reads
 use Rattle.plot.proofs.put_eight.Lts as lts
 use Rattle.plot.proofs.character.Reads as character-reads
 use Rattle.plot.proofs.is_none_run.Reads as is-none-run-reads
-use Rattle.plot.proofs.put_runs.Reads as put-runs-reads
+use Rattle.plot.proofs.put_paths.Reads as put-paths-reads
 use Rattle.plot.proofs.put_uprights.Reads as put-uprights-reads
 
 -- src/lib.rt:184:8
@@ -36,12 +36,12 @@ returns c =
     (none-run (start .args .starts .now) (start .args .ends .now) (start .args .marks .now) (start .args .from) (start .pre .1) (start .pre .2) none) (c .before .before .put-uprights .ensures)
 
 -- src/lib.rt:188:39
-add-put-runs : tie.Need-add-put-runs
-add-put-runs c = search needs
+add-put-paths : tie.Need-add-put-paths
+add-put-paths c = search needs
 
 -- src/lib.rt:188:5
-put-runs-requires : tie.Need-put-runs-requires
-put-runs-requires c κs = search needs
+put-paths-requires : tie.Need-put-paths-requires
+put-paths-requires c κs = search needs
 
 -- src/lib.rt:172:1
 same-length-2 : tie.Need-same-length-2
@@ -51,7 +51,7 @@ same-length-2 c = search needs
 returns-2 : tie.Need-returns-2
 returns-2 c =
     let start = c .before .before .before .before .before .before .before in
-    eight-run (λ i. getD (start .args .starts .now) i 0) (λ i. getD (start .args .ends .now) i 0) (start .args .up) (start .args .down) (start .args .from) (start .args .row .now) _ (c .before .before .put-runs .ensures)
+    eight-run (λ i. getD (start .args .starts .now) i 0) (λ i. getD (start .args .ends .now) i 0) (start .args .up) (start .args .down) (start .args .from) (start .args .row .now) _ (c .before .before .put-paths .ensures)
 
 pub put-eight-spec : {M : Type 1} → statement M
 put-eight-spec =
@@ -62,7 +62,7 @@ put-eight-spec =
     put-uprights-requires
     same-length
     returns
-    add-put-runs
-    put-runs-requires
+    add-put-paths
+    put-paths-requires
     same-length-2
     returns-2)

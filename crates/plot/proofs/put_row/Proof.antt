@@ -14,7 +14,7 @@ use Rattle.plot.proofs.put_row.Lts as lts
 use Rattle.plot.proofs.fill.Reads as fill-reads
 use Rattle.plot.proofs.mark_runs.Reads as mark-runs-reads
 use Rattle.plot.proofs.put_eight.Reads as put-eight-reads
-use Rattle.plot.proofs.put_runs.Reads as put-runs-reads
+use Rattle.plot.proofs.put_paths.Reads as put-paths-reads
 
 abbrev Inv-loop : tie.InvT-loop
 Inv-loop row₀ starts ends m up down marks j₀ row j = (j ≤ m) × (marks ≡ tabulate 32 0 (λ i. run-mark (getD starts i 0) (getD ends i 0))) × (row ≡ tabulate 64 0 (λ c. painted (λ i. getD starts i 0) (λ i. getD ends i 0) up down 0 j c 46))
@@ -61,21 +61,21 @@ loop-again c =
     (omega (arith, c .before .before .before .before .before .loop-test .taken), loop .inv .1, row-joins (λ i. getD (start .args .starts .now) i 0) (λ i. getD (start .args .ends .now) i 0) (start .args .up) (start .args .down) (loop .j) 8 (loop .row) _ (loop .inv .2) (c .before .before .put-eight .ensures))
 
 -- src/lib.rt:211:5
-put-runs-requires : tie.Need-put-runs-requires Inv-loop μ-loop
-put-runs-requires c κs =
+put-paths-requires : tie.Need-put-paths-requires Inv-loop μ-loop
+put-paths-requires c κs =
     let asks = c .before .before .before .before .before .before .before .before .before .before .pre .0 in
     (record { columns = rule-long _ (c .before .before .loop .inv .2); starts-shown = asks .starts-shown; ends-shown = asks .ends-shown }, c .before .before .before .before .before .before .before .before .before .before .pre .1)
 
 -- src/lib.rt:192:1
 same-length : tie.Need-same-length Inv-loop μ-loop
-same-length c = rule-long _ (c .before .before .put-runs .ensures) ∙ sym (c .before .before .before .before .before .before .before .before .before .before .before .before .before .pre .0 .columns)
+same-length c = rule-long _ (c .before .before .put-paths .ensures) ∙ sym (c .before .before .before .before .before .before .before .before .before .before .before .before .before .pre .0 .columns)
 
 -- src/lib.rt:192:1
 returns : tie.Need-returns Inv-loop μ-loop
 returns c =
     let start = c .before .before .before .before .before .before .before .before .before .before .before .before .before in
     let loop = c .before .before .before .before .before .loop in
-    row-ends (λ i. getD (start .args .starts .now) i 0) (λ i. getD (start .args .ends .now) i 0) (start .args .up) (start .args .down) (loop .j) (start .args .m) (loop .row) _ (loop .inv .0) (loop .inv .2) (c .before .before .put-runs .ensures)
+    row-ends (λ i. getD (start .args .starts .now) i 0) (λ i. getD (start .args .ends .now) i 0) (start .args .up) (start .args .down) (loop .j) (start .args .m) (loop .row) _ (loop .inv .0) (loop .inv .2) (c .before .before .put-paths .ensures)
 
 pub put-row-spec : {M : Type 1} → statement M
 put-row-spec =
@@ -91,6 +91,6 @@ put-row-spec =
     add-j
     loop-less
     loop-again
-    put-runs-requires
+    put-paths-requires
     same-length
     returns)
