@@ -4,7 +4,7 @@ use mathlib.Core.Path.{_≡_, refl, sym, ap, _∙_}
 use mathlib.Core.Bool.{Bool, true, false, _&&_, cond}
 use mathlib.Core.List.{List, [], _∷_}
 use mathlib.Core.Logic.{_⊎_, inl, inr}
-use Prim.Native.Nat.{ℕ, zero, suc, _+_, _-_, _≤_, _<_, min, max}
+use Prim.Native.Nat.{ℕ, zero, suc, _+_, _*_, _-_, _≤_, _<_, min, max}
 use native.Mathlib.Numerals.{add-one}
 use native.Mathlib.Omega.{arith}
 use native.Mathlib.Nat.{zero-add}
@@ -17,7 +17,7 @@ use Rattle.numbers.proofs.Lists.{length-tabulate, getD-tabulate, tabulate-same,
 use Rattle.numbers.proofs.Orders.{le-or-lt, lt-or-eq, eq-or-not}
 use Rattle.page.specs.Page.{how-many, arms-character}
 use Rattle.page.specs.Arrivals.{drawn, painted}
-use Rattle.plot.specs.Drawing.{filled-to, marked, run-mark, sum-from}
+use Rattle.plot.specs.Drawing.{filled-to, marked, eight-of}
 
 -- THE TABLE is the rule
 unfoldable pub table : List ℕ
@@ -273,61 +273,43 @@ module _ (e : ℕ → ℕ) (v a : ℕ) where
   pub marks-end : (before : List ℕ) (i : ℕ) (row : List ℕ) → 8 ≤ i → i ≤ 8 → row ≡ tabulate 64 0 (λ c. marked e v a i c (getD before c 0)) → row ≡ tabulate 64 0 (λ c. marked e v a 8 c (getD before c 0))
   marks-end before i row l m h = let z : i ≡ 8 = omega arith in rw z at h
 
--- WHICH PATHS RUN
-sum-none : (xs : List ℕ) (a n : ℕ) → sum-from xs a n ≡ 0 → (i : ℕ) → i < n → getD xs (a + i) 0 ≡ 0
-unfolding sum-from
-sum-none xs a zero h i l = absurd (omega arith)
-sum-none xs a (suc n) h i l = go (lt-or-eq i n (omega arith)) (λ k. sum-none xs a n (omega arith) i k)
+-- EIGHT BYTES AS ONE NUMBER: equal numbers are equal bytes
+pub eight-is : (xs : List ℕ) (a p q r s : ℕ) → p ≡ getD xs a 0 + 256 * getD xs (a + 1) 0 → q ≡ getD xs (a + 2) 0 + 256 * getD xs (a + 3) 0 → r ≡ getD xs (a + 4) 0 + 256 * getD xs (a + 5) 0
+    → s ≡ getD xs (a + 6) 0 + 256 * getD xs (a + 7) 0 → p + 65536 * (q + 65536 * (r + 65536 * s)) ≡ eight-of xs a
+unfolding eight-of
+eight-is xs a p q r s e f g h = let z : a + 0 ≡ a = omega arith in rw (z, e, f, g, h)
+
+same-two : (a b c d : ℕ) → a < 256 → c < 256 → a + 256 * b ≡ c + 256 * d → (a ≡ c) × (b ≡ d)
+same-two a b c d l m e = (omega arith, omega arith)
+
+same-four : (a c x y : ℕ) → a < 65536 → c < 65536 → a + 65536 * x ≡ c + 65536 * y → (a ≡ c) × (x ≡ y)
+same-four a c x y l m e = (omega arith, omega arith)
+
+pub same-eight : (xs ys : List ℕ) (a : ℕ) → ((i : ℕ) → i < 8 → getD xs (a + i) 0 < 256) → ((i : ℕ) → i < 8 → getD ys (a + i) 0 < 256) → eight-of xs a ≡ eight-of ys a
+    → (i : ℕ) → i < 8 → getD xs (a + i) 0 ≡ getD ys (a + i) 0
+unfolding eight-of
+same-eight xs ys a f g e =
+    let p = same-four _ _ _ _ (omega (arith, f 0 (omega arith), f 1 (omega arith))) (omega (arith, g 0 (omega arith), g 1 (omega arith))) e in
+    let q = same-four _ _ _ _ (omega (arith, f 2 (omega arith), f 3 (omega arith))) (omega (arith, g 2 (omega arith), g 3 (omega arith))) (p .1) in
+    let r = same-four _ _ _ _ (omega (arith, f 4 (omega arith), f 5 (omega arith))) (omega (arith, g 4 (omega arith), g 5 (omega arith))) (q .1) in
+    let h = same-two _ _ _ _ (f 0 (omega arith)) (g 0 (omega arith)) (p .0) in
+    let k = same-two _ _ _ _ (f 2 (omega arith)) (g 2 (omega arith)) (q .0) in
+    let l = same-two _ _ _ _ (f 4 (omega arith)) (g 4 (omega arith)) (r .0) in
+    let m = same-two _ _ _ _ (f 6 (omega arith)) (g 6 (omega arith)) (r .1) in
+    among (h .0) (h .1) (k .0) (k .1) (l .0) (l .1) (m .0) (m .1)
   where
-    go : (i < n) ⊎ (i ≡ n) → (i < n → getD xs (a + i) 0 ≡ 0) → getD xs (a + i) 0 ≡ 0
-    go (inl k) less = less k
-    go (inr k) less = rw k (omega arith)
-
-pub sum-eight : (xs : List ℕ) (a : ℕ)
-    → getD xs a 0 + getD xs (a + 1) 0 + getD xs (a + 2) 0 + getD xs (a + 3) 0 + getD xs (a + 4) 0 + getD xs (a + 5) 0 + getD xs (a + 6) 0 + getD xs (a + 7) 0 ≡ sum-from xs a 8
-unfolding sum-from
-sum-eight xs a = let z : a + 0 ≡ a = omega arith in rw z (omega arith)
-
-same-mark : (s e : ℕ) → run-mark s e ≡ 0 → s ≡ e
-unfolding run-mark
-same-mark s e h = go (eq-or-not s e)
-  where
-    go : (s ≡ e) ⊎ (s ≡ e → ⊥) → s ≡ e
-    go (inl k) = k
-    go (inr k) = let z : _≡_ {A = ℕ} 1 0 = rw (ne-eqb s e k) at h in absurd (omega arith)
-
-pub none-run : (starts ends marks : List ℕ) (a : ℕ) → a ≤ 24 → marks ≡ tabulate 32 0 (λ j. run-mark (getD starts j 0) (getD ends j 0)) → eqb (sum-from marks a 8) 0 ≡ true
-    → (i : ℕ) → i < 8 → getD starts (a + i) 0 ≡ getD ends (a + i) 0
-none-run starts ends marks a l m h i k =
-    same-mark (getD starts (a + i) 0) (getD ends (a + i) 0)
-    (sym (rw m (getD-tabulate 32 (a + i) (λ j. run-mark (getD starts j 0) (getD ends j 0)) 0 (omega arith))) ∙ sum-none marks a 8 (eqb-true (sum-from marks a 8) 0 h) i k)
-
-pub mark-same : (s e : ℕ) → s ≡ e → 0 ≡ run-mark s e
-unfolding run-mark
-mark-same s e h = rw (eq-eqb s e h)
-
-pub mark-other : (s e : ℕ) → (s ≡ e → ⊥) → 1 ≡ run-mark s e
-unfolding run-mark
-mark-other s e h = rw (ne-eqb s e h)
-
-mark-low : (s e : ℕ) → run-mark s e ≤ 1
-unfolding run-mark
-mark-low s e = go (eqb s e)
-  where
-    go : (b : Bool) → cond b 0 1 ≤ 1
-    go true = omega arith
-    go false = omega arith
-
--- a list by a rule is as low as the rule
-pub rule-low : (n b : ℕ) (f : ℕ → ℕ) (xs : List ℕ) → xs ≡ tabulate n 0 f → ((j : ℕ) → j < n → f j ≤ b) → (j : ℕ) → getD xs j 0 ≤ b
-rule-low n b f xs e h j = go (le-or-lt n j)
-  where
-    go : (n ≤ j) ⊎ (j < n) → getD xs j 0 ≤ b
-    go (inl l) = rw (e, List·getD-eq-default (tabulate n 0 f) 0 {n = j} (rw length-tabulate l)) (omega arith)
-    go (inr l) = rw (e, getD-tabulate n j f 0 l) (h j l)
-
-pub marks-low : (starts ends marks : List ℕ) → marks ≡ tabulate 32 0 (λ j. run-mark (getD starts j 0) (getD ends j 0)) → (j : ℕ) → getD marks j 0 ≤ 1
-marks-low starts ends marks m = rule-low 32 1 (λ j. run-mark (getD starts j 0) (getD ends j 0)) marks m (λ j l. mark-low (getD starts j 0) (getD ends j 0))
+    among : getD xs (a + 0) 0 ≡ getD ys (a + 0) 0 → getD xs (a + 1) 0 ≡ getD ys (a + 1) 0 → getD xs (a + 2) 0 ≡ getD ys (a + 2) 0 → getD xs (a + 3) 0 ≡ getD ys (a + 3) 0
+        → getD xs (a + 4) 0 ≡ getD ys (a + 4) 0 → getD xs (a + 5) 0 ≡ getD ys (a + 5) 0 → getD xs (a + 6) 0 ≡ getD ys (a + 6) 0 → getD xs (a + 7) 0 ≡ getD ys (a + 7) 0
+        → (i : ℕ) → i < 8 → getD xs (a + i) 0 ≡ getD ys (a + i) 0
+    among h0 h1 h2 h3 h4 h5 h6 h7 zero l = h0
+    among h0 h1 h2 h3 h4 h5 h6 h7 (suc zero) l = h1
+    among h0 h1 h2 h3 h4 h5 h6 h7 (suc (suc zero)) l = h2
+    among h0 h1 h2 h3 h4 h5 h6 h7 (suc (suc (suc zero))) l = h3
+    among h0 h1 h2 h3 h4 h5 h6 h7 (suc (suc (suc (suc zero)))) l = h4
+    among h0 h1 h2 h3 h4 h5 h6 h7 (suc (suc (suc (suc (suc zero))))) l = h5
+    among h0 h1 h2 h3 h4 h5 h6 h7 (suc (suc (suc (suc (suc (suc zero)))))) l = h6
+    among h0 h1 h2 h3 h4 h5 h6 h7 (suc (suc (suc (suc (suc (suc (suc zero))))))) l = h7
+    among h0 h1 h2 h3 h4 h5 h6 h7 (suc (suc (suc (suc (suc (suc (suc (suc i)))))))) l = absurd (omega arith)
 
 -- A LIST FILLED by a rule from its front
 pub front-step : (f : ℕ → ℕ) (xs : List ℕ) (n v : ℕ) → n < length xs → v ≡ f n → ((j : ℕ) → j < n → getD xs j 0 ≡ f j) → (j : ℕ) → j < n + 1 → getD (set xs n v) j 0 ≡ f j

@@ -40,14 +40,11 @@ unfoldable pub marked : (e : ℕ → ℕ) → (character a n c old : ℕ) → �
 marked e v a zero c old = old
 marked e v a (suc n) c old = cond (eqb c (e (a + n))) v (marked e v a n c old)
 
--- 1 where a path runs, 0 where it only passes upward
-unfoldable pub run-mark : (start end : ℕ) → ℕ
-run-mark s e = cond (eqb s e) 0 1
-
--- the sum of n numbers from place a on
-unfoldable pub sum-from : List ℕ → (a n : ℕ) → ℕ
-sum-from xs a zero = 0
-sum-from xs a (suc n) = sum-from xs a n + getD xs (a + n) 0
+-- eight bytes from place a on as one number
+unfoldable pub eight-of : List ℕ → (a : ℕ) → ℕ
+eight-of xs a =
+    let x : ℕ → ℕ = λ i. getD xs (a + i) 0 in
+    x 0 + 256 * x 1 + 65536 * (x 2 + 256 * x 3 + 65536 * (x 4 + 256 * x 5 + 65536 * (x 6 + 256 * x 7)))
 
 -- a number's digit in a place of units, or a space where the number has none there
 unfoldable pub place : (unit n : ℕ) → ℕ

@@ -2,7 +2,7 @@
 ghost use mathlib.Core.Path.{_≡_};
 ghost use mathlib.Core.Bool.{false, cond};
 ghost use Prim.Native.Nat.{ℕ, suc, _+_, _-_, _*_, _/_, _%_, _≤_, _<_, min, max};
-ghost use lib.Dec.{ltb, eqb};
+ghost use lib.Dec.{ltb};
 ghost use lib.ListN.{length, getD, take, replicate};
 ghost use Rattle.numbers.specs.Lists.{tabulate};
 ghost use Rattle.stack.specs.Value.{channel-of};
@@ -16,8 +16,7 @@ ghost use Rattle.plot.specs.Drawing.{
   filled-to,
   Run-asks,
   marked,
-  run-mark,
-  sum-from,
+  eight-of,
   Levels-low,
   reached,
   track-drawn,
@@ -151,46 +150,37 @@ fn put_uprights(row: &mut [u8], ends: &[u8; PAIRS], from: usize, character: u8)
     }
 }
 
-// 1 where a path runs, 0 where it only passes upward.
-fn mark(start: u8, end: u8) -> u8
-    ensures { λ r. ⌜ r ≡ run-mark start end ⌝ }
+// Two bytes, and eight, as one number.
+fn two(a: u8, b: u8) -> u64
+    ensures { λ r. ⌜ (r ≡ a + 256 * b) × (r < 65536) ⌝ }
 {
-    if start == end { 0 } else { 1 }
+    a as u64 + 256 * b as u64
 }
 
-// Which paths run on a track.
-fn mark_runs(marks: &mut [u8; PAIRS], starts: &[u8; PAIRS], ends: &[u8; PAIRS])
-    requires { ⌜ length (now marks) ≡ 32 ⌝ }
-    ensures { λ _. ⌜ now (marks .exit) ≡ tabulate 32 0 (λ j. run-mark (getD (now (starts .entry)) j 0) (getD (now (ends .entry)) j 0)) ⌝ }
+fn eight(bytes: &[u8; PAIRS], from: usize) -> u64
+    requires { ⌜ from ≤ 24 ⌝ }
+    ensures { λ r. ⌜ r ≡ eight-of (now (bytes .entry)) from ⌝ }
 {
-    for j in 0..PAIRS {
-        marks[j] = mark(starts[j], ends[j]);
-    }
+    let a = two(bytes[from], bytes[from + 1]);
+    let b = two(bytes[from + 2], bytes[from + 3]);
+    let c = two(bytes[from + 4], bytes[from + 5]);
+    let d = two(bytes[from + 6], bytes[from + 7]);
+    a + 65536 * (b + 65536 * (c + 65536 * d))
 }
 
-// Whether none of eight paths runs.
-fn is_none_run(marks: &[u8; PAIRS], from: usize) -> bool
-    requires { ⌜ (from ≤ 24) × ((j : ℕ) → getD (now marks) j 0 ≤ 1) ⌝ }
-    ensures { λ r. ⌜ r ≡ eqb (sum-from (now (marks .entry)) from 8) 0 ⌝ }
-{
-    let first = marks[from] + marks[from + 1] + marks[from + 2] + marks[from + 3];
-    first + marks[from + 4] + marks[from + 5] + marks[from + 6] + marks[from + 7] == 0
-}
-
-// The runs of eight paths; where none of them runs, only one character each.
+// Eight paths; where none of them runs, one character each.
 fn put_eight(
     row: &mut [u8],
     starts: &[u8; PAIRS],
     ends: &[u8; PAIRS],
-    marks: &[u8; PAIRS],
     from: usize,
     up: bool,
     down: bool,
 )
-    requires { ⌜ Row-asks (from + 8) (now row) (now starts) (now ends) × (from ≤ 24) × (now marks ≡ tabulate 32 0 (λ j. run-mark (getD (now starts) j 0) (getD (now ends) j 0))) ⌝ }
+    requires { ⌜ Row-asks (from + 8) (now row) (now starts) (now ends) × (from ≤ 24) ⌝ }
     ensures { λ _. ⌜ now (row .exit) ≡ tabulate 64 0 (λ c. painted (λ j. getD (now (starts .entry)) j 0) (λ j. getD (now (ends .entry)) j 0) up down from 8 c (getD (now (row .entry)) c 0)) ⌝ }
 {
-    if is_none_run(marks, from) {
+    if eight(starts, from) == eight(ends, from) {
         put_uprights(row, ends, from, character(false, false, up, down));
         return;
     }
@@ -203,11 +193,9 @@ fn put_row(row: &mut [u8], starts: &[u8; PAIRS], ends: &[u8; PAIRS], m: usize, u
     ensures { λ _. ⌜ now (row .exit) ≡ tabulate 64 0 (λ c. painted (λ j. getD (now (starts .entry)) j 0) (λ j. getD (now (ends .entry)) j 0) up down 0 m c 46) ⌝ }
 {
     fill(row, 0, COLUMNS, DOT);
-    let mut marks = [0u8; PAIRS];
-    mark_runs(&mut marks, starts, ends);
     let mut j = 0;
     while j + EIGHT <= m {
-        put_eight(row, starts, ends, &marks, j, up, down);
+        put_eight(row, starts, ends, j, up, down);
         j += EIGHT;
     }
     put_paths(row, starts, ends, j, m, up, down);
