@@ -1,6 +1,6 @@
 -- What arrivals are worked out from: filled in pair by pair, it is the channel's, and what it gives are the arrivals of the channel's paths. Assumes nothing.
 use mathlib.Core.Path.{_≡_, sym, _∙_}
-use mathlib.Core.Bool.{Bool, true, false, cond}
+use mathlib.Core.Bool.{cond}
 use mathlib.Core.List.{List}
 use mathlib.Core.Logic.{_⊎_, inl, inr}
 use Prim.Native.Nat.{ℕ, suc, _+_, _-_, _≤_, _<_, min, max}
@@ -12,7 +12,7 @@ use lib.Seq.{getD-set-same, getD-set-other}
 use Rattle.numbers.specs.Lists.{tabulate}
 use Rattle.numbers.proofs.Lists.{getD-tabulate, zeros-at}
 use Rattle.numbers.proofs.Orders.{le-or-lt, eq-or-not}
-use Rattle.stack.specs.Stack.{Pair, p-at, q-at}
+use Rattle.stack.specs.Stack.{p-at}
 use Rattle.stack.specs.Value.{columns, channel-of}
 use Rattle.stack.specs.declared.Columns.{Columns}
 use Rattle.stack.specs.declared.Terminals.{Terminals}
@@ -22,7 +22,7 @@ use Rattle.routing.specs.Wiring.{wiring}
 use Rattle.page.specs.Page.{character}
 use Rattle.page.specs.Arrivals.{Channel-placed, Ends-are, right-arrival, left-arrival, arrival, track-painted}
 use Rattle.page.proofs.Painted.{painted-right}
-use Rattle.plot.specs.Drawing.{Levels-low, reached, track-drawn, Arrivals-shown, Ends-ask, Levels-filled}
+use Rattle.plot.specs.Drawing.{reached, track-drawn, Arrivals-shown, Ends-ask, Levels-filled}
 use Rattle.plot.proofs.Rows.{front-step, painted-same}
 
 -- what the code works out

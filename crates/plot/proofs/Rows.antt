@@ -1,6 +1,6 @@
 -- A track's row of characters: the table's characters, one character put in several columns, a path's run, and paths one by one. A row is 64 columns by a rule, and each store
 -- changes the rule at one column. Assumes nothing.
-use mathlib.Core.Path.{_≡_, refl, sym, ap, _∙_}
+use mathlib.Core.Path.{_≡_, refl, sym, _∙_}
 use mathlib.Core.Bool.{Bool, true, false, _&&_, cond}
 use mathlib.Core.List.{List, [], _∷_}
 use mathlib.Core.Logic.{_⊎_, inl, inr}
@@ -8,16 +8,16 @@ use Prim.Native.Nat.{ℕ, zero, suc, _+_, _*_, _-_, _≤_, _<_, min, max}
 use native.Mathlib.Numerals.{add-one}
 use native.Mathlib.Omega.{arith}
 use native.Mathlib.Nat.{zero-add}
-use borrow.Author.Tests.{le-leb, lt-leb, lt-ltb, le-ltb, eq-eqb, ne-eqb, eqb-true}
+use borrow.Author.Tests.{le-leb, lt-leb, lt-ltb, le-ltb, eq-eqb, ne-eqb}
 use lib.Dec.{ltb, leb, eqb}
-use lib.ListN.{length, getD, set, length-set, List·getD-eq-default}
+use lib.ListN.{length, getD, set, replicate, length-set, getD-replicate}
 use lib.Seq.{ext-getD, getD-set-same, getD-set-other}
 use Rattle.numbers.specs.Lists.{tabulate}
 use Rattle.numbers.proofs.Lists.{length-tabulate, getD-tabulate, tabulate-same, tabulate-set}
 use Rattle.numbers.proofs.Orders.{le-or-lt, lt-or-eq, eq-or-not}
 use Rattle.page.specs.Page.{how-many, arms-character}
 use Rattle.page.specs.Arrivals.{drawn, painted}
-use Rattle.plot.specs.Drawing.{filled-to, marked, eight-of}
+use Rattle.plot.specs.Drawing.{filled-to, marked, eight-of, upward}
 
 -- THE TABLE is the rule
 unfoldable pub table : List ℕ
@@ -285,7 +285,7 @@ same-two a b c d l m e = (omega arith, omega arith)
 same-four : (a c x y : ℕ) → a < 65536 → c < 65536 → a + 65536 * x ≡ c + 65536 * y → (a ≡ c) × (x ≡ y)
 same-four a c x y l m e = (omega arith, omega arith)
 
-pub same-eight : (xs ys : List ℕ) (a : ℕ) → ((i : ℕ) → i < 8 → getD xs (a + i) 0 < 256) → ((i : ℕ) → i < 8 → getD ys (a + i) 0 < 256) → eight-of xs a ≡ eight-of ys a
+same-eight : (xs ys : List ℕ) (a : ℕ) → ((i : ℕ) → i < 8 → getD xs (a + i) 0 < 256) → ((i : ℕ) → i < 8 → getD ys (a + i) 0 < 256) → eight-of xs a ≡ eight-of ys a
     → (i : ℕ) → i < 8 → getD xs (a + i) 0 ≡ getD ys (a + i) 0
 unfolding eight-of
 same-eight xs ys a f g e =
@@ -310,6 +310,49 @@ same-eight xs ys a f g e =
     among h0 h1 h2 h3 h4 h5 h6 h7 (suc (suc (suc (suc (suc (suc zero)))))) l = h6
     among h0 h1 h2 h3 h4 h5 h6 h7 (suc (suc (suc (suc (suc (suc (suc zero))))))) l = h7
     among h0 h1 h2 h3 h4 h5 h6 h7 (suc (suc (suc (suc (suc (suc (suc (suc i)))))))) l = absurd (omega arith)
+
+-- WHICH PATHS ONLY PASS UPWARD
+pub upward-same : (s e : ℕ) → s ≡ e → 1 ≡ upward s e
+unfolding upward
+upward-same s e h = rw (eq-eqb s e h)
+
+pub upward-other : (s e : ℕ) → (s ≡ e → ⊥) → 0 ≡ upward s e
+unfolding upward
+upward-other s e h = rw (ne-eqb s e h)
+
+upward-one : (s e : ℕ) → upward s e ≡ 1 → s ≡ e
+unfolding upward
+upward-one s e h = go (eq-or-not s e)
+  where
+    go : (s ≡ e) ⊎ (s ≡ e → ⊥) → s ≡ e
+    go (inl k) = k
+    go (inr k) = let z : _≡_ {A = ℕ} 0 1 = rw (ne-eqb s e k) at h in absurd (omega arith)
+
+upward-low : (s e : ℕ) → upward s e < 256
+unfolding upward
+upward-low s e = go (eqb s e)
+  where
+    go : (b : Bool) → cond b 1 0 < 256
+    go true = omega arith
+    go false = omega arith
+
+ones-at : (a i : ℕ) → a ≤ 24 → i < 8 → _≡_ {A = ℕ} (getD (replicate 32 1) (a + i) 0) 1
+ones-at a i l h = getD-replicate 32 (a + i) 1 0 (omega arith)
+
+eight-ones : (a : ℕ) → a ≤ 24 → eight-of (replicate 32 1) a ≡ 72340172838076673
+unfolding eight-of
+eight-ones a l =
+    rw (ones-at a 0 l (omega arith), ones-at a 1 l (omega arith), ones-at a 2 l (omega arith), ones-at a 3 l (omega arith), ones-at a 4 l (omega arith), ones-at a 5 l (omega arith), ones-at a 6 l (omega arith), ones-at a 7 l (omega arith))
+
+-- eight ones: none of eight paths runs
+pub none-run : (starts ends marks : List ℕ) (a : ℕ) → a ≤ 24 → marks ≡ tabulate 32 0 (λ j. upward (getD starts j 0) (getD ends j 0)) → eight-of marks a ≡ 72340172838076673
+    → (i : ℕ) → i < 8 → getD starts (a + i) 0 ≡ getD ends (a + i) 0
+none-run starts ends marks a l m h i k =
+    upward-one (getD starts (a + i) 0) (getD ends (a + i) 0)
+    (sym (mark-at i k) ∙ same-eight marks (replicate 32 1) a (λ n o. rw (mark-at n o) (upward-low _ _)) (λ n o. rw (ones-at a n l o) (omega arith)) (h ∙ sym (eight-ones a l)) i k ∙ ones-at a i l k)
+  where
+    mark-at : (n : ℕ) → n < 8 → getD marks (a + n) 0 ≡ upward (getD starts (a + n) 0) (getD ends (a + n) 0)
+    mark-at n o = rw m (getD-tabulate 32 (a + n) (λ j. upward (getD starts j 0) (getD ends j 0)) 0 (omega arith))
 
 -- A LIST FILLED by a rule from its front
 pub front-step : (f : ℕ → ℕ) (xs : List ℕ) (n v : ℕ) → n < length xs → v ≡ f n → ((j : ℕ) → j < n → getD xs j 0 ≡ f j) → (j : ℕ) → j < n + 1 → getD (set xs n v) j 0 ≡ f j

@@ -46,6 +46,10 @@ eight-of xs a =
     let x : ℕ → ℕ = λ i. getD xs (a + i) 0 in
     x 0 + 256 * x 1 + 65536 * (x 2 + 256 * x 3 + 65536 * (x 4 + 256 * x 5 + 65536 * (x 6 + 256 * x 7)))
 
+-- 1 where a path only passes upward, 0 where it runs
+unfoldable pub upward : (start end : ℕ) → ℕ
+upward s e = cond (eqb s e) 1 0
+
 -- a number's digit in a place of units, or a space where the number has none there
 unfoldable pub place : (unit n : ℕ) → ℕ
 place u n = cond (ltb n u && ltb 1 u) 32 (48 + n / u % 10)

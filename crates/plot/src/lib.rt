@@ -1,7 +1,7 @@
 // Drawing a channel's page line by line: from which column to which each path is on a track, and the character of each of its points there.
 ghost use mathlib.Core.Path.{_≡_};
 ghost use mathlib.Core.Bool.{false, cond};
-ghost use Prim.Native.Nat.{ℕ, suc, _+_, _-_, _*_, _/_, _%_, _≤_, _<_, min, max};
+ghost use Prim.Native.Nat.{suc, _+_, _-_, _*_, _/_, _%_, _≤_, _<_, min, max};
 ghost use lib.Dec.{ltb};
 ghost use lib.ListN.{length, getD, take, replicate};
 ghost use Rattle.numbers.specs.Lists.{tabulate};
@@ -17,6 +17,7 @@ ghost use Rattle.plot.specs.Drawing.{
   Run-asks,
   marked,
   eight-of,
+  upward,
   Levels-low,
   reached,
   track-drawn,
@@ -34,6 +35,9 @@ const PAIRS: usize = Terminals::MAX_PAIRS;
 
 // Paths that are looked at together.
 const EIGHT: usize = 8;
+
+// Eight bytes of 1 as one number.
+const EIGHT_ONES: u64 = 0x0101010101010101;
 
 // The columns of a page.
 const COLUMNS: u8 = 64;
@@ -168,19 +172,37 @@ fn eight(bytes: &[u8; PAIRS], from: usize) -> u64
     a + 65536 * (b + 65536 * (c + 65536 * d))
 }
 
-// Eight paths; where none of them runs, one character each.
+// 1 where a path only passes upward, 0 where it runs.
+fn mark(start: u8, end: u8) -> u8
+    ensures { λ r. ⌜ r ≡ upward start end ⌝ }
+{
+    if start == end { 1 } else { 0 }
+}
+
+// Which paths only pass upward on a track.
+fn mark_upward(marks: &mut [u8; PAIRS], starts: &[u8; PAIRS], ends: &[u8; PAIRS])
+    requires { ⌜ length (now marks) ≡ 32 ⌝ }
+    ensures { λ _. ⌜ now (marks .exit) ≡ tabulate 32 0 (λ j. upward (getD (now (starts .entry)) j 0) (getD (now (ends .entry)) j 0)) ⌝ }
+{
+    for j in 0..PAIRS {
+        marks[j] = mark(starts[j], ends[j]);
+    }
+}
+
+// Eight paths; where all of them only pass upward, one character each.
 fn put_eight(
     row: &mut [u8],
     starts: &[u8; PAIRS],
     ends: &[u8; PAIRS],
+    marks: &[u8; PAIRS],
     from: usize,
     up: bool,
     down: bool,
 )
-    requires { ⌜ Row-asks (from + 8) (now row) (now starts) (now ends) × (from ≤ 24) ⌝ }
+    requires { ⌜ Row-asks (from + 8) (now row) (now starts) (now ends) × (from ≤ 24) × (now marks ≡ tabulate 32 0 (λ j. upward (getD (now starts) j 0) (getD (now ends) j 0))) ⌝ }
     ensures { λ _. ⌜ now (row .exit) ≡ tabulate 64 0 (λ c. painted (λ j. getD (now (starts .entry)) j 0) (λ j. getD (now (ends .entry)) j 0) up down from 8 c (getD (now (row .entry)) c 0)) ⌝ }
 {
-    if eight(starts, from) == eight(ends, from) {
+    if eight(marks, from) == EIGHT_ONES {
         put_uprights(row, ends, from, character(false, false, up, down));
         return;
     }
@@ -193,9 +215,11 @@ fn put_row(row: &mut [u8], starts: &[u8; PAIRS], ends: &[u8; PAIRS], m: usize, u
     ensures { λ _. ⌜ now (row .exit) ≡ tabulate 64 0 (λ c. painted (λ j. getD (now (starts .entry)) j 0) (λ j. getD (now (ends .entry)) j 0) up down 0 m c 46) ⌝ }
 {
     fill(row, 0, COLUMNS, DOT);
+    let mut marks = [0u8; PAIRS];
+    mark_upward(&mut marks, starts, ends);
     let mut j = 0;
     while j + EIGHT <= m {
-        put_eight(row, starts, ends, j, up, down);
+        put_eight(row, starts, ends, &marks, j, up, down);
         j += EIGHT;
     }
     put_paths(row, starts, ends, j, m, up, down);

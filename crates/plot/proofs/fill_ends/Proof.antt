@@ -1,3 +1,4 @@
+-- fill_ends meets its contract: pair by pair. Assumes nothing.
 use Prim.Native.Nat.{_-_, _≤_}
 use native.Mathlib.Omega.{arith}
 use Rattle.plot.specs.Drawing.{Levels-filled}

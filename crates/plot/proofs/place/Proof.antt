@@ -1,3 +1,4 @@
+-- place meets its contract: a digit where the number has one or the place is the last. Assumes nothing.
 use mathlib.Core.Path.{sym, _∙_}
 use Rattle.plot.proofs.Lines.{place-digit, place-one, place-space}
 use borrow.Author.Needs.{needs}

@@ -1,3 +1,4 @@
+-- put_page meets its contract: nothing where there is no space, or the lines of all tracks. Assumes nothing.
 use mathlib.Core.Path.{refl}
 use native.Mathlib.Omega.{arith}
 use Rattle.plot.proofs.Ends.{ends-asked, arrivals-shown, drawn-right}

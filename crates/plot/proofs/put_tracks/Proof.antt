@@ -1,3 +1,4 @@
+-- put_tracks meets its contract: line by line, the highest track first. Assumes nothing.
 use mathlib.Core.Path.{_≡_, refl}
 use Prim.Native.Nat.{_≤_}
 use native.Mathlib.Omega.{arith}

@@ -1,3 +1,4 @@
+-- put_uprights meets its contract: one store for each of eight paths. Assumes nothing.
 use mathlib.Core.Path.{_≡_, sym, _∙_}
 use Prim.Native.Nat.{_+_, _-_, _≤_}
 use native.Mathlib.Omega.{arith}
