@@ -23,7 +23,7 @@ use Rattle.page.specs.Page.{character}
 use Rattle.page.specs.Arrivals.{Channel-placed, Ends-are, right-arrival, left-arrival, arrival, track-painted}
 use Rattle.page.proofs.Painted.{painted-right}
 use Rattle.plot.specs.Drawing.{reached, track-drawn, Arrivals-shown, Ends-ask, Levels-filled}
-use Rattle.plot.proofs.Rows.{front-step, painted-same}
+use Rattle.track.proofs.Rows.{front-step, painted-same}
 
 -- what the code works out
 pub reached-by : (ahead back upto : List ℕ) (y j h v : ℕ) → h ≡ min y 32 → v ≡ min (getD upto j 0) (getD ahead (j + y) 0 + j) + max (getD upto j 0) (getD back (32 + j - h) 0 + j) - getD upto j 0

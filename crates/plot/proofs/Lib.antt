@@ -1,5 +1,4 @@
--- The laws of the page's writer: characters and rows, lines, pages; and what a page shows.
-pub mod Rows
+-- The laws of the page's writer: arrivals, lines, pages; and what a page shows.
 pub mod Ends
 pub mod Lines
 pub mod Shown

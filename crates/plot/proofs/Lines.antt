@@ -20,8 +20,9 @@ use Rattle.writing.specs.TableText.{digits-from, digits}
 use Rattle.writing.specs.Output.{over}
 use Rattle.page.specs.Page.{character, in-three, line-of, track-line, page-text}
 use Rattle.page.specs.Arrivals.{painted}
-use Rattle.plot.specs.Drawing.{place, Columns-shown, reached, track-drawn, Arrivals-shown, lines-below, Lines-put, Page-put}
-use Rattle.plot.proofs.Rows.{painted-same}
+use Rattle.track.specs.Rows.{Columns-shown}
+use Rattle.plot.specs.Drawing.{place, reached, track-drawn, Arrivals-shown, lines-below, Lines-put, Page-put}
+use Rattle.track.proofs.Rows.{painted-same}
 
 -- A NUMBER IN THREE PLACES
 pub place-digit : (u n : ℕ) → u ≤ n → place u n ≡ 48 + n / u % 10

@@ -4,7 +4,7 @@ use Prim.Native.Nat.{ℕ, _+_, _-_, _≤_, _<_, min}
 use native.Mathlib.Omega.{arith}
 use lib.ListN.{length, getD}
 use Rattle.plot.specs.Drawing.{reached}
-use Rattle.plot.proofs.Rows.{front-step, front-long, front-end}
+use Rattle.track.proofs.Rows.{front-step, front-long, front-end}
 use Rattle.plot.proofs.Ends.{reached-by}
 use borrow.Author.Needs.{needs}
 use Rattle.plot.proofs.fill_arrivals.Statement.{statement}

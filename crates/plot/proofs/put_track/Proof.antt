@@ -1,7 +1,7 @@
 -- put_track meets its contract: a line's bytes from the left. Assumes nothing.
 use native.Mathlib.Omega.{arith}
 use lib.ListN.{length-set}
-use Rattle.plot.proofs.Rows.{rule-long}
+use Rattle.track.proofs.Rows.{rule-long}
 use Rattle.plot.proofs.Lines.{line-room, line-put}
 use borrow.Author.Needs.{needs}
 use Rattle.plot.proofs.put_track.Statement.{statement}

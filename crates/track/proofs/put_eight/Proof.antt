@@ -1,16 +1,16 @@
 -- put_eight meets its contract: eight marks of 1 as one number are eight paths that only pass upward. Assumes nothing.
 use mathlib.Core.Path.{sym, _∙_}
 use lib.ListN.{getD}
-use Rattle.plot.proofs.Rows.{none-run, eight-marked, eight-run}
+use Rattle.track.proofs.Rows.{none-run, eight-marked, eight-run}
 use borrow.Author.Needs.{needs}
-use Rattle.plot.proofs.put_eight.Statement.{statement}
-use Rattle.plot.proofs.put_eight.Tie as tie
-use Rattle.plot.proofs.put_eight.Reads as reads
-use Rattle.plot.proofs.put_eight.Lts as lts
-use Rattle.plot.proofs.character.Reads as character-reads
-use Rattle.plot.proofs.eight.Reads as eight-reads
-use Rattle.plot.proofs.put_paths.Reads as put-paths-reads
-use Rattle.plot.proofs.put_uprights.Reads as put-uprights-reads
+use Rattle.track.proofs.put_eight.Statement.{statement}
+use Rattle.track.proofs.put_eight.Tie as tie
+use Rattle.track.proofs.put_eight.Reads as reads
+use Rattle.track.proofs.put_eight.Lts as lts
+use Rattle.track.proofs.character.Reads as character-reads
+use Rattle.track.proofs.eight.Reads as eight-reads
+use Rattle.track.proofs.put_paths.Reads as put-paths-reads
+use Rattle.track.proofs.put_uprights.Reads as put-uprights-reads
 
 -- src/lib.rt:205:8
 eight-requires : tie.Need-eight-requires

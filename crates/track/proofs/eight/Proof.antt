@@ -1,11 +1,11 @@
 -- eight meets its contract: two bytes at a time. Assumes nothing.
-use Rattle.plot.proofs.Rows.{eight-is}
+use Rattle.track.proofs.Rows.{eight-is}
 use borrow.Author.Needs.{needs}
-use Rattle.plot.proofs.eight.Statement.{statement}
-use Rattle.plot.proofs.eight.Tie as tie
-use Rattle.plot.proofs.eight.Reads as reads
-use Rattle.plot.proofs.eight.Lts as lts
-use Rattle.plot.proofs.two.Reads as two-reads
+use Rattle.track.proofs.eight.Statement.{statement}
+use Rattle.track.proofs.eight.Tie as tie
+use Rattle.track.proofs.eight.Reads as reads
+use Rattle.track.proofs.eight.Lts as lts
+use Rattle.track.proofs.two.Reads as two-reads
 
 -- src/lib.rt:164:17
 element-copy-out-two : tie.Need-element-copy-out-two

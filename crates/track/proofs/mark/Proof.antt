@@ -1,9 +1,9 @@
 -- mark meets its contract. Assumes nothing.
-use Rattle.plot.proofs.Rows.{upward-same, upward-other}
-use Rattle.plot.proofs.mark.Statement.{statement}
-use Rattle.plot.proofs.mark.Tie as tie
-use Rattle.plot.proofs.mark.Reads as reads
-use Rattle.plot.proofs.mark.Lts as lts
+use Rattle.track.proofs.Rows.{upward-same, upward-other}
+use Rattle.track.proofs.mark.Statement.{statement}
+use Rattle.track.proofs.mark.Tie as tie
+use Rattle.track.proofs.mark.Reads as reads
+use Rattle.track.proofs.mark.Lts as lts
 
 -- src/lib.rt:176:1
 returns : tie.Need-returns

@@ -4,13 +4,13 @@ use Prim.Native.Nat.{_-_, _≤_, max}
 use native.Mathlib.Omega.{arith}
 use lib.ListN.{getD}
 use Rattle.numbers.specs.Lists.{tabulate}
-use Rattle.plot.specs.Drawing.{filled-to}
-use Rattle.plot.proofs.Rows.{rule-long, filling-starts, filling-steps, filling-ends}
+use Rattle.track.specs.Rows.{filled-to}
+use Rattle.track.proofs.Rows.{rule-long, filling-starts, filling-steps, filling-ends}
 use borrow.Author.Needs.{needs}
-use Rattle.plot.proofs.fill.Statement.{statement}
-use Rattle.plot.proofs.fill.Tie as tie
-use Rattle.plot.proofs.fill.Reads as reads
-use Rattle.plot.proofs.fill.Lts as lts
+use Rattle.track.proofs.fill.Statement.{statement}
+use Rattle.track.proofs.fill.Tie as tie
+use Rattle.track.proofs.fill.Reads as reads
+use Rattle.track.proofs.fill.Lts as lts
 
 abbrev Inv-loop : tie.InvT-loop
 Inv-loop row₀ from upto character c₀ row c = (from ≤ c) × (c ≤ max from upto) × (row ≡ tabulate 64 0 (λ i. filled-to from c character i (getD row₀ i 0)))

@@ -1,8 +1,8 @@
 -- character meets its contract: the table's entry is the rule's character. Assumes nothing.
-use Rattle.plot.proofs.Rows.{table, table-right}
+use Rattle.track.proofs.Rows.{table, table-right}
 use borrow.Author.Needs.{needs}
-use Rattle.plot.proofs.character.Statement.{statement}
-use Rattle.plot.proofs.character.Tie as tie
+use Rattle.track.proofs.character.Statement.{statement}
+use Rattle.track.proofs.character.Tie as tie
 
 arm-requires : tie.Need-arm-requires
 arm-requires c κs = search needs

@@ -17,7 +17,7 @@ use Rattle.numbers.proofs.Lists.{length-tabulate, getD-tabulate, tabulate-same,
 use Rattle.numbers.proofs.Orders.{le-or-lt, lt-or-eq, eq-or-not}
 use Rattle.page.specs.Page.{how-many, arms-character}
 use Rattle.page.specs.Arrivals.{drawn, painted}
-use Rattle.plot.specs.Drawing.{filled-to, marked, eight-of, upward}
+use Rattle.track.specs.Rows.{filled-to, marked, eight-of, upward}
 
 -- THE TABLE is the rule
 unfoldable pub table : List ℕ

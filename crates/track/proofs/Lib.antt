@@ -1,0 +1,2 @@
+-- The laws of a track's row of characters.
+pub mod Rows
