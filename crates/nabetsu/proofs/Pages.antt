@@ -1,7 +1,7 @@
 -- The laws of write_page: a refused text, a channel or spread for which there is no page, and the page where it was put; how much space is enough; and what the
 -- page shows. Assumes nothing.
 use mathlib.Core.Path.{_≡_, refl, sym, ap, _∙_}
-use mathlib.Core.Bool.{Bool, true, false, _&&_, cond}
+use mathlib.Core.Bool.{Bool, true, false, _&&_}
 use mathlib.Core.List.{List, []}
 use Prim.Native.Nat.{ℕ, zero, suc, _+_, _-_, _≤_, _<_}
 use native.Mathlib.Numerals.{add-one}
@@ -23,7 +23,7 @@ use Rattle.text.specs.Outcome.{refusal-of, is-accepted}
 use Rattle.text.specs.Driver.{Stack-read}
 use Rattle.text.specs.declared.Reading.{Reading}
 use Rattle.text.specs.declared.Outcome.{Outcome}
-use Rattle.text.proofs.Refusals.{or-else-fine, or-else-refused, or-else-next, accepted-fine, refused-number}
+use Rattle.text.proofs.Refusals.{or-else-fine, when-fine, only-fine, or-else-refused, or-else-next, accepted-fine, refused-number}
 use Rattle.text.proofs.Within.{accepted-within}
 use Rattle.solver.specs.declared.Placement.{Placement}
 use Rattle.answer.specs.Solve.{answer-separations, answer-positions}
@@ -54,25 +54,17 @@ pub record Asked (k : Stack) (s n : ℕ) : Type 0 where
   pub wide : longest (k .strips) ≤ s
   pub shown : s ≤ 63
 
-refused-or-not : (b : Bool) (f : Refusal) → (f .number ≡ 0 → ⊥) → cond b f fine .number ≡ 0 → b ≡ false
-refused-or-not true f h e = absurd (h e)
-refused-or-not false f h e = refl
-
-fine-or-not : (b : Bool) (f : Refusal) → (f .number ≡ 0 → ⊥) → cond b fine f .number ≡ 0 → b ≡ true
-fine-or-not true f h e = refl
-fine-or-not false f h e = absurd (h e)
-
 pub asked-fine : (k : Stack) (s n : ℕ) → asked-refusal k s n .number ≡ 0 → Asked k s n
-unfolding asked-refusal channel-refusal narrow-refusal broad-refusal refusal
+unfolding asked-refusal channel-refusal narrow-refusal broad-refusal
 asked-fine k s n e =
     let a = or-else-fine (channel-refusal k n) (or-else (narrow-refusal k s) (broad-refusal s)) e in
     let b = or-else-fine (narrow-refusal k s) (broad-refusal s) (a .1) in
-    let c = fine-or-not (leb 1 n && leb n (length (k .channels))) (refusal 3 0 0) (λ h. omega arith) (a .0) in
+    let c = only-fine (leb 1 n && leb n (length (k .channels))) 2 0 0 (a .0) in
     record {
       some = leb-true 1 n (and-left (leb 1 n) (leb n (length (k .channels))) c);
       within = leb-true n (length (k .channels)) (and-right (leb 1 n) (leb n (length (k .channels))) c);
-      wide = ltb-false s (longest (k .strips)) (refused-or-not (ltb s (longest (k .strips))) (refusal 7 0 0) (λ h. omega arith) (b .0));
-      shown = ltb-false 63 s (refused-or-not (ltb 63 s) (refusal 9 0 0) (λ h. omega arith) (b .1));
+      wide = ltb-false s (longest (k .strips)) (when-fine (ltb s (longest (k .strips))) 6 0 0 fine (b .0) .0);
+      shown = ltb-false 63 s (when-fine (ltb 63 s) 8 0 0 fine (b .1) .0);
     }
 
 pub asked-number : (k : Stack) (s n : ℕ) (u : Outcome) → refusal-of u ≡ asked-refusal k s n → is-accepted u ≡ true → asked-refusal k s n .number ≡ 0
