@@ -1,4 +1,4 @@
--- What feasibility says, pair by pair: for j from 0 to m - t - 1, the upper terminal of pair j + t is at least t columns right of the lower terminal of
+-- What wirable says, pair by pair: for j from 0 to m - t - 1, the upper terminal of pair j + t is at least t columns right of the lower terminal of
 -- pair j (L(t)), and the lower terminal of pair j + t at least t columns right of the upper terminal of pair j (R(t)). Assumes nothing.
 use mathlib.Core.Path.{_≡_, refl}
 use mathlib.Core.Bool.{Bool, true, false, _&&_, _||_}
@@ -10,7 +10,7 @@ use native.Mathlib.Decide.{ℕ-discrete}
 use native.Mathlib.Omega.{arith}
 use borrow.Author.Tests.{leb-true, leb-false, le-leb, lt-leb}
 use Rattle.numbers.proofs.Bools.{ands, and-left, and-right, and-both}
-use Rattle.stack.specs.Stack.{Pair, p-at, q-at, every, left-good, right-good, feasible}
+use Rattle.stack.specs.Stack.{Pair, p-at, q-at, every, left-good, right-good, wirable}
 
 pub record By-pairs (c : List Pair) (t a b : ℕ) : Type 0 where
   pub left : (j i : ℕ) → j + t ≡ i → i < length c → a + p-at c j + t ≤ b + q-at c i
@@ -30,9 +30,9 @@ every-elim (suc n) j f e i l u = go (ℕ-discrete j i) (every-elim n (suc j) f (
     go (yes d) g = rw d at (and-left (f j) (every n (suc j) f) e)
     go (no d) g = g (omega arith) (omega arith)
 
-pub by-pairs-feasible : (c : List Pair) (t a b : ℕ) → By-pairs c t a b → feasible c t a b ≡ true
-unfolding feasible left-good right-good
-by-pairs-feasible c t a b f = go (leb (length c) t) refl
+pub by-pairs-wirable : (c : List Pair) (t a b : ℕ) → By-pairs c t a b → wirable c t a b ≡ true
+unfolding wirable left-good right-good
+by-pairs-wirable c t a b f = go (leb (length c) t) refl
   where
     lefts : t < length c → every (length c - t) t (λ j. left-good c t a b j) ≡ true
     lefts h =
@@ -47,9 +47,9 @@ by-pairs-feasible c t a b f = go (leb (length c) t) refl
     go true e = refl
     go false e = search (ands, lefts, rights, leb-false)
 
-pub feasible-by-pairs : (c : List Pair) (t a b : ℕ) → feasible c t a b ≡ true → By-pairs c t a b
-unfolding feasible left-good right-good
-feasible-by-pairs c t a b e = record { left = lefts; right = rights }
+pub wirable-by-pairs : (c : List Pair) (t a b : ℕ) → wirable c t a b ≡ true → By-pairs c t a b
+unfolding wirable left-good right-good
+wirable-by-pairs c t a b e = record { left = lefts; right = rights }
   where
     both : t < length c → (every (length c - t) t (λ j. left-good c t a b j) && every (length c - t) 0 (λ j. right-good c t a b j)) ≡ true
     both h = rw (lt-leb (length c) t h) at e

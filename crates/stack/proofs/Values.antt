@@ -9,8 +9,8 @@ use lib.ListN.{length, getD, set, replicate, length-map, getD-replicate, List·g
 use lib.Seq.{getD-set-same, getD-set-other}
 use Rattle.numbers.specs.Lists.{tabulate}
 use Rattle.numbers.proofs.Lists.{length-tabulate, getD-tabulate, tabulate-same, tabulate-snoc, tabulate-set, tabulate-constant}
-use Rattle.stack.specs.Stack.{Pair, pair, p-at, q-at, stack}
-use Rattle.stack.specs.Value.{tracks, columns, tracks-of, columns-of, strip, no-terminals, pair-at, channel-of, length-at, channel-at, stack-of}
+use Rattle.stack.specs.Stack.{Pair, pair, p-at, q-at, Channel, channel, no-channel, channel-in, stack}
+use Rattle.stack.specs.Value.{tracks, columns, tracks-of, columns-of, strip, no-terminals, pair-at, channel-of, length-at, floor-at, channel-at, stack-of}
 use Rattle.stack.specs.Made.{bare}
 use Rattle.stack.specs.declared.Tracks.{Tracks}
 use Rattle.stack.specs.declared.Columns.{Columns}
@@ -62,9 +62,13 @@ channel-longer t p q hl hu =
     agrees j h =
         rw (getD-set-other (t .lower) (t .count) j (columns p) (columns 0) (omega arith), getD-set-other (t .upper) (t .count) j (columns q) (columns 0) (omega arith))
 
+pub stack-channel : (k : Stack-struct) (i : ℕ) → i < k .count → channel-in (stack-of k) i ≡ channel-at k i
+unfolding stack-of stack
+stack-channel k i h = getD-tabulate (k .count) i (λ i. channel-at k i) no-channel h
+
 -- another strip at a place
 pub strip-stored : (k : Stack-struct) (i : ℕ) (s : Strip) → i < length (k .strips) →
-    stack-of (record { count = k .count; strips = set (k .strips) i s; channels = k .channels })
+    stack-of (record { count = k .count; strips = set (k .strips) i s; channels = k .channels; floors = k .floors })
     ≡ stack (set (stack-of k .strips) i (s .length .0)) (stack-of k .channels)
 unfolding stack-of stack
 strip-stored k i s h =
@@ -73,26 +77,44 @@ strip-stored k i s h =
     (ap (λ (x : Strip). x .length .0) (getD-set-same (k .strips) i s (strip 0) h))
     (λ j d. ap (λ (x : Strip). x .length .0) (getD-set-other (k .strips) i j s (strip 0) d)))
 
--- other terminals in a channel
-pub channel-stored : (k : Stack-struct) (i : ℕ) (t : Terminals) → i < length (k .channels) →
-    stack-of (record { count = k .count; strips = k .strips; channels = set (k .channels) i t })
-    ≡ stack (stack-of k .strips) (set (stack-of k .channels) i (channel-of t))
-unfolding stack-of stack
-channel-stored k i t h =
-    ap (λ (cs : List (List Pair)). stack (tabulate (suc (k .count)) 0 (λ i. length-at k i)) cs)
-    (tabulate-set (k .count) i (λ j. channel-at k j) (λ j. channel-of (getD (set (k .channels) i t) j no-terminals)) (channel-of t)
-    (ap (λ (x : Terminals). channel-of x) (getD-set-same (k .channels) i t no-terminals h))
-    (λ j d. ap (λ (x : Terminals). channel-of x) (getD-set-other (k .channels) i j t no-terminals d)))
+-- other terminals in a channel, or another floor
+module _ (k : Stack-struct) (i : ℕ) (within : i < k .count) where
+  restored : (f : ℕ → Channel) (c : Channel) → f i ≡ c → ((j : ℕ) → (j ≡ i → ⊥) → f j ≡ channel-at k j) →
+      stack (stack-of k .strips) (tabulate (k .count) 0 f) ≡ stack (stack-of k .strips) (set (stack-of k .channels) i c)
+  unfolding stack-of stack
+  restored f c here other = ap (λ (cs : List Channel). stack (stack-of k .strips) cs) (tabulate-set (k .count) i (λ j. channel-at k j) f c here other)
+
+  pub channel-stored : (t : Terminals) → i < length (k .channels) →
+      stack-of (record { count = k .count; strips = k .strips; channels = set (k .channels) i t; floors = k .floors })
+      ≡ stack (stack-of k .strips) (set (stack-of k .channels) i (channel (channel-of t) (channel-in (stack-of k) i .floor)))
+  unfolding stack-of stack
+  channel-stored t h =
+      rw (stack-channel k i within)
+      (restored (λ j. channel (channel-of (getD (set (k .channels) i t) j no-terminals)) (floor-at k j)) (channel (channel-of t) (floor-at k i))
+      (ap (λ (x : Terminals). channel (channel-of x) (floor-at k i)) (getD-set-same (k .channels) i t no-terminals h))
+      (λ j d. ap (λ (x : Terminals). channel (channel-of x) (floor-at k j)) (getD-set-other (k .channels) i j t no-terminals d)))
+
+  pub floor-stored : (t : Tracks) → i < length (k .floors) →
+      stack-of (record { count = k .count; strips = k .strips; channels = k .channels; floors = set (k .floors) i t })
+      ≡ stack (stack-of k .strips) (set (stack-of k .channels) i (channel (channel-in (stack-of k) i .pairs) (t .0)))
+  unfolding stack-of stack
+  floor-stored t h =
+      rw (stack-channel k i within)
+      (restored (λ j. channel (channel-of (getD (k .channels) j no-terminals)) (getD (set (k .floors) i t) j (tracks 0) .0)) (channel (channel-of (getD (k .channels) i no-terminals)) (t .0))
+      (ap (λ (x : Tracks). channel (channel-of (getD (k .channels) i no-terminals)) (x .0)) (getD-set-same (k .floors) i t (tracks 0) h))
+      (λ j d. ap (λ (x : Tracks). channel (channel-of (getD (k .channels) j no-terminals)) (x .0)) (getD-set-other (k .floors) i j t (tracks 0) d)))
 
 -- the shortest strips and channels without pairs
 pub bare-stack : (k : ℕ) (t : Terminals) → k ≤ 8 → channel-of t ≡ [] →
-    stack-of (record { count = k; strips = replicate 9 (strip 1); channels = replicate 8 t }) ≡ bare k
+    stack-of (record { count = k; strips = replicate 9 (strip 1); channels = replicate 8 t; floors = replicate 8 (tracks 0) }) ≡ bare k
 unfolding stack-of bare
 bare-stack k t h e =
     ap₂ stack
     (tabulate-same (suc k) 0 (λ i. getD (replicate 9 (strip 1)) i (strip 0) .length .0) (λ i. 1)
     (λ j a b. ap (λ (x : Strip). x .length .0) (getD-replicate 9 j (strip 1) (strip 0) (omega (arith, zero-add (suc k)))))
     ∙ tabulate-constant (suc k) 0 1)
-    (tabulate-same k 0 (λ i. channel-of (getD (replicate 8 t) i no-terminals)) (λ i. [])
-    (λ j a b. ap (λ (x : Terminals). channel-of x) (getD-replicate 8 j t no-terminals (omega (arith, zero-add k))) ∙ e)
-    ∙ tabulate-constant k 0 [])
+    (tabulate-same k 0 (λ i. channel (channel-of (getD (replicate 8 t) i no-terminals)) (getD (replicate 8 (tracks 0)) i (tracks 0) .0)) (λ i. no-channel)
+    (λ j a b. ap₂ channel
+    (ap (λ (x : Terminals). channel-of x) (getD-replicate 8 j t no-terminals (omega (arith, zero-add k))) ∙ e)
+    (ap (λ (x : Tracks). x .0) (getD-replicate 8 j (tracks 0) (tracks 0) (omega (arith, zero-add k)))))
+    ∙ tabulate-constant k 0 no-channel)

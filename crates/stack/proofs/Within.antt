@@ -8,15 +8,15 @@ use lib.ListN.{length, getD}
 use borrow.Author.Tests.{leb-true}
 use Rattle.numbers.proofs.Bools.{ands, impossible}
 use Rattle.numbers.proofs.Lists.{length-tabulate, getD-tabulate}
-use Rattle.stack.specs.Stack.{Pair, Stack, stack}
-use Rattle.stack.specs.Limits.{rising, all-rising, on-strips, channel-within, channels-within, strips-within, within-limits}
-use Rattle.stack.specs.Value.{strip, no-terminals, channel-of, length-at, channel-at, stack-of}
+use Rattle.stack.specs.Stack.{Channel, no-channel, channel-in, Stack, stack}
+use Rattle.stack.specs.Limits.{rising, all-rising, on-strips, pairs-within, channel-within, channels-within, strips-within, within-limits}
+use Rattle.stack.specs.Value.{strip, no-terminals, channel-of, length-at, floor-at, channel-at, stack-of}
 use Rattle.stack.specs.declared.Stack.{Stack as Stack-struct}
-use Rattle.stack.proofs.Values.{channel-length}
+use Rattle.stack.proofs.Values.{channel-length, stack-channel}
 use Rattle.stack.proofs.OnStrips.{on-longer}
 
 -- one strip more than channels
-pub strips-length : (ls : List ℕ) (cs : List (List Pair)) → channels-within ls cs ≡ true → length ls ≡ suc (length cs)
+pub strips-length : (ls : List ℕ) (cs : List Channel) → channels-within ls cs ≡ true → length ls ≡ suc (length cs)
 unfolding channels-within
 strips-length [] cs e = impossible e
 strips-length (l ∷ []) [] e = refl
@@ -25,7 +25,7 @@ strips-length (l ∷ u ∷ ls) [] e = impossible e
 strips-length (l ∷ u ∷ ls) (c ∷ cs) e = ap suc (strips-length (u ∷ ls) cs (search ands))
 
 -- each channel is within the limits between its strips
-pub channel-in-limits : (ls : List ℕ) (cs : List (List Pair)) (i : ℕ) → channels-within ls cs ≡ true → i < length cs → channel-within (getD ls i 0) (getD ls (suc i) 0) (getD cs i []) ≡ true
+pub channel-in-limits : (ls : List ℕ) (cs : List Channel) (i : ℕ) → channels-within ls cs ≡ true → i < length cs → channel-within (getD ls i 0) (getD ls (suc i) 0) (getD cs i no-channel) ≡ true
 unfolding channels-within
 channel-in-limits [] cs i e h = impossible e
 channel-in-limits (l ∷ []) [] i e h = absurd (omega arith)
@@ -41,14 +41,14 @@ strip-length [] i e = omega arith
 strip-length (l ∷ ls) zero e = leb-true l 1000 (search ands)
 strip-length (l ∷ ls) (suc i) e = strip-length ls i (search ands)
 
-channels-rising : (ls : List ℕ) (cs : List (List Pair)) → channels-within ls cs ≡ true → all-rising cs ≡ true
-unfolding channels-within channel-within all-rising
+channels-rising : (ls : List ℕ) (cs : List Channel) → channels-within ls cs ≡ true → all-rising cs ≡ true
+unfolding channels-within channel-within pairs-within all-rising
 channels-rising [] cs e = impossible e
 channels-rising (l ∷ []) [] e = refl
 channels-rising (l ∷ []) (c ∷ cs) e = impossible e
 channels-rising (l ∷ u ∷ ls) [] e = refl
 channels-rising (l ∷ u ∷ ls) (c ∷ cs) e =
-    let here : rising c ≡ true = search ands in
+    let here : rising (c .pairs) ≡ true = search ands in
     rw here (channels-rising (u ∷ ls) cs (search ands))
 
 -- every channel of a stack within the limits rises
@@ -65,10 +65,6 @@ pub stack-strips : (k : Stack-struct) → length (stack-of k .strips) ≡ suc (k
 unfolding stack-of stack
 stack-strips k = length-tabulate (suc (k .count)) 0 (λ i. length-at k i)
 
-pub stack-channel : (k : Stack-struct) (i : ℕ) → i < k .count → getD (stack-of k .channels) i [] ≡ channel-of (getD (k .channels) i no-terminals)
-unfolding stack-of stack
-stack-channel k i h = getD-tabulate (k .count) i (λ i. channel-at k i) [] h
-
 pub stack-strip : (k : Stack-struct) (i : ℕ) → i < suc (k .count) → getD (stack-of k .strips) i 0 ≡ getD (k .strips) i (strip 0) .length .0
 unfolding stack-of stack
 stack-strip k i h = getD-tabulate (suc (k .count)) i (λ i. length-at k i) 0 h
@@ -79,21 +75,28 @@ module _ (k : Stack-struct) (good : within-limits (stack-of k) ≡ true) where
   few-channels = omega (arith, stack-channels k, leb-true (length (stack-of k .channels)) 8 (search ands))
 
   pub few-pairs : (i : ℕ) → i < k .count → getD (k .channels) i no-terminals .count ≤ 32
-  unfolding within-limits channel-within
+  unfolding within-limits channel-within pairs-within
   few-pairs i h =
       let w = channel-in-limits (stack-of k .strips) (stack-of k .channels) i (search ands) (omega (arith, stack-channels k)) in
-      let n = leb-true (length (getD (stack-of k .channels) i [])) 32 (search ands) in
-      omega (arith, ap length (stack-channel k i h), channel-length (getD (k .channels) i no-terminals))
+      let n = leb-true (length (channel-in (stack-of k) i .pairs)) 32 (search ands) in
+      omega (arith, ap (λ (c : Channel). length (c .pairs)) (stack-channel k i h), channel-length (getD (k .channels) i no-terminals))
+
+  pub small-floor : (i : ℕ) → i < k .count → floor-at k i ≤ 64
+  unfolding within-limits channel-within
+  small-floor i h =
+      let w = channel-in-limits (stack-of k .strips) (stack-of k .channels) i (search ands) (omega (arith, stack-channels k)) in
+      let n = leb-true (channel-in (stack-of k) i .floor) 64 (search ands) in
+      omega (arith, ap (λ (c : Channel). c .floor) (stack-channel k i h))
 
   -- its channels' terminals are at most the greatest length
   pub on-longest-strips : (i : ℕ) → i < k .count → on-strips 1000 1000 (channel-of (getD (k .channels) i no-terminals)) ≡ true
-  unfolding within-limits channel-within
+  unfolding within-limits channel-within pairs-within
   on-longest-strips i h =
       let w = channel-in-limits (stack-of k .strips) (stack-of k .channels) i (search ands) (omega (arith, stack-channels k)) in
       let l = getD (stack-of k .strips) i 0 in
       let u = getD (stack-of k .strips) (suc i) 0 in
       rw (stack-channel k i h) at
-      (on-longer l u 1000 1000 (getD (stack-of k .channels) i []) (strip-length (stack-of k .strips) i (search ands)) (strip-length (stack-of k .strips) (suc i) (search ands))
+      (on-longer l u 1000 1000 (channel-in (stack-of k) i .pairs) (strip-length (stack-of k .strips) i (search ands)) (strip-length (stack-of k .strips) (suc i) (search ands))
       (search ands))
 
 -- a stack within the limits has one strip more than channels

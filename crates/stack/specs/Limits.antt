@@ -1,11 +1,11 @@
--- TRUSTED. Document 01's limits on a stack: k from 1 to 8, strip lengths from 1 to 1,000, up to 32 pairs in a channel, terminals within their
--- strip and strictly rising along each edge. Assumes nothing: these are definitions.
+-- TRUSTED. The limits on a stack of documents 01 and 02 (P2): k from 1 to 8, strip lengths from 1 to 1,000, up to 32 pairs in a channel, terminals within
+-- their strip and strictly rising along each edge, floors up to 64. Assumes nothing: these are definitions.
 use mathlib.Core.Bool.{Bool, true, false, _&&_}
 use mathlib.Core.List.{List, [], _∷_}
 use Prim.Native.Nat.{ℕ}
 use lib.Dec.{ltb, leb}
 use lib.ListN.{length}
-use Rattle.stack.specs.Stack.{Pair, Stack}
+use Rattle.stack.specs.Stack.{Pair, Channel, Stack}
 
 -- each pair's terminals are above those of the pair before it, the first's above p and q
 unfoldable pub rises-above : (p q : ℕ) → List Pair → Bool
@@ -16,20 +16,23 @@ unfoldable pub rising : List Pair → Bool
 rising [] = true
 rising (x ∷ xs) = rises-above (x .p) (x .q) xs
 
-unfoldable pub all-rising : List (List Pair) → Bool
+unfoldable pub all-rising : List Channel → Bool
 all-rising [] = true
-all-rising (c ∷ cs) = rising c && all-rising cs
+all-rising (c ∷ cs) = rising (c .pairs) && all-rising cs
 
 -- every terminal is at most its strip's length
 unfoldable pub on-strips : (lower upper : ℕ) → List Pair → Bool
 on-strips a b [] = true
 on-strips a b (x ∷ xs) = (leb (x .p) a && leb (x .q) b) && on-strips a b xs
 
-unfoldable pub channel-within : (lower upper : ℕ) → List Pair → Bool
-channel-within a b c = leb (length c) 32 && (rising c && on-strips a b c)
+unfoldable pub pairs-within : (lower upper : ℕ) → List Pair → Bool
+pairs-within a b ps = leb (length ps) 32 && (rising ps && on-strips a b ps)
+
+unfoldable pub channel-within : (lower upper : ℕ) → Channel → Bool
+channel-within a b c = leb (c .floor) 64 && pairs-within a b (c .pairs)
 
 -- one channel above each strip but the last
-unfoldable pub channels-within : (strips : List ℕ) → List (List Pair) → Bool
+unfoldable pub channels-within : (strips : List ℕ) → List Channel → Bool
 channels-within [] cs = false
 channels-within (a ∷ []) [] = true
 channels-within (a ∷ []) (c ∷ cs) = false

@@ -7,7 +7,7 @@ use Prim.Native.Nat.{ℕ, suc, _+_, _*_, _-_, _≤_, _<_}
 use lib.Dec.{ltb, leb}
 use lib.ListN.{length, getD, set, drop, replicate}
 use Rattle.numbers.specs.Lists.{tabulate}
-use Rattle.stack.specs.Stack.{Pair, pair, p-at, q-at, Stack, stack, longest, sum}
+use Rattle.stack.specs.Stack.{Pair, pair, p-at, q-at, channel, no-channel, channel-in, Stack, stack, longest, sum}
 use Rattle.stack.specs.Value.{strip, channel-of, stack-of}
 use Rattle.stack.specs.declared.StripMade.{StripMade}
 use Rattle.stack.specs.declared.StripMade.the-variants.{Made, Length}
@@ -97,7 +97,7 @@ channels-made Oversized k = 1
 
 -- the shortest strips, and channels without pairs
 unfoldable pub bare : (k : ℕ) → Stack
-bare k = stack (replicate (suc k) 1) (replicate k [])
+bare k = stack (replicate (suc k) 1) (replicate k no-channel)
 
 pub record Stack-made (k : ℕ) (r : StackMade) : Type 0 where
   pub found : r .found ≡ stack-found k
@@ -108,9 +108,14 @@ pub record Strip-set (k : Stack-struct) (i l : ℕ) (r : Stack-struct) : Type 0 
   pub count : r .count ≡ k .count
   pub value : stack-of r ≡ stack (set (stack-of k .strips) i l) (stack-of k .channels)
 
-pub record Channel-set (k : Stack-struct) (i : ℕ) (c : List Pair) (r : Stack-struct) : Type 0 where
+-- other pairs, or another floor, in a channel
+pub record Channel-set (k : Stack-struct) (i : ℕ) (ps : List Pair) (r : Stack-struct) : Type 0 where
   pub count : r .count ≡ k .count
-  pub value : stack-of r ≡ stack (stack-of k .strips) (set (stack-of k .channels) i c)
+  pub value : stack-of r ≡ stack (stack-of k .strips) (set (stack-of k .channels) i (channel ps (channel-in (stack-of k) i .floor)))
+
+pub record Floor-set (k : Stack-struct) (i f : ℕ) (r : Stack-struct) : Type 0 where
+  pub count : r .count ≡ k .count
+  pub value : stack-of r ≡ stack (stack-of k .strips) (set (stack-of k .channels) i (channel (channel-in (stack-of k) i .pairs) f))
 
 -- an array with another element at a place within it
 pub record Stored {A : Type 0} (all : List A) (n i : ℕ) (x : A) (r : List A) : Type 0 where

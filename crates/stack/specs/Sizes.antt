@@ -7,9 +7,9 @@ channels-held = 8
 abbrev pub strips-held : ℕ
 strips-held = suc channels-held
 
--- the last separation that is held
+-- the last separation that is held: no less than the most pairs and the greatest floor
 abbrev pub last-held : ℕ
-last-held = 32
+last-held = 64
 
 abbrev pub separations-held : ℕ
 separations-held = suc last-held

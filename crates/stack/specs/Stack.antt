@@ -1,5 +1,5 @@
 -- TRUSTED. Stacks of strips and channels; when a channel can be wired; legal placements, totals, the answer for a spread, a table's rows.
--- Document 01, "Strips, columns and tracks", "When a channel can be wired" and "Choosing among equals". Assumes nothing: these are definitions.
+-- Document 01, "Strips, columns and tracks", "When a channel can be wired" and "Choosing among equals"; document 02, P2. Assumes nothing: these are definitions.
 use mathlib.Core.Path.{_≡_}
 use mathlib.Core.Bool.{Bool, true, false, _&&_, _||_, cond}
 use mathlib.Core.List.{List, [], _∷_}
@@ -12,16 +12,32 @@ pub record Pair : Type 0 where
   pub p : ℕ
   pub q : ℕ
 
--- a STACK: its strips' lengths from the bottom, and the pairs of the channel above each strip but the last
+-- a CHANNEL: its pairs, and the floor of its separation
+pub record Channel : Type 0 where
+  pub pairs : List Pair
+  pub floor : ℕ
+
+-- a STACK: its strips' lengths from the bottom, and the channel above each strip but the last
 pub record Stack : Type 0 where
   pub strips : List ℕ
-  pub channels : List (List Pair)
+  pub channels : List Channel
 
 unfoldable pub pair : (p q : ℕ) → Pair
 pair a b = record { p = a; q = b }
 
-unfoldable pub stack : List ℕ → List (List Pair) → Stack
+abbrev pub channel : List Pair → (floor : ℕ) → Channel
+channel ps f = record { pairs = ps; floor = f }
+
+unfoldable pub stack : List ℕ → List Channel → Stack
 stack s c = record { strips = s; channels = c }
+
+-- a channel without pairs and with floor 0
+abbrev pub no-channel : Channel
+no-channel = channel [] 0
+
+-- the channel between strips i and i + 1
+abbrev pub channel-in : Stack → (i : ℕ) → Channel
+channel-in k i = getD (k .channels) i no-channel
 
 unfoldable pub p-at : List Pair → (j : ℕ) → ℕ
 p-at ps j = getD ps j (pair 0 0) .p
@@ -42,11 +58,16 @@ left-good ps t a b j = leb (p-at ps (j - t) + t + a) (b + q-at ps j)
 unfoldable pub right-good : List Pair → (t lower upper j : ℕ) → Bool
 right-good ps t a b j = leb (b + t + q-at ps j) (p-at ps (j + t) + a)
 
--- FEASIBLE at separation t with the strips at these positions: L(t) at most the offset upper - lower, the offset at most R(t); from t = m on every offset
-unfoldable pub feasible : List Pair → (t lower upper : ℕ) → Bool
-feasible ps t a b =
+-- pairs that are WIRABLE at separation t with the strips at these positions: L(t) at most the offset upper - lower, the offset at most R(t); from t = m on
+-- every offset
+unfoldable pub wirable : List Pair → (t lower upper : ℕ) → Bool
+wirable ps t a b =
     leb (length ps) t
     || (every (length ps - t) t (λ j. left-good ps t a b j) && every (length ps - t) 0 (λ j. right-good ps t a b j))
+
+-- FEASIBLE: from the floor upward, and wirable
+unfoldable pub feasible : Channel → (t lower upper : ℕ) → Bool
+feasible c t a b = leb (c .floor) t && wirable (c .pairs) t a b
 
 -- a PLACEMENT, separations and positions, lies WITHIN the spread
 unfoldable pub in-spread : (s : ℕ) → (strips positions : List ℕ) → Bool
@@ -55,7 +76,7 @@ in-spread s [] (x ∷ xs) = false
 in-spread s (l ∷ ls) [] = false
 in-spread s (l ∷ ls) (x ∷ xs) = leb (x + l) s && in-spread s ls xs
 
-unfoldable pub channels-good : List (List Pair) → (separations positions : List ℕ) → Bool
+unfoldable pub channels-good : List Channel → (separations positions : List ℕ) → Bool
 channels-good [] [] xs = true
 channels-good [] (t ∷ ts) xs = false
 channels-good (c ∷ cs) [] xs = false

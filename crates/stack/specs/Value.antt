@@ -3,7 +3,7 @@ use mathlib.Core.List.{List, [], map}
 use Prim.Native.Nat.{ℕ, suc}
 use lib.ListN.{getD}
 use Rattle.numbers.specs.Lists.{tabulate}
-use Rattle.stack.specs.Stack.{Pair, pair, Stack, stack}
+use Rattle.stack.specs.Stack.{Pair, pair, Channel, channel, Stack, stack}
 use Rattle.stack.specs.declared.Tracks.{Tracks}
 use Rattle.stack.specs.declared.Columns.{Columns}
 use Rattle.stack.specs.declared.Strip.{Strip}
@@ -40,8 +40,11 @@ channel-of t = tabulate (t .count) 0 (λ j. pair-at t j)
 abbrev pub length-at : Stack-struct → (i : ℕ) → ℕ
 length-at k i = getD (k .strips) i (strip 0) .length .0
 
-abbrev pub channel-at : Stack-struct → (i : ℕ) → List Pair
-channel-at k i = channel-of (getD (k .channels) i no-terminals)
+abbrev pub floor-at : Stack-struct → (i : ℕ) → ℕ
+floor-at k i = getD (k .floors) i (tracks 0) .0
+
+abbrev pub channel-at : Stack-struct → (i : ℕ) → Channel
+channel-at k i = channel (channel-of (getD (k .channels) i no-terminals)) (floor-at k i)
 
 -- the first count channels, and one strip more
 unfoldable pub stack-of : Stack-struct → Stack

@@ -18,6 +18,7 @@ ghost use Rattle.stack.specs.Made.{
   Stack-made,
   Strip-set,
   Channel-set,
+  Floor-set,
   Stored,
   Length-more,
 };
@@ -203,7 +204,7 @@ fn is_not_above(before: [Columns; Terminals::MAX_PAIRS], n: usize, x: u32) -> bo
     x <= before[n - 1].0
 }
 
-// The three stores also say how long their arrays are, which is known of an array that is passed and not of a struct's field.
+// The stores also say how long their arrays are, which is known of an array that is passed and not of a struct's field.
 fn columns_stored(
     mut all: [Columns; Terminals::MAX_PAIRS],
     i: usize,
@@ -236,11 +237,24 @@ fn terminals_stored(
     all
 }
 
-// k channels and k + 1 strips, strip 0 at the bottom; places past them are unused.
+fn tracks_stored(
+    mut all: [Tracks; Stack::MAX_CHANNELS],
+    i: usize,
+    x: Tracks,
+) -> [Tracks; Stack::MAX_CHANNELS]
+    requires { ⌜ i < 8 ⌝ }
+    ensures { λ r. ⌜ Stored all 8 i x r ⌝ }
+{
+    all[i] = x;
+    all
+}
+
+// k channels and k + 1 strips, strip 0 at the bottom; of each channel its terminals and its floor. Places past them are unused.
 pub struct Stack {
     pub count: usize,
     pub strips: [Strip; Stack::STRIPS],
     pub channels: [Terminals; Stack::MAX_CHANNELS],
+    pub floors: [Tracks; Stack::MAX_CHANNELS],
 }
 
 pub enum StackFound {
@@ -257,8 +271,10 @@ impl Stack {
     pub const MIN_CHANNELS: usize = 1;
 
     pub const MAX_CHANNELS: usize = 8;
-    // From a separation of this many tracks on every channel is feasible at every offset.
-    pub const MAX_SEPARATION: usize = Terminals::MAX_PAIRS;
+
+    pub const MAX_FLOOR: u32 = 64;
+    // From a separation of this many tracks on every channel is feasible at every offset: no less than the most pairs and the greatest floor.
+    pub const MAX_SEPARATION: usize = Stack::MAX_FLOOR as usize;
 
     pub const MAX_TOTAL: usize = Stack::MAX_CHANNELS * Stack::MAX_SEPARATION;
     // The sizes of arrays with a place for each strip, each separation from 0 and each total from 0.
@@ -270,7 +286,7 @@ impl Stack {
     // Added to offsets and limits, so that none is negative: more than any position and terminal together.
     pub const BIAS: u64 = 8_589_934_592;
 
-    // k channels without pairs between the shortest strips.
+    // k channels without pairs, with floor 0, between the shortest strips.
     fn bare(k: usize) -> Stack
         requires { ⌜ k ≤ 8 ⌝ }
         ensures { λ r. ⌜ (r .count ≡ k) × (stack-of r ≡ bare k) ⌝ }
@@ -283,10 +299,11 @@ impl Stack {
             count: k,
             strips: [shortest; Stack::STRIPS],
             channels: [none; Stack::MAX_CHANNELS],
+            floors: [Tracks(0); Stack::MAX_CHANNELS],
         }
     }
 
-    // k channels without pairs between the shortest strips; one channel where k is refused.
+    // k channels without pairs, with floor 0, between the shortest strips; one channel where k is refused.
     pub fn new(k: usize) -> StackMade
         ensures { λ r. ⌜ Stack-made k r ⌝ }
     {
@@ -327,6 +344,17 @@ impl Stack {
         let old = self.channels;
         let channels = terminals_stored(old, i, terminals);
         self.channels = channels;
+        self
+    }
+
+    // The stack with another floor in a channel.
+    pub fn with_floor(mut self, i: usize, floor: Tracks) -> Stack
+        requires { ⌜ (i < self .count) × (self .count ≤ 8) ⌝ }
+        ensures { λ r. ⌜ Floor-set self i (floor .0) r ⌝ }
+    {
+        let old = self.floors;
+        let floors = tracks_stored(old, i, floor);
+        self.floors = floors;
         self
     }
 

@@ -15,7 +15,7 @@ returns c = let long : length (c .before .before .args .self .channels) ≡ 8 = 
     record {
       count = refl;
       value = rw (c .terminals-stored .ensures .stored)
-          (channel-stored (c .before .before .args .self) (c .before .before .args .i) (c .before .before .args .terminals) (omega (arith, c .before .before .pre)));
+          (channel-stored (c .before .before .args .self) (c .before .before .args .i) (c .before .before .pre .0) (c .before .before .args .terminals) (omega (arith, c .before .before .pre)));
     }
 
 pub with-channel-spec : {M : Type 1} → statement M
