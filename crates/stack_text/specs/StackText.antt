@@ -1,12 +1,13 @@
--- TRUSTED. The text of a file and of a stack. Document 01, "Lines and tabs". Assumes nothing: these are definitions.
+-- TRUSTED. The text of a file and of a stack. Document 01, "Lines and tabs"; document 02, P2. Assumes nothing: these are definitions.
 use mathlib.Core.Path.{_≡_}
-use mathlib.Core.Bool.{true}
+use mathlib.Core.Bool.{true, cond}
 use mathlib.Core.List.{List, [], _∷_, _++_, map}
-use Prim.Native.Nat.{ℕ}
+use Prim.Native.Nat.{ℕ, suc}
+use lib.Dec.{eqb}
 use lib.ListN.{length}
-use Rattle.stack.specs.Stack.{Pair, Stack}
+use Rattle.stack.specs.Stack.{Pair, Channel, Stack}
 use Rattle.stack.specs.Limits.{within-limits}
-use Rattle.text.specs.Text.{fine, stack-word, part-word, nets-word, text-refusal, File, file, stack-in}
+use Rattle.text.specs.Text.{fine, stack-word, part-word, nets-word, gap-word, text-refusal, File, file, stack-in}
 use Rattle.writing.specs.TableText.{tabbed}
 
 -- a LINE: its word, its numbers, a line feed
@@ -19,15 +20,22 @@ lines-text w (ns ∷ nss) = line-text w ns ++ lines-text w nss
 
 -- the text of a FILE
 unfoldable pub file-text : File → List ℕ
-file-text f = line-text stack-word (length (f .nets) ∷ []) ++ (lines-text part-word (f .parts) ++ lines-text nets-word (f .nets))
+file-text f =
+    line-text stack-word (length (f .nets) ∷ [])
+    ++ (lines-text part-word (f .parts) ++ (lines-text nets-word (f .nets) ++ lines-text gap-word (f .gaps)))
 
 -- THE TEXT OF A STACK
 unfoldable pub terminals-of : List Pair → List ℕ
 terminals-of [] = []
 terminals-of (x ∷ xs) = x .p ∷ x .q ∷ terminals-of xs
 
+-- a GAP line where a floor is not 0, for the channels from number n on
+unfoldable pub gaps-of : (n : ℕ) → List Channel → List (List ℕ)
+gaps-of n [] = []
+gaps-of n (c ∷ cs) = cond (eqb (c .floor) 0) (gaps-of (suc n) cs) ((n ∷ c .floor ∷ []) ∷ gaps-of (suc n) cs)
+
 unfoldable pub file-of : Stack → File
-file-of k = file (map (λ l. l ∷ []) (k .strips)) (map (λ c. terminals-of c) (k .channels))
+file-of k = file (map (λ l. l ∷ []) (k .strips)) (map (λ c. terminals-of (c .pairs)) (k .channels)) (gaps-of 1 (k .channels))
 
 unfoldable pub stack-text : Stack → List ℕ
 stack-text k = file-text (file-of k)

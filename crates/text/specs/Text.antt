@@ -1,13 +1,13 @@
 -- TRUSTED. The stack's text: its kinds of line, the refusals 1 to 6 at their lines and fields, and the stack in a text.
--- Document 01, "Lines and tabs" and "Sent back at the counter". Assumes nothing: these are definitions.
+-- Document 01, "Lines and tabs" and "Sent back at the counter"; document 02, P2. Assumes nothing: these are definitions.
 use mathlib.Core.Bool.{Bool, true, false, _&&_, not, cond}
 use mathlib.Core.List.{List, [], _∷_, _++_, map}
-use Prim.Native.Nat.{ℕ, suc, _+_, _*_, _-_, _%_}
+use Prim.Native.Nat.{ℕ, zero, suc, _+_, _*_, _-_, _%_}
 use lib.Dec.{ltb, leb, eqb}
 use lib.ListN.{length, getD}
 use Rattle.numbers.specs.Lists.{tabulate}
 use Rattle.lines.specs.Lines.{Line, lines, line-at, number-fields, has-word, ill-formed, numbers-of}
-use Rattle.stack.specs.Stack.{Stack, stack, Pair, pair}
+use Rattle.stack.specs.Stack.{Stack, stack, Pair, pair, channel}
 
 -- a REFUSAL carries its number, line and field; number 0 is none
 pub record Refusal : Type 0 where
@@ -25,7 +25,7 @@ fine = refusal 0 0 0
 unfoldable pub or-else : Refusal → Refusal → Refusal
 or-else a b = cond (eqb (a .number) 0) b a
 
--- the words STACK, PART and NETS
+-- the words STACK, PART, NETS and GAP
 unfoldable pub stack-word : List ℕ
 stack-word = 83 ∷ 84 ∷ 65 ∷ 67 ∷ 75 ∷ []
 
@@ -34,6 +34,9 @@ part-word = 80 ∷ 65 ∷ 82 ∷ 84 ∷ []
 
 unfoldable pub nets-word : List ℕ
 nets-word = 78 ∷ 69 ∷ 84 ∷ 83 ∷ []
+
+unfoldable pub gap-word : List ℕ
+gap-word = 71 ∷ 65 ∷ 80 ∷ []
 
 -- a KIND of line: its word, and the field at which a count of numbers is at fault, the first missing or the first extra; 0 where the count is good
 pub record Kind : Type 0 where
@@ -58,6 +61,9 @@ part-kind = kind part-word (λ n. exactly 1 n)
 unfoldable pub nets-kind : Kind
 nets-kind = kind nets-word (λ n. in-pairs n)
 
+unfoldable pub gap-kind : Kind
+gap-kind = kind gap-word (λ n. exactly 2 n)
+
 -- the LAYOUT of line n as a line of a kind, 2: that it is there and ended, its word, the count of its numbers, and each of them
 unfoldable pub layout : Kind → (n : ℕ) → Line → Refusal
 layout K n l =
@@ -75,6 +81,9 @@ entry n s xs = record { origin = n; shift = s; numbers = xs }
 
 unfoldable pub first-of : Entry → ℕ
 first-of e = getD (e .numbers) 0 0
+
+unfoldable pub second-of : Entry → ℕ
+second-of e = getD (e .numbers) 1 0
 
 -- a fault at a field of an entry, where that field was supplied
 unfoldable pub fault-at : Entry → (number field : ℕ) → Refusal
@@ -103,6 +112,15 @@ unfoldable pub nets-content : (lower upper : ℕ) → Entry → Refusal
 nets-content lo hi e =
     cond (ltb 64 (length (e .numbers))) (fault-at e 3 66)
     (terminals-refusal (e .shift + 2) true 0 0 lo hi (e .origin) (e .numbers))
+
+-- GAP in a stack of k channels, behind a GAP of a channel, 0 for the first: crowd, 3, of the channel and then of the floor, then crossing, 6, of a channel that
+-- does not rise
+unfoldable pub gap-content : (k before : ℕ) → Entry → Refusal
+gap-content k b e =
+    cond (leb 1 (first-of e) && leb (first-of e) k)
+    (cond (ltb 64 (second-of e)) (fault-at e 3 3)
+    (cond (leb (first-of e) b) (fault-at e 6 2) fine))
+    (fault-at e 3 2)
 
 -- THE CHECKS of a text, a pair for each line: its form and its content; a missing line has them too
 pub record Check : Type 0 where
@@ -136,18 +154,29 @@ nets-check ls c =
     let i = k-of ls + 2 + c in
     check (layout nets-kind (suc i) (line-at ls i)) (nets-content (length-at ls c) (length-at ls (suc c)) (supplied ls i))
 
--- line g behind the last NETS: an extra line, 2
+-- the lines behind the last NETS: where they begin, and how many they are
 unfoldable pub tail-at : List Line → ℕ
 tail-at ls = 2 * k-of ls + 2
 
+unfoldable pub tail-count : List Line → ℕ
+tail-count ls = length ls - tail-at ls
+
+-- the channel of the line before line g of them, 0 for the first
+unfoldable pub channel-before : List Line → (g : ℕ) → ℕ
+channel-before ls zero = 0
+channel-before ls (suc g) = first-of (supplied ls (tail-at ls + g))
+
+-- each of them is a GAP: another one is an extra line, 2
 unfoldable pub tail-check : List Line → (g : ℕ) → Check
-tail-check ls g = check (refusal 2 (suc (tail-at ls + g)) 0) fine
+tail-check ls g =
+    let i = tail-at ls + g in
+    check (layout gap-kind (suc i) (line-at ls i)) (gap-content (k-of ls) (channel-before ls g) (supplied ls i))
 
 unfoldable pub checks : List Line → List Check
 checks ls =
     head-check ls
     ∷ (tabulate (suc (k-of ls)) 0 (λ j. part-check ls j)
-    ++ (tabulate (k-of ls) 0 (λ c. nets-check ls c) ++ tabulate (length ls - tail-at ls) 0 (λ g. tail-check ls g)))
+    ++ (tabulate (k-of ls) 0 (λ c. nets-check ls c) ++ tabulate (tail-count ls) 0 (λ g. tail-check ls g)))
 
 -- line by line from the top
 unfoldable pub in-turn : List Check → Refusal
@@ -158,18 +187,20 @@ in-turn (c ∷ cs) = or-else (or-else (c .form) (c .content)) (in-turn cs)
 unfoldable pub text-refusal : List ℕ → Refusal
 text-refusal bs = cond (ltb 8192 (length bs)) (refusal 1 0 0) (in-turn (checks (lines bs)))
 
--- THE FILE in a text that is not refused: the numbers of its PART and NETS lines
+-- THE FILE in a text that is not refused: the numbers of its PART, NETS and GAP lines
 pub record File : Type 0 where
   pub parts : List (List ℕ)
   pub nets : List (List ℕ)
+  pub gaps : List (List ℕ)
 
-unfoldable pub file : (parts nets : List (List ℕ)) → File
-file a b = record { parts = a; nets = b }
+unfoldable pub file : (parts nets gaps : List (List ℕ)) → File
+file a b c = record { parts = a; nets = b; gaps = c }
 
 unfoldable pub file-in : List ℕ → File
 file-in bs =
     let ls = lines bs in
     file (tabulate (suc (k-of ls)) 1 (λ i. supplied ls i .numbers)) (tabulate (k-of ls) (k-of ls + 2) (λ i. supplied ls i .numbers))
+    (tabulate (tail-count ls) (tail-at ls) (λ i. supplied ls i .numbers))
 
 -- THE STACK in a file, and in a text that is not refused
 unfoldable pub pairs-of : List ℕ → List Pair
@@ -177,8 +208,15 @@ pairs-of [] = []
 pairs-of (x ∷ []) = []
 pairs-of (x ∷ y ∷ xs) = pair x y ∷ pairs-of xs
 
+-- the floor of a channel, counted from 1: that of the GAP line which names it, else 0
+unfoldable pub floor-in : (gaps : List (List ℕ)) → (channel : ℕ) → ℕ
+floor-in [] c = 0
+floor-in (g ∷ gs) c = cond (eqb (getD g 0 0) c) (getD g 1 0) (floor-in gs c)
+
 unfoldable pub stack-in-file : File → Stack
-stack-in-file f = stack (map (λ ns. getD ns 0 0) (f .parts)) (map (λ ns. pairs-of ns) (f .nets))
+stack-in-file f =
+    stack (map (λ ns. getD ns 0 0) (f .parts))
+    (tabulate (length (f .nets)) 0 (λ c. channel (pairs-of (getD (f .nets) c [])) (floor-in (f .gaps) (suc c))))
 
 unfoldable pub stack-in : List ℕ → Stack
 stack-in bs = stack-in-file (file-in bs)
