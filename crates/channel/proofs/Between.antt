@@ -1,4 +1,4 @@
--- A channel is feasible exactly if the offset is between its limits; limits widen as the separation grows; from m tracks on, and in a channel
+-- Pairs are wirable exactly if the offset is between their limits; limits widen as the separation grows; from m tracks on, and in a channel
 -- without pairs, every offset is between them. By induction on the terms. Assumes nothing.
 use mathlib.Core.Path.{_≡_, refl}
 use mathlib.Core.Bool.{true}
@@ -7,10 +7,10 @@ use Prim.Native.Nat.{ℕ, zero, suc, _+_, _*_, _-_, _≤_, _<_, min, max}
 use native.Mathlib.Decide.{ℕ-discrete, le-ind}
 use native.Mathlib.Omega.{arith}
 use lib.ListN.{length}
-use Rattle.stack.specs.Stack.{Pair, q-at, feasible}
+use Rattle.stack.specs.Stack.{Pair, q-at, wirable}
 use Rattle.stack.specs.Limits.{rising}
 use Rattle.stack.proofs.Rising.{Before, rising-before}
-use Rattle.stack.proofs.Feasible.{By-pairs, by-pairs-feasible, feasible-by-pairs}
+use Rattle.stack.proofs.Feasible.{By-pairs, by-pairs-wirable, wirable-by-pairs}
 use Rattle.channel.specs.Limits.{low-term, high-term, greatest, least, low-limit, high-limit, Between}
 
 -- a bound on the greatest is a bound on each
@@ -54,9 +54,9 @@ pub record Biased (b : ℕ) (c : List Pair) (x y : ℕ) : Type 0 where
   pub terminal : (j : ℕ) → j < length c → q-at c j + length c ≤ b
 
 module _ (b : ℕ) (c : List Pair) (t x y : ℕ) (bias : Biased b c x y) where
-  pub feasible-between : feasible c t x y ≡ true → Between b c t x y
+  pub wirable-between : wirable c t x y ≡ true → Between b c t x y
   unfolding low-limit high-limit low-term high-term
-  feasible-between e = record {
+  wirable-between e = record {
     left =
         let g : greatest b c t (length c - t) ≤ y + b - x =
         greatest-at-most b c t (length c - t) (y + b - x) (λ i h. omega (arith, f .left i (i + t) refl (omega arith), bias .terminal (i + t) (omega arith), bias .lower)) in
@@ -68,12 +68,12 @@ module _ (b : ℕ) (c : List Pair) (t x y : ℕ) (bias : Biased b c x y) where
   }
     where
       f : By-pairs c t x y
-      f = feasible-by-pairs c t x y e
+      f = wirable-by-pairs c t x y e
 
-  pub between-feasible : Between b c t x y → feasible c t x y ≡ true
+  pub between-wirable : Between b c t x y → wirable c t x y ≡ true
   unfolding low-limit high-limit low-term high-term
-  between-feasible w =
-      by-pairs-feasible c t x y
+  between-wirable w =
+      by-pairs-wirable c t x y
       (record {
         left = λ j i e h.
             let k : i ≡ j + t = omega arith in

@@ -13,7 +13,7 @@ use Rattle.stack.specs.Sizes.{separations-held}
 use Rattle.stack.specs.Value.{channel-of}
 use Rattle.stack.specs.declared.Terminals.{Terminals}
 use Rattle.stack.proofs.Values.{channel-length}
-use Rattle.channel.specs.Limits.{low-limit, high-limit, bias, term-bias, narrowed, low-found, high-found, Filling, Limits-of}
+use Rattle.channel.specs.Limits.{low-limit, high-limit, bias, term-bias, narrowed, low-found, high-found, Filling, Pairs-limits}
 use Rattle.channel.proofs.Between.{low-open, high-open}
 use Rattle.channel.proofs.Terms.{narrowed-padded, low-limit-found, high-limit-found}
 
@@ -41,18 +41,18 @@ pub filling-ends : (k : Terminals) (t : ℕ) (ps qs ps-on qs-on low high : List 
     ps ≡ narrowed (k .lower) (k .count) 0 → qs ≡ narrowed (k .upper) (k .count) 0 →
     ps-on ≡ narrowed (k .lower) (k .count) term-bias → qs-on ≡ narrowed (k .upper) (k .count) term-bias →
     Filling (λ s. low-found ps qs-on s) (λ s. high-found ps-on qs s) (k .count) t low high →
-    Limits-of (channel-of k) (record { low = low; high = high })
+    Pairs-limits (channel-of k) low high
 filling-ends k t ps qs ps-on qs-on low high few on past p q p-on q-on s =
     let c = channel-of k in
     let long = channel-length k in
     let e : t ≡ k .count = omega (arith, s .below) in
     record {
-      low =
+      lows =
           s .lows ∙ rw e
           (filled-as (k .count) (λ s. low-found ps qs-on s) (λ s. low-limit bias c s) 0 (omega arith)
           (λ s h. rw (p, q-on) (low-limit-found c _ s (omega arith) (omega arith) on (narrowed-padded k 0 term-bias few)))
           (λ s h. low-open bias c s (omega arith)));
-      high =
+      highs =
           s .highs ∙ rw e
           (filled-as (k .count) (λ s. high-found ps-on qs s) (λ s. high-limit bias c s) (2 * bias) (omega arith)
           (λ s h. rw (p-on, q) (high-limit-found c _ s (omega arith) (omega arith) on (narrowed-padded k term-bias 0 few)))

@@ -2,4 +2,5 @@
 pub mod Between
 pub mod Terms
 pub mod Filling
+pub mod Floors
 pub mod Trying

@@ -1,4 +1,4 @@
--- The laws of the loop that tests feasibility: start, step, refusal and end. Assumes nothing.
+-- The laws of the loop that tests whether pairs are wirable: start, step, refusal and end. Assumes nothing.
 use mathlib.Core.Path.{_≡_, refl, sym, _∙_}
 use mathlib.Core.Bool.{Bool, true, false}
 use mathlib.Core.List.{List}
@@ -9,11 +9,11 @@ use lib.ListN.{length, getD}
 use borrow.Author.Count.{below-more}
 use borrow.Author.Tests.{leb-true, le-leb, lt-leb}
 use Rattle.numbers.proofs.Bools.{ands, not-true-false}
-use Rattle.stack.specs.Stack.{Pair, p-at, q-at, feasible}
+use Rattle.stack.specs.Stack.{Pair, p-at, q-at, wirable}
 use Rattle.stack.specs.Value.{columns, channel-of}
 use Rattle.stack.specs.declared.Terminals.{Terminals}
 use Rattle.stack.proofs.Values.{channel-length, channel-p-at, channel-q-at}
-use Rattle.stack.proofs.Feasible.{By-pairs, by-pairs-feasible, feasible-by-pairs}
+use Rattle.stack.proofs.Feasible.{By-pairs, by-pairs-wirable, wirable-by-pairs}
 use Rattle.channel.specs.Limits.{clear, clear-at, Trying}
 
 -- what the test says
@@ -34,10 +34,10 @@ pub half-clear : (p q pt qt t a b : ℕ) → p + t + a ≤ b + qt → leb (b + t
 unfolding clear
 half-clear p q pt qt t a b h = rw (le-leb (p + t + a) (b + qt) h)
 
-all-clear-feasible : (c : List Pair) (t a b : ℕ) → ((i : ℕ) → i < length c - t → clear-at c t a b i ≡ true) → feasible c t a b ≡ true
+all-clear-wirable : (c : List Pair) (t a b : ℕ) → ((i : ℕ) → i < length c - t → clear-at c t a b i ≡ true) → wirable c t a b ≡ true
 unfolding clear-at
-all-clear-feasible c t a b f =
-    by-pairs-feasible c t a b
+all-clear-wirable c t a b f =
+    by-pairs-wirable c t a b
     (record {
       left = λ j i e h. let k : i ≡ j + t = omega arith in rw k (omega (arith, says j (omega arith)));
       right = λ j i e h. let k : i ≡ j + t = omega arith in rw k (omega (arith, says j (omega arith)));
@@ -46,10 +46,10 @@ all-clear-feasible c t a b f =
     says : (j : ℕ) → j < length c - t → (p-at c j + t + a ≤ b + q-at c (j + t)) × (b + t + q-at c j ≤ p-at c (j + t) + a)
     says j h = clear-says (p-at c j) (q-at c j) (p-at c (j + t)) (q-at c (j + t)) t a b (f j h)
 
-feasible-all-clear : (c : List Pair) (t a b i : ℕ) → i < length c - t → feasible c t a b ≡ true → clear-at c t a b i ≡ true
+wirable-all-clear : (c : List Pair) (t a b i : ℕ) → i < length c - t → wirable c t a b ≡ true → clear-at c t a b i ≡ true
 unfolding clear-at
-feasible-all-clear c t a b i h e =
-    let f : By-pairs c t a b = feasible-by-pairs c t a b e in
+wirable-all-clear c t a b i h e =
+    let f : By-pairs c t a b = wirable-by-pairs c t a b e in
     let l = f .left i (i + t) refl (omega arith) in
     let r = f .right i (i + t) refl (omega arith) in
     says-clear (p-at c i) (q-at c i) (p-at c (i + t)) (q-at c (i + t)) t a b (omega arith) (omega arith)
@@ -75,16 +75,16 @@ module _ (k : Terminals) (t a b i : ℕ) (r : Bool) (less : i < k .count - t) wh
 
   pub trying-refuses :
       r ≡ clear (getD (k .lower) i (columns 0) .0) (getD (k .upper) i (columns 0) .0) (getD (k .lower) (i + t) (columns 0) .0) (getD (k .upper) (i + t) (columns 0) .0) t a b →
-      r ≡ false → false ≡ feasible (channel-of k) t a b
+      r ≡ false → false ≡ wirable (channel-of k) t a b
   trying-refuses e h =
       sym (not-true-false _ (λ f.
-      let g : clear-at (channel-of k) t a b i ≡ true = feasible-all-clear (channel-of k) t a b i (omega (arith, channel-length k)) f in
+      let g : clear-at (channel-of k) t a b i ≡ true = wirable-all-clear (channel-of k) t a b i (omega (arith, channel-length k)) f in
       let n : clear-at (channel-of k) t a b i ≡ false = tested e ∙ h in
       let z : _≡_ {A = ℕ} 0 1 = cc in omega arith))
 
-pub trying-ends : (k : Terminals) (t a b i : ℕ) → k .count - t ≤ i → Trying (channel-of k) t a b i → true ≡ feasible (channel-of k) t a b
+pub trying-ends : (k : Terminals) (t a b i : ℕ) → k .count - t ≤ i → Trying (channel-of k) t a b i → true ≡ wirable (channel-of k) t a b
 trying-ends k t a b i h s =
-    sym (all-clear-feasible (channel-of k) t a b (λ j l. s .passed j (omega (arith, channel-length k))))
+    sym (all-clear-wirable (channel-of k) t a b (λ j l. s .passed j (omega (arith, channel-length k))))
 
-pub trying-open : (k : Terminals) (t a b : ℕ) → k .count ≤ t → true ≡ feasible (channel-of k) t a b
-trying-open k t a b h = sym (all-clear-feasible (channel-of k) t a b (λ j l. absurd (omega (arith, channel-length k))))
+pub trying-open : (k : Terminals) (t a b : ℕ) → k .count ≤ t → true ≡ wirable (channel-of k) t a b
+trying-open k t a b h = sym (all-clear-wirable (channel-of k) t a b (λ j l. absurd (omega (arith, channel-length k))))

@@ -1,14 +1,14 @@
 -- A channel's limits L(t) and R(t) on the offset, raised by a bias b so that none is negative. Assumes nothing: these are definitions.
 -- The greatest of no numbers is 0 and the least of none is 2b, below and above every biased offset: a separation of m or more, and a channel
--- without pairs, are no special cases.
+-- without pairs, are no special cases. Below a channel's floor it is the other way round, 2b and 0, and no offset is between.
 use mathlib.Core.Path.{_≡_}
-use mathlib.Core.Bool.{Bool, true, _&&_}
+use mathlib.Core.Bool.{Bool, true, _&&_, cond}
 use mathlib.Core.List.{List}
 use Prim.Native.Nat.{ℕ, zero, suc, _+_, _*_, _-_, _^_, _≤_, _<_, min, max}
-use lib.Dec.{leb}
+use lib.Dec.{ltb, leb}
 use lib.ListN.{length, getD}
 use Rattle.numbers.specs.Lists.{tabulate, filled}
-use Rattle.stack.specs.Stack.{Pair, pair, p-at, q-at}
+use Rattle.stack.specs.Stack.{Pair, pair, p-at, q-at, Channel}
 use Rattle.stack.specs.Sizes.{separations-held}
 use Rattle.stack.specs.Value.{columns}
 use Rattle.stack.specs.declared.Columns.{Columns}
@@ -39,10 +39,26 @@ low-limit b c t = greatest b c t (length c - t)
 unfoldable pub high-limit : (b : ℕ) → List Pair → (t : ℕ) → ℕ
 high-limit b c t = least b c t (length c - t)
 
--- the offset y - x is between the limits
+-- the offset y - x is between the limits of the pairs
 pub record Between (b : ℕ) (c : List Pair) (t x y : ℕ) : Type 0 where
   pub left : x + low-limit b c t ≤ y + b
   pub right : y + b ≤ x + high-limit b c t
+
+-- a rule from a floor on, and d below it
+unfoldable pub from-floor : (floor d : ℕ) → (ℕ → ℕ) → (t : ℕ) → ℕ
+from-floor f d g t = cond (ltb t f) d (g t)
+
+-- the limits of a channel: those of its pairs from the floor on, closed below it
+unfoldable pub low-floored : (b : ℕ) → Channel → (t : ℕ) → ℕ
+low-floored b c t = from-floor (c .floor) (2 * b) (λ s. low-limit b (c .pairs) s) t
+
+unfoldable pub high-floored : (b : ℕ) → Channel → (t : ℕ) → ℕ
+high-floored b c t = from-floor (c .floor) 0 (λ s. high-limit b (c .pairs) s) t
+
+-- the offset y - x is between the limits of the channel
+pub record Floored-between (b : ℕ) (c : Channel) (t x y : ℕ) : Type 0 where
+  pub left : x + low-floored b c t ≤ y + b
+  pub right : y + b ≤ x + high-floored b c t
 
 -- what the code's bias is
 abbrev pub bias : ℕ
@@ -97,10 +113,20 @@ pub record Filling (f g : ℕ → ℕ) (n t : ℕ) (low high : List ℕ) : Type 
   pub lows : low ≡ filled separations-held t f 0
   pub highs : high ≡ filled separations-held t g (2 * bias)
 
--- the limits for every separation
-pub record Limits-of (c : List Pair) (r : Limits) : Type 0 where
-  pub low : r .low ≡ tabulate separations-held 0 (λ s. low-limit bias c s)
-  pub high : r .high ≡ tabulate separations-held 0 (λ s. high-limit bias c s)
+-- the limits of a channel's pairs for every separation
+pub record Pairs-limits (ps : List Pair) (low high : List ℕ) : Type 0 where
+  pub lows : low ≡ tabulate separations-held 0 (λ s. low-limit bias ps s)
+  pub highs : high ≡ tabulate separations-held 0 (λ s. high-limit bias ps s)
+
+-- while the first t places of a row that held xs get another value
+pub record Closing (xs : List ℕ) (d n t : ℕ) (row : List ℕ) : Type 0 where
+  pub below : t ≤ n
+  pub closed : row ≡ tabulate separations-held 0 (λ q. from-floor t d (λ s. getD xs s 0) q)
+
+-- the limits of the channel for every separation
+pub record Limits-of (c : Channel) (r : Limits) : Type 0 where
+  pub low : r .low ≡ tabulate separations-held 0 (λ s. low-floored bias c s)
+  pub high : r .high ≡ tabulate separations-held 0 (λ s. high-floored bias c s)
 
 -- the tests of feasibility at one i = j - t: pair i joins p to q, pair i + t joins pt to qt
 unfoldable pub clear : (p q pt qt t lower upper : ℕ) → Bool

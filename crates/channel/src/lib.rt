@@ -3,8 +3,10 @@ ghost use mathlib.Core.Path.{_≡_};
 ghost use mathlib.Core.Bool.{true};
 ghost use Prim.Native.Nat.{_≤_, min, max};
 ghost use lib.ListN.{getD};
-ghost use Rattle.stack.specs.Stack.{feasible};
+ghost use Rattle.stack.specs.Stack.{channel, wirable, feasible};
 ghost use Rattle.stack.specs.Limits.{on-strips};
+ghost use Rattle.stack.specs.Sizes.{separations-held};
+ghost use Rattle.numbers.specs.Lists.{tabulate};
 ghost use Rattle.stack.specs.Value.{columns, channel-of};
 ghost use Rattle.channel.specs.Limits.{
   Wide,
@@ -16,6 +18,7 @@ ghost use Rattle.channel.specs.Limits.{
   narrowed,
   paired,
   raised,
+  from-floor,
   Limits-of,
   clear,
 };
@@ -101,12 +104,28 @@ fn raised(term: u16) -> u64
     Stack::BIAS - TERM_BIAS as u64 + term as u64
 }
 
-// L(t) and R(t) for every t. Behind the last pair stand zeros, and TERM_BIAS where t is added to the index. So a term past the last is less than every term of L(t),
+// A row of limits with another value below a floor.
+fn closed_below(
+    mut row: [u64; Stack::SEPARATIONS],
+    floor: Tracks,
+    closed: u64,
+) -> [u64; Stack::SEPARATIONS]
+    requires { ⌜ floor .0 ≤ 64 ⌝ }
+    ensures { λ r. ⌜ r ≡ tabulate separations-held 0 (λ t. from-floor (floor .0) closed (λ s. getD row s 0) t) ⌝ }
+{
+    let below = floor.0 as usize;
+    for t in 0..below {
+        row[t] = closed;
+    }
+    row
+}
+
+// L(t) and R(t) for every t from a floor on, closed below it. Behind the last pair stand zeros, and TERM_BIAS where t is added to the index. So a term past the last is less than every term of L(t),
 // or greater than every term of R(t), and 32 terms can be taken for every t: a constant number, without a remainder of fewer than eight.
-pub fn channel_limits(terminals: Terminals) -> Limits
-    requires { ⌜ terminals .count ≤ 32 ⌝ }
+pub fn channel_limits(terminals: Terminals, floor: Tracks) -> Limits
+    requires { ⌜ (terminals .count ≤ 32) × (floor .0 ≤ 64) ⌝ }
     requires { ⌜ on-strips 1000 1000 (channel-of terminals) ≡ true ⌝ }
-    ensures { λ r. ⌜ Limits-of (channel-of terminals) r ⌝ }
+    ensures { λ r. ⌜ Limits-of (channel (channel-of terminals) (floor .0)) r ⌝ }
 {
     let pairs = terminals.count;
     let lower = terminals.lower;
@@ -121,7 +140,12 @@ pub fn channel_limits(terminals: Terminals) -> Limits
         low[t] = raised(greatest_term(&p, &q_on, t));
         high[t] = raised(least_term(&p_on, &q, t));
     }
-    Limits { low, high }
+    let lows = closed_below(low, floor, 2 * Stack::BIAS);
+    let highs = closed_below(high, floor, 0);
+    Limits {
+        low: lows,
+        high: highs,
+    }
 }
 
 // Pair i joins p to q and pair i + t joins pt to qt: from p to qt, and from q to pt, it is at least t columns.
@@ -143,10 +167,10 @@ fn is_clear(
     wide(upper) + tracks + wide(q) <= wide(pt) + wide(lower)
 }
 
-// Document 01, "When a channel can be wired": feasible at a separation, with the strips at these positions.
-pub fn is_feasible(terminals: Terminals, t: Tracks, lower: Columns, upper: Columns) -> bool
+// Document 01, "When a channel can be wired": whether the pairs can be wired at a separation, with the strips at these positions.
+fn is_wirable(terminals: Terminals, t: Tracks, lower: Columns, upper: Columns) -> bool
     requires { ⌜ terminals .count ≤ 32 ⌝ }
-    ensures { λ r. ⌜ r ≡ feasible (channel-of terminals) (t .0) (lower .0) (upper .0) ⌝ }
+    ensures { λ r. ⌜ r ≡ wirable (channel-of terminals) (t .0) (lower .0) (upper .0) ⌝ }
 {
     let pairs = terminals.count;
     let tracks = t.0 as usize;
@@ -164,4 +188,21 @@ pub fn is_feasible(terminals: Terminals, t: Tracks, lower: Columns, upper: Colum
         }
     }
     true
+}
+
+// Feasible at a separation, with the strips at these positions: from the floor upward (document 02, P2), and wirable.
+pub fn is_feasible(
+    terminals: Terminals,
+    floor: Tracks,
+    t: Tracks,
+    lower: Columns,
+    upper: Columns,
+) -> bool
+    requires { ⌜ terminals .count ≤ 32 ⌝ }
+    ensures { λ r. ⌜ r ≡ feasible (channel (channel-of terminals) (floor .0)) (t .0) (lower .0) (upper .0) ⌝ }
+{
+    if t.0 < floor.0 {
+        return false;
+    }
+    is_wirable(terminals, t, lower, upper)
 }

@@ -51,13 +51,13 @@ fn print_limits(limits: Limits, pairs: usize) {
     end_line();
 }
 
-// For each separation up to one more than the count of pairs, 1 if the channel is feasible with the strips at these positions.
+// For each separation up to one more than the count of pairs, 1 if the channel, with floor 0, is feasible with the strips at these positions.
 fn print_feasible(terminals: Terminals, lower: u32, upper: u32)
     requires { ⌜ terminals .count ≤ 32 ⌝ }
 {
     for t in 0..34 {
         if t <= terminals.count as u32 + 1 {
-            print_bit(is_feasible(terminals, Tracks(t), Columns(lower), Columns(upper)));
+            print_bit(is_feasible(terminals, Tracks(0), Tracks(t), Columns(lower), Columns(upper)));
         }
     }
     end_line();
@@ -119,7 +119,7 @@ fn channel(text: &[u8], from: usize) -> usize {
     let terminals = made.terminals;
     io::write_all(1, b"pairs ");
     print_number(m as u64);
-    print_limits(channel_limits(terminals), m);
+    print_limits(channel_limits(terminals, Tracks(0)), m);
     print_all_feasible(terminals, text, at)
 }
 

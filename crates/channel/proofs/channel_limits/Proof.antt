@@ -3,30 +3,33 @@ use mathlib.Core.Path.{ap, _∙_}
 use Prim.Native.Nat.{_-_}
 use native.Mathlib.Omega.{arith}
 use borrow.Author.Count.{falls}
+use Rattle.stack.specs.Stack.{channel}
+use Rattle.stack.specs.Value.{channel-of}
 use Rattle.channel.specs.Limits.{term-bias, raised, low-found, high-found, Filling}
 use Rattle.channel.proofs.Terms.{narrowed-held, terminals-at-most}
 use Rattle.channel.proofs.Filling.{filling-starts, filling-steps, filling-ends}
+use Rattle.channel.proofs.Floors.{limits-closed}
 use borrow.Author.Needs.{needs}
 use Rattle.channel.proofs.channel_limits.Statement.{statement}
 use Rattle.channel.proofs.channel_limits.Tie as tie
 
 abbrev Inv-loop : tie.InvT-loop
-Inv-loop pairs p q p-on q-on low₀ high₀ t₀ low high t = Filling (λ s. low-found p q-on s) (λ s. high-found p-on q s) pairs t low high
+Inv-loop floor pairs p q p-on q-on low₀ high₀ t₀ low high t = Filling (λ s. low-found p q-on s) (λ s. high-found p-on q s) pairs t low high
 
 abbrev μ-loop : tie.MeasureT-loop
-μ-loop pairs p q p-on q-on low₀ high₀ t₀ low high t = pairs - t
+μ-loop floor pairs p q p-on q-on low₀ high₀ t₀ low high t = pairs - t
 
 narrowed-requires : tie.Need-narrowed-requires Inv-loop μ-loop
-narrowed-requires c κs = (c .before .before .pre .0, terminals-at-most (c .before .before .args .terminals) (c .before .before .pre .1) .0)
+narrowed-requires c κs = (c .before .before .pre .0 .0, terminals-at-most (c .before .before .args .terminals) (c .before .before .pre .1) .0)
 
 narrowed-requires-2 : tie.Need-narrowed-requires-2 Inv-loop μ-loop
-narrowed-requires-2 c κs = (c .before .before .before .pre .0, terminals-at-most (c .before .before .before .args .terminals) (c .before .before .before .pre .1) .1)
+narrowed-requires-2 c κs = (c .before .before .before .pre .0 .0, terminals-at-most (c .before .before .before .args .terminals) (c .before .before .before .pre .1) .1)
 
 narrowed-requires-3 : tie.Need-narrowed-requires-3 Inv-loop μ-loop
-narrowed-requires-3 c κs = (c .before .before .before .before .pre .0, terminals-at-most (c .before .before .before .before .args .terminals) (c .before .before .before .before .pre .1) .0)
+narrowed-requires-3 c κs = (c .before .before .before .before .pre .0 .0, terminals-at-most (c .before .before .before .before .args .terminals) (c .before .before .before .before .pre .1) .0)
 
 narrowed-requires-4 : tie.Need-narrowed-requires-4 Inv-loop μ-loop
-narrowed-requires-4 c κs = (c .before .before .before .before .before .pre .0, terminals-at-most (c .before .before .before .before .before .args .terminals) (c .before .before .before .before .before .pre .1) .1)
+narrowed-requires-4 c κs = (c .before .before .before .before .before .pre .0 .0, terminals-at-most (c .before .before .before .before .before .args .terminals) (c .before .before .before .before .before .pre .1) .1)
 
 mul-high : tie.Need-mul-high Inv-loop μ-loop
 mul-high c = search needs
@@ -37,7 +40,7 @@ loop-holds c = filling-starts _ _ _
 greatest-term-requires : tie.Need-greatest-term-requires Inv-loop μ-loop
 greatest-term-requires c κs =
     let a = c .before .before .before .before .before .before .before .before .before .before in (
-      omega (arith, a .pre .0, c .before .before .loop-test .taken),
+      omega (arith, a .pre .0 .0, c .before .before .loop-test .taken),
       narrowed-held (a .args .terminals .lower) (a .args .terminals .count) 0 1000 _ (omega arith) (terminals-at-most (a .args .terminals) (a .pre .1) .0) (omega arith) (c .before .before .before .before .before .before .before .narrowed .ensures),
       narrowed-held (a .args .terminals .upper) (a .args .terminals .count) term-bias term-bias _ (omega arith) (terminals-at-most (a .args .terminals) (a .pre .1) .1) (omega arith) (c .before .before .before .before .narrowed4 .ensures),
     )
@@ -54,7 +57,7 @@ array-write-low c = search needs
 least-term-requires : tie.Need-least-term-requires Inv-loop μ-loop
 least-term-requires c κs =
     let a = c .before .before .before .before .before .before .before .before .before .before .before .before .before .before in (
-      omega (arith, a .pre .0, c .before .before .before .before .before .before .loop-test .taken),
+      omega (arith, a .pre .0 .0, c .before .before .before .before .before .before .loop-test .taken),
       narrowed-held (a .args .terminals .lower) (a .args .terminals .count) term-bias term-bias _ (omega arith) (terminals-at-most (a .args .terminals) (a .pre .1) .0) (omega arith) (c .before .before .before .before .before .before .before .before .before .narrowed3 .ensures),
       narrowed-held (a .args .terminals .upper) (a .args .terminals .count) 0 1000 _ (omega arith) (terminals-at-most (a .args .terminals) (a .pre .1) .1) (omega arith) (c .before .before .before .before .before .before .before .before .before .before .narrowed2 .ensures),
     )
@@ -75,15 +78,26 @@ loop-less : tie.Need-loop-less Inv-loop μ-loop
 loop-less c = falls _ _ (c .before .before .before .before .before .before .before .before .loop-test .taken)
 
 loop-again : tie.Need-loop-again Inv-loop μ-loop
-loop-again c = filling-steps _ _ _ (c .before .before .before .before .before .before .before .before .before .loop .t) (c .before .before .before .before .before .before .before .before .before .loop .low) (c .before .before .before .before .before .before .before .before .before .loop .high) (c .before .before .before .before .raised .result) (c .raised2 .result) (c .before .before .before .before .before .before .before .before .loop-test .taken) (c .before .before .before .before .before .before .before .before .before .before .before .before .before .before .before .before .pre .0) (c .before .before .before .before .before .before .before .before .before .loop .inv)
+loop-again c = filling-steps _ _ _ (c .before .before .before .before .before .before .before .before .before .loop .t) (c .before .before .before .before .before .before .before .before .before .loop .low) (c .before .before .before .before .before .before .before .before .before .loop .high) (c .before .before .before .before .raised .result) (c .raised2 .result) (c .before .before .before .before .before .before .before .before .loop-test .taken) (c .before .before .before .before .before .before .before .before .before .before .before .before .before .before .before .before .pre .0 .0) (c .before .before .before .before .before .before .before .before .before .loop .inv)
     (c .before .before .before .before .raised .ensures ∙ ap (λ x. raised x) (c .before .before .before .before .before .greatest-term .ensures))
     (c .raised2 .ensures ∙ ap (λ x. raised x) (c .before .least-term .ensures))
 
+mul-closed-below : tie.Need-mul-closed-below Inv-loop μ-loop
+mul-closed-below c = search needs
+
+closed-below-requires : tie.Need-closed-below-requires Inv-loop μ-loop
+closed-below-requires c κs = search needs
+
+closed-below-requires-2 : tie.Need-closed-below-requires-2 Inv-loop μ-loop
+closed-below-requires-2 c κs = search needs
+
 returns : tie.Need-returns Inv-loop μ-loop
 returns c =
-    let a = c .before .before .before .before .before .before .before .before in
-    filling-ends (a .args .terminals) (c .before .loop .t) _ _ _ _ (c .before .loop .low) (c .before .loop .high) (a .pre .0) (a .pre .1) (c .loop-test .left)
-    (c .before .before .before .before .before .narrowed .ensures) (c .before .before .before .before .narrowed2 .ensures) (c .before .before .before .narrowed3 .ensures) (c .before .before .narrowed4 .ensures) (c .before .loop .inv)
+    let a = c .before .before .before .before .before .before .before .before .before .before in
+    limits-closed (channel (channel-of (a .args .terminals)) (a .args .floor .0)) (c .before .before .before .loop .low) (c .before .before .before .loop .high) _ _
+    (filling-ends (a .args .terminals) (c .before .before .before .loop .t) _ _ _ _ (c .before .before .before .loop .low) (c .before .before .before .loop .high) (a .pre .0 .0) (a .pre .1) (c .before .before .loop-test .left)
+    (c .before .before .before .before .before .before .before .narrowed .ensures) (c .before .before .before .before .before .before .narrowed2 .ensures) (c .before .before .before .before .before .narrowed3 .ensures) (c .before .before .before .before .narrowed4 .ensures) (c .before .before .before .loop .inv))
+    (c .before .closed-below .ensures) (c .closed-below2 .ensures)
 
 pub channel-limits-spec : {M : Type 1} → statement M
 channel-limits-spec =
@@ -108,4 +122,7 @@ channel-limits-spec =
     add-t
     loop-less
     loop-again
+    mul-closed-below
+    closed-below-requires
+    closed-below-requires-2
     returns)
