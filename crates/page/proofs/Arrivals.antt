@@ -10,10 +10,10 @@ use borrow.Author.Tests.{leb-true, leb-false, le-leb, lt-leb, ltb-true, ltb-fals
 use lib.Dec.{ltb, leb}
 use lib.ListN.{length, getD}
 use Rattle.numbers.proofs.Orders.{le-or-lt}
-use Rattle.stack.specs.Stack.{Pair, p-at, q-at, feasible}
+use Rattle.stack.specs.Stack.{Pair, p-at, q-at, wirable}
 use Rattle.stack.specs.Limits.{rising}
 use Rattle.stack.proofs.Rising.{rising-before}
-use Rattle.stack.proofs.Feasible.{feasible-by-pairs}
+use Rattle.stack.proofs.Feasible.{wirable-by-pairs}
 use Rattle.routing.specs.Wiring.{right-test, left-test, right-track, left-track, path-between, path}
 use Rattle.routing.proofs.Counts.{Greatest}
 use Rattle.routing.proofs.Tracks.{right-greatest, left-greatest}
@@ -135,7 +135,7 @@ module _ (c : List Pair) (a b m : ℕ) (from upto : List ℕ) (ends : Ends-are c
         late k y h n (last-back d e) s = absurd (omega arith)
 
 -- each path has the arrivals that the code computes
-pub path-arriving : (c : List Pair) (t a b m : ℕ) (from upto : List ℕ) → Ends-are c a b m from upto → rising c ≡ true → feasible c t a b ≡ true → (j : ℕ) → j < length c
+pub path-arriving : (c : List Pair) (t a b m : ℕ) (from upto : List ℕ) → Ends-are c a b m from upto → rising c ≡ true → wirable c t a b ≡ true → (j : ℕ) → j < length c
     → Arriving t (λ y. arrival from upto m j y) (path c t a b j)
 unfolding path-between arrival p q
 path-arriving c t a b m from upto ends r f j l = go (goes c t a b j)
@@ -153,7 +153,7 @@ path-arriving c t a b m from upto ends r f j l = go (goes c t a b j)
         in
         rw (e, ← same)
         (right-arriving (a + p-at c j) (λ k. right-track c a j (a + p-at c j + k)) (λ y. right-arrival from m (b + q-at c j) j y - (a + p-at c j)) t (b + q-at c j - (a + p-at c j))
-        (right-course c t a b r (feasible-by-pairs c t a b f) j (a + p-at c j) (b + q-at c j) l refl refl) (right-reaches c a b m from upto ends r j l u))
+        (right-course c t a b r (wirable-by-pairs c t a b f) j (a + p-at c j) (b + q-at c j) l refl refl) (right-reaches c a b m from upto ends r j l u))
       where
         arrivals-are : (y : ℕ) → a + p-at c j + (right-arrival from m (b + q-at c j) j y - (a + p-at c j)) ≡ arrival from upto m j y
         arrivals-are y = rw (begins, stops, le-leb (a + p-at c j) (b + q-at c j) u) (omega (arith, right-between c a b m from upto ends r j l u y .0))
@@ -163,7 +163,7 @@ path-arriving c t a b m from upto ends r f j l = go (goes c t a b j)
         in
         rw (e, ← same)
         (left-arriving (a + p-at c j) (λ k. left-track c a j (a + p-at c j - k)) (λ y. a + p-at c j - left-arrival from (b + q-at c j) j y) t (a + p-at c j - (b + q-at c j)) (omega arith)
-        (left-course c t a b r (feasible-by-pairs c t a b f) j (a + p-at c j) (b + q-at c j) l refl refl) (left-reaches c a b m from upto ends r j l u))
+        (left-course c t a b r (wirable-by-pairs c t a b f) j (a + p-at c j) (b + q-at c j) l refl refl) (left-reaches c a b m from upto ends r j l u))
       where
         arrivals-are : (y : ℕ) → a + p-at c j - (a + p-at c j - left-arrival from (b + q-at c j) j y) ≡ arrival from upto m j y
         arrivals-are y = rw (begins, stops, lt-leb (a + p-at c j) (b + q-at c j) u) (omega (arith, left-between c a b m from upto ends r j l u y .1))

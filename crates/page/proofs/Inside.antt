@@ -9,8 +9,8 @@ use lib.Dec.{leb}
 use lib.IntN.{pos}
 use lib.ListN.{length, getD}
 use Rattle.numbers.proofs.Bools.{ands, and-both, or-left, or-right, impossible}
-use Rattle.stack.specs.Stack.{Pair, Stack, p-at, q-at, feasible, in-spread, channels-good, legal}
-use Rattle.stack.specs.Limits.{on-strips, channel-within, channels-within, within-limits}
+use Rattle.stack.specs.Stack.{Pair, Channel, no-channel, channel-in, Stack, p-at, q-at, wirable, feasible, in-spread, channels-good, legal}
+use Rattle.stack.specs.Limits.{on-strips, pairs-within, channel-within, channels-within, within-limits}
 use Rattle.stack.proofs.Within.{channel-in-limits, strips-count}
 use Rattle.stack.proofs.OnStrips.{terminals-on}
 use Rattle.routing.specs.Paths.{Point, same-point, on-path}
@@ -21,14 +21,14 @@ use Rattle.routing.proofs.Runs.{Column-between, path-within, wiring-at}
 use Rattle.page.specs.Promise.{inside, path-inside, all-inside, Led-inside}
 use Rattle.page.specs.Arrivals.{Channel-placed}
 
-feasible-at : (cs : List (List Pair)) (ts xs : List ℕ) (i : ℕ) → channels-good cs ts xs ≡ true → i < length cs
-    → feasible (getD cs i []) (getD ts i 0) (getD xs i 0) (getD xs (suc i) 0) ≡ true
-unfolding channels-good
-feasible-at [] ts xs i g l = absurd (omega arith)
-feasible-at (c ∷ cs) [] xs i g l = impossible g
-feasible-at (c ∷ cs) (t ∷ ts) [] i g l = impossible g
-feasible-at (c ∷ cs) (t ∷ ts) (x ∷ xs) zero g l = search ands
-feasible-at (c ∷ cs) (t ∷ ts) (x ∷ xs) (suc i) g l = feasible-at cs ts xs i (search ands) (omega arith)
+wirable-at : (cs : List Channel) (ts xs : List ℕ) (i : ℕ) → channels-good cs ts xs ≡ true → i < length cs
+    → wirable (getD cs i no-channel .pairs) (getD ts i 0) (getD xs i 0) (getD xs (suc i) 0) ≡ true
+unfolding channels-good feasible
+wirable-at [] ts xs i g l = absurd (omega arith)
+wirable-at (c ∷ cs) [] xs i g l = impossible g
+wirable-at (c ∷ cs) (t ∷ ts) [] i g l = impossible g
+wirable-at (c ∷ cs) (t ∷ ts) (x ∷ xs) zero g l = search ands
+wirable-at (c ∷ cs) (t ∷ ts) (x ∷ xs) (suc i) g l = wirable-at cs ts xs i (search ands) (omega arith)
 
 fits-at : (s : ℕ) (ls xs : List ℕ) (i : ℕ) → in-spread s ls xs ≡ true → i < length ls → getD xs i 0 + getD ls i 0 ≤ s
 unfolding in-spread
@@ -66,10 +66,10 @@ module _ (s : ℕ) (c : List Pair) (t a b : ℕ) (p : Channel-placed s c t a b) 
   placed-led = record { led = wiring-led c t a b (p .rises) (p .good); clear = wiring-clear c t a b (p .rises) (p .good); inside = wiring-inside }
 
 pub channel-placed : (k : Stack) (s : ℕ) (ts xs : List ℕ) (i : ℕ) → within-limits k ≡ true → legal k s ts xs ≡ true → i < length (k .channels)
-    → Channel-placed s (getD (k .channels) i []) (getD ts i 0) (getD xs i 0) (getD xs (suc i) 0)
-unfolding legal channel-within within-limits
+    → Channel-placed s (channel-in k i .pairs) (getD ts i 0) (getD xs i 0) (getD xs (suc i) 0)
+unfolding legal channel-within pairs-within within-limits
 channel-placed k s ts xs i w e l =
-    let c = getD (k .channels) i [] in
+    let c = channel-in k i .pairs in
     let good : channels-good (k .channels) ts xs ≡ true = search ands in
     let fit : in-spread s (k .strips) xs ≡ true = search ands in
     let shape : channels-within (k .strips) (k .channels) ≡ true = search ands in
@@ -78,7 +78,7 @@ channel-placed k s ts xs i w e l =
     let o : on-strips (getD (k .strips) i 0) (getD (k .strips) (suc i) 0) c ≡ true = search ands in
     record {
       rises = search ands;
-      good = feasible-at (k .channels) ts xs i good l;
+      good = wirable-at (k .channels) ts xs i good l;
       few = leb-true (length c) 32 (search ands);
       from-within = λ j h. omega (arith, terminals-on _ _ c o j h .0, fits-at s (k .strips) xs i fit (omega arith));
       upto-within = λ j h. omega (arith, terminals-on _ _ c o j h .1, fits-at s (k .strips) xs (suc i) fit (omega arith));

@@ -13,7 +13,7 @@ use lib.IntN.{pos, negsuc}
 use lib.ListN.{length}
 use Rattle.numbers.proofs.Bools.{and-left, and-right, and-both, or-either, or-left, or-right, not-true-false, impossible}
 use Rattle.numbers.proofs.Orders.{eq-or-not}
-use Rattle.stack.specs.Stack.{Pair, feasible}
+use Rattle.stack.specs.Stack.{Pair, wirable}
 use Rattle.stack.specs.Limits.{rising}
 use Rattle.routing.specs.Paths.{Point, point, on-path, none-meet}
 use Rattle.routing.specs.Wiring.{leads, path, wiring, listed}
@@ -176,7 +176,7 @@ module _ (ws : List (List Point)) (n : none-meet ws ≡ true) (t : ℕ) (g : ℕ
       )
 
 -- THE PAGE PAINTED
-module _ (c : List Pair) (t a b m : ℕ) (from upto : List ℕ) (ends : Ends-are c a b m from upto) (r : rising c ≡ true) (f : feasible c t a b ≡ true) (x y : ℕ) (l : y ≤ t) where
+module _ (c : List Pair) (t a b m : ℕ) (from upto : List ℕ) (ends : Ends-are c a b m from upto) (r : rising c ≡ true) (f : wirable c t a b ≡ true) (x y : ℕ) (l : y ≤ t) where
   ws : List (List Point)
   ws = wiring c t a b
 

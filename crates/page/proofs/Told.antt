@@ -8,9 +8,9 @@ use native.Mathlib.Omega.{arith}
 use lib.IntN.{pos}
 use lib.ListN.{length}
 use Rattle.numbers.proofs.Bools.{ands, impossible}
-use Rattle.stack.specs.Stack.{Pair, p-at, q-at, feasible}
+use Rattle.stack.specs.Stack.{Pair, p-at, q-at, wirable}
 use Rattle.stack.specs.Limits.{rising}
-use Rattle.stack.proofs.Feasible.{feasible-by-pairs}
+use Rattle.stack.proofs.Feasible.{wirable-by-pairs}
 use Rattle.routing.specs.Paths.{Point, point, is-path}
 use Rattle.routing.specs.Wiring.{riser, rest, staircase, path, path-between, wiring, leads, right-track, left-track}
 use Rattle.routing.proofs.Points.{same-point-equal, all-paths-elim}
@@ -59,7 +59,7 @@ module _ (x h : ℕ → ℕ) (t w : ℕ) (c : Course x h t w) where
       rw (r, first) refl
 
 -- RIGHT AND LEFT
-module _ (c : List Pair) (t a b j : ℕ) (r : rising c ≡ true) (f : feasible c t a b ≡ true) (l : j < length c) where
+module _ (c : List Pair) (t a b j : ℕ) (r : rising c ≡ true) (f : wirable c t a b ≡ true) (l : j < length c) where
   told-right : a + p-at c j ≤ b + q-at c j → (u v : Point) → Step (λ k. a + p-at c j + k) (λ k. right-track c a j (a + p-at c j + k)) (b + q-at c j - (a + p-at c j)) u v
       → Upright u v ⊎ Runs-told c a b j u v
   unfolding Upright
@@ -111,12 +111,12 @@ module _ (c : List Pair) (t a b j : ℕ) (r : rising c ≡ true) (f : feasible c
           let p = a + p-at c j in
           let q = b + q-at c j in
           told-right g u v
-          (staircase-steps (λ k. p + k) (λ k. right-track c a j (p + k)) t (q - p) (right-course c t a b r (feasible-by-pairs c t a b f) j p q l refl refl) u v (rw e at k))
+          (staircase-steps (λ k. p + k) (λ k. right-track c a j (p + k)) t (q - p) (right-course c t a b r (wirable-by-pairs c t a b f) j p q l refl refl) u v (rw e at k))
       go (leftward g e) u v k =
           let p = a + p-at c j in
           let q = b + q-at c j in
           told-left g u v
-          (staircase-steps (λ k. p - k) (λ k. left-track c a j (p - k)) t (p - q) (left-course c t a b r (feasible-by-pairs c t a b f) j p q l refl refl) u v (rw e at k))
+          (staircase-steps (λ k. p - k) (λ k. left-track c a j (p - k)) t (p - q) (left-course c t a b r (wirable-by-pairs c t a b f) j p q l refl refl) u v (rw e at k))
 
   told-alone : (w : List Point) → Path-told c t a b j w → w ≡ path c t a b j
   unfolding path-between
@@ -128,14 +128,14 @@ module _ (c : List Pair) (t a b j : ℕ) (r : rising c ≡ true) (f : feasible c
           let q = b + q-at c j in
           let s : p + 0 ≡ p = omega arith in
           let z : p + (q - p) ≡ q = omega arith in
-          rw e (staircase-alone (λ k. p + k) (λ k. right-track c a j (p + k)) t (q - p) (right-course c t a b r (feasible-by-pairs c t a b f) j p q l refl refl)
+          rw e (staircase-alone (λ k. p + k) (λ k. right-track c a j (p + k)) t (q - p) (right-course c t a b r (wirable-by-pairs c t a b f) j p q l refl refl)
           (λ i k m n d. omega arith) w (rw (s, z) (h .path)) (h .once) (λ u v k. right-told g u v (h .runs u v k)))
       go (leftward g e) =
           let p = a + p-at c j in
           let q = b + q-at c j in
           let s : p - 0 ≡ p = omega arith in
           let z : p - (p - q) ≡ q = omega arith in
-          rw e (staircase-alone (λ k. p - k) (λ k. left-track c a j (p - k)) t (p - q) (left-course c t a b r (feasible-by-pairs c t a b f) j p q l refl refl)
+          rw e (staircase-alone (λ k. p - k) (λ k. left-track c a j (p - k)) t (p - q) (left-course c t a b r (wirable-by-pairs c t a b f) j p q l refl refl)
           (λ i k m n d. omega arith) w (rw (s, z) (h .path)) (h .once) (λ u v k. left-told g u v (h .runs u v k)))
 
 -- AS TOLD, AND NO OTHER

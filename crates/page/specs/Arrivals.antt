@@ -6,14 +6,14 @@ use mathlib.Core.List.{List}
 use Prim.Native.Nat.{ℕ, zero, suc, _+_, _-_, _≤_, _<_, min, max}
 use lib.Dec.{ltb, leb, eqb}
 use lib.ListN.{length, getD}
-use Rattle.stack.specs.Stack.{Pair, p-at, q-at, feasible}
+use Rattle.stack.specs.Stack.{Pair, p-at, q-at, wirable}
 use Rattle.stack.specs.Limits.{rising}
 use Rattle.page.specs.Page.{arms-character}
 
--- a channel that the page can show: its terminals rise, it is feasible, and no terminal is beyond column s
+-- a channel that the page can show: its terminals rise, its pairs are wirable, and no terminal is beyond column s
 pub record Channel-placed (s : ℕ) (c : List Pair) (t lower upper : ℕ) : Type 0 where
   pub rises : rising c ≡ true
-  pub good : feasible c t lower upper ≡ true
+  pub good : wirable c t lower upper ≡ true
   pub few : length c ≤ 32
   pub from-within : (j : ℕ) → j < length c → lower + p-at c j ≤ s
   pub upto-within : (j : ℕ) → j < length c → upper + q-at c j ≤ s

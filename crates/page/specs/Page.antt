@@ -7,7 +7,7 @@ use lib.Dec.{ltb, eqb}
 use lib.ListN.{length, getD, replicate}
 use lib.IntN.{ℤ, pos, negsuc}
 use Rattle.numbers.specs.Lists.{tabulate}
-use Rattle.stack.specs.Stack.{Stack}
+use Rattle.stack.specs.Stack.{Stack, channel-in}
 use Rattle.routing.specs.Paths.{Point, point, on-path}
 use Rattle.routing.specs.Wiring.{leads, wiring}
 use Rattle.writing.specs.TableText.{digits}
@@ -73,7 +73,7 @@ page-text (suc t) ws = track-line (suc t) ws ++ page-text t ws
 
 -- the paths of channel i + 1 of a placed stack, and their page
 unfoldable pub channel-paths : Stack → (separations positions : List ℕ) → (i : ℕ) → List (List Point)
-channel-paths k ts xs i = wiring (getD (k .channels) i []) (getD ts i 0) (getD xs i 0) (getD xs (suc i) 0)
+channel-paths k ts xs i = wiring (channel-in k i .pairs) (getD ts i 0) (getD xs i 0) (getD xs (suc i) 0)
 
 unfoldable pub channel-page : Stack → (separations positions : List ℕ) → (i : ℕ) → List ℕ
 channel-page k ts xs i = page-text (getD ts i 0) (channel-paths k ts xs i)

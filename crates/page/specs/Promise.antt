@@ -8,7 +8,7 @@ use Prim.Native.Nat.{ℕ, suc, _+_, _*_, _-_, _≤_, _<_}
 use lib.Dec.{leb, eqb}
 use lib.ListN.{length, getD}
 use lib.IntN.{pos, negsuc}
-use Rattle.stack.specs.Stack.{Pair, p-at, q-at, feasible}
+use Rattle.stack.specs.Stack.{Pair, p-at, q-at, wirable}
 use Rattle.stack.specs.Limits.{rising}
 use Rattle.routing.specs.Paths.{Point, point, on-path, is-path, all-paths, none-meet}
 use Rattle.routing.specs.Wiring.{leads, path, right-track, left-track}
@@ -53,10 +53,10 @@ pub record Path-told (c : List Pair) (t lower upper j : ℕ) (w : List Point) : 
   pub once : once w ≡ true
   pub runs : (u v : Point) → leads u v w ≡ true → Upright u v ⊎ Runs-told c lower upper j u v
 
--- the paths drawn are as told where the channel is feasible, and no other path is
+-- the paths drawn are as told where the pairs are wirable, and no other path is
 unfoldable pub Told : Type 0
 Told =
-    (c : List Pair) (t a b j : ℕ) → rising c ≡ true → feasible c t a b ≡ true → j < length c →
+    (c : List Pair) (t a b j : ℕ) → rising c ≡ true → wirable c t a b ≡ true → j < length c →
     Path-told c t a b j (path c t a b j) × ((w : List Point) → Path-told c t a b j w → w ≡ path c t a b j)
 
 -- WHAT A PAGE SHOWS, a text of 69 bytes a track, of a channel's paths: they are a set of paths inside the spread, each is as told, and of the points on the page

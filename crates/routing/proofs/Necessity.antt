@@ -1,4 +1,4 @@
--- A channel that can be drawn is feasible, however its paths run. If R(t) fails at j, or L(t) at j + t, then some cut is passed by each of the paths j to
+-- Pairs that can be drawn are wirable, however their paths run. If R(t) fails at j, or L(t) at j + t, then some cut is passed by each of the paths j to
 -- j + t, all in the same direction; each has a point on the cut below track t, and there are only t such points: two paths would share one.
 -- Assumes nothing.
 use mathlib.Core.Path.{_≡_, refl}
@@ -9,12 +9,12 @@ use lib.ListN.{length}
 use lib.IntN.{pos}
 use native.Mathlib.Omega.{arith}
 use Rattle.numbers.proofs.Pigeonhole.{Placed, Alone, pigeonhole}
-use Rattle.stack.specs.Stack.{Pair, p-at, q-at, feasible}
+use Rattle.stack.specs.Stack.{Pair, p-at, q-at, wirable}
 use Rattle.stack.specs.Limits.{rising}
 use Rattle.routing.specs.Paths.{point, is-path, on-path, Channel-drawn}
 use Rattle.routing.proofs.Points.{path-at, all-paths-elim, none-meet-elim}
 use Rattle.stack.proofs.Rising.{rising-before}
-use Rattle.stack.proofs.Feasible.{By-pairs, by-pairs-feasible}
+use Rattle.stack.proofs.Feasible.{By-pairs, by-pairs-wirable}
 use Rattle.routing.proofs.Crossing.{Cut, Crosses, crosses-left, crosses-right}
 
 -- pair i's terminals are not before pair j's and not after pair k's
@@ -75,5 +75,5 @@ module _ (c : List Pair) (t a b : ℕ) (r : rising c ≡ true) (d : Channel-draw
   drawn-by-pairs : By-pairs c t a b
   drawn-by-pairs = record { left = λ j i e h. omega (arith, drawn-left j i e h); right = λ j i e h. omega (arith, drawn-right j i e h) }
 
-pub drawn-feasible : (c : List Pair) (t a b : ℕ) → rising c ≡ true → Channel-drawn c t a b → feasible c t a b ≡ true
-drawn-feasible c t a b r d = by-pairs-feasible c t a b (drawn-by-pairs c t a b r d)
+pub drawn-wirable : (c : List Pair) (t a b : ℕ) → rising c ≡ true → Channel-drawn c t a b → wirable c t a b ≡ true
+drawn-wirable c t a b r d = by-pairs-wirable c t a b (drawn-by-pairs c t a b r d)

@@ -10,12 +10,12 @@ use lib.IntN.{pos}
 use native.Mathlib.Decide.{ℕ-discrete}
 use native.Mathlib.Omega.{arith}
 use Rattle.numbers.proofs.Bools.{and-left, and-right, or-either, or-left, or-right}
-use Rattle.stack.specs.Stack.{Pair, p-at, q-at, feasible}
+use Rattle.stack.specs.Stack.{Pair, p-at, q-at, wirable}
 use Rattle.stack.specs.Limits.{rising}
 use Rattle.routing.specs.Paths.{Point, point, same-point, on-path}
 use Rattle.routing.specs.Wiring.{riser, rest, staircase, right-track, left-track, path-between, path, wiring, begins, leads, runs}
 use Rattle.routing.proofs.Points.{path-at, pos-injective, same-point-self}
-use Rattle.stack.proofs.Feasible.{feasible-by-pairs}
+use Rattle.stack.proofs.Feasible.{wirable-by-pairs}
 use Rattle.routing.proofs.Staircase.{Course, On, on-staircase}
 use Rattle.routing.proofs.Listed.{listed-at}
 use Rattle.routing.proofs.Sufficiency.{On-path, On-right, On-left, right, left, Goes, rightward, leftward, goes, right-course, left-course, path-points}
@@ -105,11 +105,11 @@ pub record Column-between (p q : ℕ) (z : Point) : Type 0 where
   pub from : min p q ≤ column
   pub upto : column ≤ max p q
 
-module _ (c : List Pair) (t a b : ℕ) (r : rising c ≡ true) (f : feasible c t a b ≡ true) (j : ℕ) (l : j < length c) where
+module _ (c : List Pair) (t a b : ℕ) (r : rising c ≡ true) (f : wirable c t a b ≡ true) (j : ℕ) (l : j < length c) where
   -- each path stays between its own terminals' columns
   pub path-within : (z : Point) → on-path z (path-at (wiring c t a b) j) ≡ true → Column-between (a + p-at c j) (b + q-at c j) z
   unfolding On-right On-left
-  path-within z o = go (path-points c t a b r (feasible-by-pairs c t a b f) j z l (goes c t a b j) (rw (wiring-at c t a b j l) at o))
+  path-within z o = go (path-points c t a b r (wirable-by-pairs c t a b f) j z l (goes c t a b j) (rw (wiring-at c t a b j l) at o))
     where
       go : On-path c t a j (a + p-at c j) (b + q-at c j) z → Column-between (a + p-at c j) (b + q-at c j) z
       go (right u x) = record { column = a + p-at c j + x .at; is = x .column; from = omega arith; upto = omega arith }
@@ -126,7 +126,7 @@ module _ (c : List Pair) (t a b : ℕ) (r : rising c ≡ true) (f : feasible c t
           let p = a + p-at c j in
           let q = b + q-at c j in
           let d : p + (x - p) ≡ x = omega arith in
-          rw e (runs-on (λ k. p + k) (λ k. right-track c a j (p + k)) t (q - p) (right-course c t a b r (feasible-by-pairs c t a b f) j p q l refl refl)
+          rw e (runs-on (λ k. p + k) (λ k. right-track c a j (p + k)) t (q - p) (right-course c t a b r (wirable-by-pairs c t a b f) j p q l refl refl)
           (λ i k m n d. omega arith) (x - p) x (suc x) (right-track c a j x) y (omega arith) d (omega arith) (ap (λ (v : ℕ). right-track c a j v) d))
       go (leftward u e) = absurd (omega arith)
 
@@ -142,5 +142,5 @@ module _ (c : List Pair) (t a b : ℕ) (r : rising c ≡ true) (f : feasible c t
           let p = a + p-at c j in
           let q = b + q-at c j in
           let d : p - (p - suc x) ≡ suc x = omega arith in
-          rw e (runs-on (λ k. p - k) (λ k. left-track c a j (p - k)) t (p - q) (left-course c t a b r (feasible-by-pairs c t a b f) j p q l refl refl)
+          rw e (runs-on (λ k. p - k) (λ k. left-track c a j (p - k)) t (p - q) (left-course c t a b r (wirable-by-pairs c t a b f) j p q l refl refl)
           (λ i k m n d. omega arith) (p - suc x) (suc x) x (left-track c a j (suc x)) y (omega arith) d (omega arith) (ap (λ (v : ℕ). left-track c a j v) d))

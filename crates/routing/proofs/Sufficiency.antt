@@ -1,4 +1,4 @@
--- A feasible channel can be drawn, by the paths of document 02's path rule. Each is a staircase whose runs are below track t. Two that go the same way share no
+-- Wirable pairs can be drawn, by the paths of document 02's path rule. Each is a staircase whose runs are below track t. Two that go the same way share no
 -- point, since at a column where both are the one from behind comes on a higher track than the other leaves on; two that go different ways have no
 -- column in common. Assumes nothing.
 use mathlib.Core.Path.{_≡_, refl}
@@ -11,13 +11,13 @@ use lib.ListN.{length}
 use lib.IntN.{pos}
 use native.Mathlib.Omega.{arith}
 use borrow.Author.Tests.{leb-true, leb-false}
-use Rattle.stack.specs.Stack.{Pair, p-at, q-at, feasible}
+use Rattle.stack.specs.Stack.{Pair, p-at, q-at, wirable}
 use Rattle.stack.specs.Limits.{rising}
 use Rattle.routing.specs.Paths.{Point, point, is-path, on-path, none-meet, all-paths, Channel-drawn}
 use Rattle.routing.specs.Wiring.{right-track, left-track, path-between, path, wiring}
 use Rattle.routing.proofs.Points.{pos-injective}
 use Rattle.stack.proofs.Rising.{rising-before}
-use Rattle.stack.proofs.Feasible.{By-pairs, feasible-by-pairs}
+use Rattle.stack.proofs.Feasible.{By-pairs, wirable-by-pairs}
 use Rattle.routing.proofs.Staircase.{Beside, Course, On, staircase-path, on-staircase}
 use Rattle.routing.proofs.Tracks.{right-rises, left-rises, right-below, left-below, right-beyond, left-beyond}
 use Rattle.routing.proofs.Listed.{Disjoint, all-paths-listed, none-meet-listed}
@@ -124,19 +124,19 @@ module _ (c : List Pair) (t a b : ℕ) (r : rising c ≡ true) (f : By-pairs c t
   paths-disjoint i j l h z o u =
       clear i j z l h (path-points i z (omega arith) (goes c t a b i) o) (path-points j z h (goes c t a b j) u)
 
-pub wiring-led : (c : List Pair) (t a b : ℕ) → rising c ≡ true → feasible c t a b ≡ true → all-paths t a b c (wiring c t a b) ≡ true
+pub wiring-led : (c : List Pair) (t a b : ℕ) → rising c ≡ true → wirable c t a b ≡ true → all-paths t a b c (wiring c t a b) ≡ true
 unfolding wiring
 wiring-led c t a b r f =
-    all-paths-listed t a b c (λ j. path c t a b j) (λ j l. path-led c t a b r (feasible-by-pairs c t a b f) j l (goes c t a b j))
+    all-paths-listed t a b c (λ j. path c t a b j) (λ j l. path-led c t a b r (wirable-by-pairs c t a b f) j l (goes c t a b j))
 
-pub wiring-clear : (c : List Pair) (t a b : ℕ) → rising c ≡ true → feasible c t a b ≡ true → none-meet (wiring c t a b) ≡ true
+pub wiring-clear : (c : List Pair) (t a b : ℕ) → rising c ≡ true → wirable c t a b ≡ true → none-meet (wiring c t a b) ≡ true
 unfolding wiring
-wiring-clear c t a b r f = none-meet-listed (λ j. path c t a b j) (length c) (paths-disjoint c t a b r (feasible-by-pairs c t a b f))
+wiring-clear c t a b r f = none-meet-listed (λ j. path c t a b j) (length c) (paths-disjoint c t a b r (wirable-by-pairs c t a b f))
 
-unfoldable pub feasible-drawn : (c : List Pair) (t a b : ℕ) → rising c ≡ true → feasible c t a b ≡ true → Channel-drawn c t a b
-feasible-drawn c t a b r f = record { paths = wiring c t a b; led = wiring-led c t a b r f; clear = wiring-clear c t a b r f }
+unfoldable pub wirable-drawn : (c : List Pair) (t a b : ℕ) → rising c ≡ true → wirable c t a b ≡ true → Channel-drawn c t a b
+wirable-drawn c t a b r f = record { paths = wiring c t a b; led = wiring-led c t a b r f; clear = wiring-clear c t a b r f }
 
-pub feasible-drawn-paths : (c : List Pair) (t a b : ℕ) (r : rising c ≡ true) (f : feasible c t a b ≡ true)
-    → feasible-drawn c t a b r f .paths ≡ wiring c t a b
-unfolding feasible-drawn
-feasible-drawn-paths c t a b r f = refl
+pub wirable-drawn-paths : (c : List Pair) (t a b : ℕ) (r : rising c ≡ true) (f : wirable c t a b ≡ true)
+    → wirable-drawn c t a b r f .paths ≡ wiring c t a b
+unfolding wirable-drawn
+wirable-drawn-paths c t a b r f = refl

@@ -72,7 +72,7 @@ module _ (c : List Pair) (a : ℕ) (r : rising c ≡ true) where
       let d : j - (n + (j - i)) ≡ i - n = omega arith in
       rw d (omega (arith, le-leb, leb-true)))
 
-  -- in a feasible channel it is below track t
+  -- where the pairs are wirable it is below track t
   module _ (t b : ℕ) (f : By-pairs c t a b) where
     pub right-below : (j x : ℕ) → j < length c → a + p-at c j ≤ x → x < b + q-at c j → right-track c a j x < t
     unfolding right-test

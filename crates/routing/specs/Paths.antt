@@ -1,13 +1,13 @@
 -- TRUSTED. Paths over the grid, and when a placement is drawable; L, R and feasibility have no part.
--- Document 01, "When a channel can be wired", from "Demand 3 uses paths instead" on. Assumes nothing: these are definitions.
+-- Document 01, "When a channel can be wired", from "Demand 3 uses paths instead" on; document 02, P2. Assumes nothing: these are definitions.
 use mathlib.Core.Path.{_≡_}
 use mathlib.Core.Bool.{Bool, true, false, _&&_, _||_, not}
 use mathlib.Core.List.{List, [], _∷_}
-use Prim.Native.Nat.{ℕ, zero, suc, _+_}
+use Prim.Native.Nat.{ℕ, zero, suc, _+_, _≤_}
 use lib.Dec.{ltb, leb, eqb}
 use lib.ListN.{getD}
 use lib.IntN.{ℤ, pos, negsuc}
-use Rattle.stack.specs.Stack.{Stack, Pair, in-spread}
+use Rattle.stack.specs.Stack.{Stack, Channel, Pair, in-spread}
 
 -- a grid point: a column, which may lie outside the spread, and a track
 pub record Point : Type 0 where
@@ -78,12 +78,13 @@ pub record Channel-drawn (c : List Pair) (t lower upper : ℕ) : Type 0 where
   pub led : all-paths t lower upper c paths ≡ true
   pub clear : none-meet paths ≡ true
 
-unfoldable pub Channels-drawn : List (List Pair) → (separations positions : List ℕ) → Type 0
+-- no channel is below its floor, and each is drawn
+unfoldable pub Channels-drawn : List Channel → (separations positions : List ℕ) → Type 0
 Channels-drawn [] [] xs = zero ≡ zero
 Channels-drawn [] (t ∷ ts) xs = ⊥
 Channels-drawn (c ∷ cs) [] xs = ⊥
 Channels-drawn (c ∷ cs) (t ∷ ts) [] = ⊥
-Channels-drawn (c ∷ cs) (t ∷ ts) (x ∷ xs) = Channel-drawn c t x (getD xs 0 0) × Channels-drawn cs ts xs
+Channels-drawn (c ∷ cs) (t ∷ ts) (x ∷ xs) = (c .floor ≤ t) × Channel-drawn (c .pairs) t x (getD xs 0 0) × Channels-drawn cs ts xs
 
 -- DRAWABLE in a spread
 pub record Drawable (k : Stack) (s : ℕ) (ts xs : List ℕ) : Type 0 where

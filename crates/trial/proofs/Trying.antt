@@ -11,13 +11,13 @@ use lib.Dec.{leb, eqb}
 use lib.ListN.{length, getD, drop, drop-of-length-le}
 use lib.Seq.{drop-cons, getD-take, getD-drop, length-take-le}
 use borrow.Author.Tests.{eq-eqb, ne-eqb}
-use Rattle.stack.specs.Stack.{Pair, feasible, in-spread, channels-good}
-use Rattle.stack.specs.Value.{strip, tracks, columns, no-terminals, channel-of, stack-of, tracks-of, columns-of}
+use Rattle.stack.specs.Stack.{Channel, no-channel, feasible, in-spread, channels-good}
+use Rattle.stack.specs.Value.{strip, tracks, columns, channel-at, stack-of, tracks-of, columns-of}
 use Rattle.stack.specs.declared.Tracks.{Tracks}
 use Rattle.stack.specs.declared.Columns.{Columns}
 use Rattle.stack.specs.declared.Stack.{Stack as Stack-struct}
-use Rattle.stack.proofs.Values.{track-at, column-at, tracks-long, columns-long}
-use Rattle.stack.proofs.Within.{stack-channels, stack-strips, stack-channel, stack-strip}
+use Rattle.stack.proofs.Values.{track-at, column-at, tracks-long, columns-long, stack-channel}
+use Rattle.stack.proofs.Within.{stack-channels, stack-strips, stack-strip}
 use Rattle.trial.specs.Legal.{all-zero}
 use Rattle.trial.specs.Trying.{used-separations, used-positions, Zeros-from, Spread-from, Channels-from}
 
@@ -76,13 +76,13 @@ module _ (k : Stack-struct) (few : k .count ≤ 8) (xs : List Columns) (long : l
       sym (w .rest ∙ rw (drop-of-length-le (stack-of k .strips) {i = i} (omega (arith, stack-strips k)), drop-of-length-le (used-positions k xs) {i = i} (omega (arith, positions-long))))
 
 -- THE CHANNELS
-channels-next : (cs : List (List Pair)) (ts xs : List ℕ) (i : ℕ) → i < length cs → i < length ts → i < length xs →
+channels-next : (cs : List Channel) (ts xs : List ℕ) (i : ℕ) → i < length cs → i < length ts → i < length xs →
     channels-good (drop i cs) (drop i ts) (drop i xs)
-    ≡ (feasible (getD cs i []) (getD ts i 0) (getD xs i 0) (getD xs (suc i) 0) && channels-good (drop (suc i) cs) (drop (suc i) ts) (drop (suc i) xs))
+    ≡ (feasible (getD cs i no-channel) (getD ts i 0) (getD xs i 0) (getD xs (suc i) 0) && channels-good (drop (suc i) cs) (drop (suc i) ts) (drop (suc i) xs))
 unfolding channels-good
 channels-next cs ts xs i h k l =
     let above : getD (drop (suc i) xs) 0 0 ≡ getD xs (suc i) 0 = getD-drop (suc i) xs 0 0 ∙ ap (λ j. getD xs j 0) (add-zero (suc i)) in
-    rw (drop-cons cs i [] h, drop-cons ts i 0 k, drop-cons xs i 0 l, above)
+    rw (drop-cons cs i no-channel h, drop-cons ts i 0 k, drop-cons xs i 0 l, above)
 
 pub channels-start : (k : Stack-struct) (ts : List Tracks) (xs : List Columns) → Channels-from (stack-of k .channels) (used-separations k ts) (used-positions k xs) 0
 channels-start k ts xs = record { rest = refl }
@@ -95,7 +95,7 @@ module _ (k : Stack-struct) (few : k .count ≤ 8) (ts : List Tracks) (xs : List
   separation-at i h = getD-take (k .count) (tracks-of ts) i 0 h ∙ track-at ts i
 
   module _ (i : ℕ) (less : i < k .count) (r : Bool)
-      (is : r ≡ feasible (channel-of (getD (k .channels) i no-terminals)) (getD ts i (tracks 0) .0) (getD xs i (columns 0) .0) (getD xs (i + 1) (columns 0) .0))
+      (is : r ≡ feasible (channel-at k i) (getD ts i (tracks 0) .0) (getD xs i (columns 0) .0) (getD xs (i + 1) (columns 0) .0))
       (w : Channels-from (stack-of k .channels) (used-separations k ts) (used-positions k xs) i) where
     channels-split : channels-good (stack-of k .channels) (used-separations k ts) (used-positions k xs)
         ≡ (r && channels-good (drop (suc i) (stack-of k .channels)) (drop (suc i) (used-separations k ts)) (drop (suc i) (used-positions k xs)))

@@ -5,7 +5,7 @@ use mathlib.Core.List.{List}
 use Prim.Native.Nat.{ℕ, suc}
 use lib.ListN.{take, drop}
 use Rattle.stack.specs.Value.{tracks-of, columns-of}
-use Rattle.stack.specs.Stack.{Pair, in-spread, channels-good}
+use Rattle.stack.specs.Stack.{Channel, in-spread, channels-good}
 use Rattle.stack.specs.declared.Tracks.{Tracks}
 use Rattle.stack.specs.declared.Columns.{Columns}
 use Rattle.stack.specs.declared.Stack.{Stack as Stack-struct}
@@ -27,5 +27,5 @@ pub record Spread-from (s : ℕ) (strips xs : List ℕ) (i : ℕ) : Type 0 where
   pub rest : in-spread s strips xs ≡ in-spread s (drop i strips) (drop i xs)
 
 -- every channel feasible
-pub record Channels-from (channels : List (List Pair)) (ts xs : List ℕ) (i : ℕ) : Type 0 where
+pub record Channels-from (channels : List Channel) (ts xs : List ℕ) (i : ℕ) : Type 0 where
   pub rest : channels-good channels ts xs ≡ channels-good (drop i channels) (drop i ts) (drop i xs)

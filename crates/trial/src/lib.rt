@@ -73,7 +73,8 @@ fn are_channels_feasible(
     for i in 0..channels {
         let lower = positions[i];
         let upper = positions[i + 1];
-        if !is_feasible(stack.channels[i], separations[i], lower, upper) {
+        let floor = stack.floors[i];
+        if !is_feasible(stack.channels[i], floor, separations[i], lower, upper) {
             return false;
         }
     }

@@ -35,32 +35,38 @@ mul-upper c = omega (arith, c .before .loop-test .taken, few-channels (c .before
 array-copy-out-upper : tie.Need-array-copy-out-upper Inv-loop μ-loop
 array-copy-out-upper c = omega (arith, c .before .loop-test .taken, few-channels (c .before .before .before .args .t1) (c .before .before .before .pre))
 
+mul-floor : tie.Need-mul-floor Inv-loop μ-loop
+mul-floor c = omega (arith, c .before .before .loop-test .taken, few-channels (c .before .before .before .before .args .t1) (c .before .before .before .before .pre))
+
+element-copy-out-floor : tie.Need-element-copy-out-floor Inv-loop μ-loop
+element-copy-out-floor c = omega (arith, c .before .before .loop-test .taken, few-channels (c .before .before .before .before .args .t1) (c .before .before .before .before .pre))
+
 mul-is-feasible : tie.Need-mul-is-feasible Inv-loop μ-loop
-mul-is-feasible c = omega (arith, c .before .before .loop-test .taken, few-channels (c .before .before .before .before .args .t1) (c .before .before .before .before .pre))
+mul-is-feasible c = omega (arith, c .before .before .before .loop-test .taken, few-channels (c .before .before .before .before .before .args .t1) (c .before .before .before .before .before .pre))
 
 element-copy-out-is-feasible : tie.Need-element-copy-out-is-feasible Inv-loop μ-loop
-element-copy-out-is-feasible c = omega (arith, c .before .before .loop-test .taken, few-channels (c .before .before .before .before .args .t1) (c .before .before .before .before .pre))
+element-copy-out-is-feasible c = omega (arith, c .before .before .before .loop-test .taken, few-channels (c .before .before .before .before .before .args .t1) (c .before .before .before .before .before .pre))
 
 mul-is-feasible-2 : tie.Need-mul-is-feasible-2 Inv-loop μ-loop
-mul-is-feasible-2 c = omega (arith, c .before .before .before .loop-test .taken, few-channels (c .before .before .before .before .before .args .t1) (c .before .before .before .before .before .pre))
+mul-is-feasible-2 c = omega (arith, c .before .before .before .before .loop-test .taken, few-channels (c .before .before .before .before .before .before .args .t1) (c .before .before .before .before .before .before .pre))
 
 array-copy-out-is-feasible : tie.Need-array-copy-out-is-feasible Inv-loop μ-loop
-array-copy-out-is-feasible c = omega (arith, c .before .before .before .loop-test .taken, few-channels (c .before .before .before .before .before .args .t1) (c .before .before .before .before .before .pre))
+array-copy-out-is-feasible c = omega (arith, c .before .before .before .before .loop-test .taken, few-channels (c .before .before .before .before .before .before .args .t1) (c .before .before .before .before .before .before .pre))
 
 is-feasible-requires : tie.Need-is-feasible-requires Inv-loop μ-loop
-is-feasible-requires c κs = few-pairs (c .before .before .before .before .before .before .args .t1) (c .before .before .before .before .before .before .pre) (c .before .before .before .before .before .loop .i) (c .before .before .before .before .loop-test .taken)
+is-feasible-requires c κs = few-pairs (c .before .before .before .before .before .before .before .args .t1) (c .before .before .before .before .before .before .before .pre) (c .before .before .before .before .before .before .loop .i) (c .before .before .before .before .before .loop-test .taken)
 
 returns : tie.Need-returns Inv-loop μ-loop
-returns c = channels-refuse (c .before .before .before .before .before .before .before .before .args .t1) (few-channels (c .before .before .before .before .before .before .before .before .args .t1) (c .before .before .before .before .before .before .before .before .pre)) (c .before .before .before .before .before .before .before .before .args .t2) (c .before .before .before .before .before .before .before .before .args .t3) (search needs) (search needs) (c .before .before .before .before .before .before .before .loop .i) (c .before .before .before .before .before .before .loop-test .taken) (c .before .is-feasible .result) (c .before .is-feasible .ensures) (c .before .before .before .before .before .before .before .loop .inv) (not-true _ (c .if1 .taken))
+returns c = channels-refuse (c .before .before .before .before .before .before .before .before .before .args .t1) (few-channels (c .before .before .before .before .before .before .before .before .before .args .t1) (c .before .before .before .before .before .before .before .before .before .pre)) (c .before .before .before .before .before .before .before .before .before .args .t2) (c .before .before .before .before .before .before .before .before .before .args .t3) (search needs) (search needs) (c .before .before .before .before .before .before .before .before .loop .i) (c .before .before .before .before .before .before .before .loop-test .taken) (c .before .is-feasible .result) (c .before .is-feasible .ensures) (c .before .before .before .before .before .before .before .before .loop .inv) (not-true _ (c .if1 .taken))
 
 add-i : tie.Need-add-i Inv-loop μ-loop
-add-i c = omega (arith, c .before .before .before .before .before .before .loop-test .taken, few-channels (c .before .before .before .before .before .before .before .before .args .t1) (c .before .before .before .before .before .before .before .before .pre))
+add-i c = omega (arith, c .before .before .before .before .before .before .before .loop-test .taken, few-channels (c .before .before .before .before .before .before .before .before .before .args .t1) (c .before .before .before .before .before .before .before .before .before .pre))
 
 loop-less : tie.Need-loop-less Inv-loop μ-loop
-loop-less c = falls _ _ (c .before .before .before .before .before .before .loop-test .taken)
+loop-less c = falls _ _ (c .before .before .before .before .before .before .before .loop-test .taken)
 
 loop-again : tie.Need-loop-again Inv-loop μ-loop
-loop-again c = channels-step (c .before .before .before .before .before .before .before .before .args .t1) (few-channels (c .before .before .before .before .before .before .before .before .args .t1) (c .before .before .before .before .before .before .before .before .pre)) (c .before .before .before .before .before .before .before .before .args .t2) (c .before .before .before .before .before .before .before .before .args .t3) (search needs) (search needs) (c .before .before .before .before .before .before .before .loop .i) (c .before .before .before .before .before .before .loop-test .taken) (c .before .is-feasible .result) (c .before .is-feasible .ensures) (c .before .before .before .before .before .before .before .loop .inv) (not-false _ (c .if1 .left))
+loop-again c = channels-step (c .before .before .before .before .before .before .before .before .before .args .t1) (few-channels (c .before .before .before .before .before .before .before .before .before .args .t1) (c .before .before .before .before .before .before .before .before .before .pre)) (c .before .before .before .before .before .before .before .before .before .args .t2) (c .before .before .before .before .before .before .before .before .before .args .t3) (search needs) (search needs) (c .before .before .before .before .before .before .before .before .loop .i) (c .before .before .before .before .before .before .before .loop-test .taken) (c .before .is-feasible .result) (c .before .is-feasible .ensures) (c .before .before .before .before .before .before .before .before .loop .inv) (not-false _ (c .if1 .left))
 
 returns-2 : tie.Need-returns-2 Inv-loop μ-loop
 returns-2 c = channels-end (c .before .before .args .t1) (few-channels (c .before .before .args .t1) (c .before .before .pre)) (c .before .before .args .t2) (c .before .before .args .t3) (search needs) (search needs) (c .before .loop .i) (c .loop-test .left) (c .before .loop .inv)
@@ -77,6 +83,8 @@ are-channels-feasible-spec =
     add-upper
     mul-upper
     array-copy-out-upper
+    mul-floor
+    element-copy-out-floor
     mul-is-feasible
     element-copy-out-is-feasible
     mul-is-feasible-2
