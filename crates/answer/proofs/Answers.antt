@@ -1,15 +1,13 @@
 -- The solver's answer is the answer of Stack.antt, whatever bias of at least s + 32 it is worked out with: there is one for every spread from the
 -- longest strip upward, and only one. Assumes nothing.
 use mathlib.Core.Path.{_≡_, refl, sym, ap, _∙_}
-use mathlib.Core.Bool.{Bool, true, false, _&&_, cond}
+use mathlib.Core.Bool.{true, _&&_}
 use mathlib.Core.List.{List, [], _∷_}
 use Prim.Native.Nat.{ℕ, suc, _+_, _≤_}
 use native.Mathlib.Omega.{arith}
-use lib.Dec.{ltb}
 use lib.ListN.{length}
-use borrow.Author.Tests.{ltb-true, ltb-false}
 use Rattle.numbers.proofs.Bools.{ands, impossible}
-use Rattle.stack.specs.Stack.{Pair, Stack, stack, in-spread, channels-good, legal, sum, longest, not-later, Answer}
+use Rattle.stack.specs.Stack.{Channel, Stack, stack, in-spread, channels-good, legal, sum, longest, not-later, Answer}
 use Rattle.stack.specs.Limits.{channels-within, within-limits}
 use Rattle.spans.specs.Solver.{most, positions}
 use Rattle.spans.specs.Placed.{Placed, alone, under, Widening, Exactly, Best}
@@ -17,27 +15,19 @@ use Rattle.spans.proofs.Total.{least-total-at-most, least-total-reached}
 use Rattle.spans.proofs.Best.{best, chosen}
 use Rattle.spans.proofs.Order.{not-later-both}
 use Rattle.answer.specs.Solve.{last-use, window, stack-levels, bottom, levels-of, total-with, separations-with, positions-with, answer-total, answer-separations, answer-positions}
-use Rattle.answer.proofs.Legal.{in-window, legal-placed, placed-legal, stack-widening, channel-fits-open}
-
-pub longest-bounds : (l : ℕ) (ls : List ℕ) (s : ℕ) → longest (l ∷ ls) ≤ s → (l ≤ s) × (longest ls ≤ s)
-unfolding longest
-longest-bounds l ls s h = go (ltb l (longest ls)) refl h
-  where
-    go : (v : Bool) → ltb l (longest ls) ≡ v → cond v (longest ls) l ≤ s → (l ≤ s) × (longest ls ≤ s)
-    go true e k = omega (arith, ltb-true)
-    go false e k = omega (arith, ltb-false)
+use Rattle.answer.proofs.Legal.{longest-bounds, in-window, legal-placed, placed-legal, stack-widening, channel-fits-open}
 
 -- every strip at 0 and every separation the last of use
-pub lasts-of : List (List Pair) → List ℕ
+pub lasts-of : List Channel → List ℕ
 lasts-of [] = []
-lasts-of (c ∷ cs) = last-use (length c) ∷ lasts-of cs
+lasts-of (c ∷ cs) = last-use c ∷ lasts-of cs
 
-pub zeros-of : List (List Pair) → List ℕ
+pub zeros-of : List Channel → List ℕ
 zeros-of [] = []
 zeros-of (c ∷ cs) = 0 ∷ zeros-of cs
 
 module _ (b s : ℕ) (wide : s + 32 ≤ b) where
-  pub some-placed : (l : ℕ) (ls : List ℕ) (cs : List (List Pair)) → channels-within (l ∷ ls) cs ≡ true → l ≤ s → longest ls ≤ s →
+  pub some-placed : (l : ℕ) (ls : List ℕ) (cs : List Channel) → channels-within (l ∷ ls) cs ≡ true → l ≤ s → longest ls ≤ s →
       Placed b (window s l) (stack-levels b s ls cs) (lasts-of cs) 0 (zeros-of cs)
   unfolding channels-within stack-levels lasts-of zeros-of
   some-placed l [] [] e h k = alone (in-window b s wide l 0 (omega arith))
@@ -47,7 +37,7 @@ module _ (b s : ℕ) (wide : s + 32 ≤ b) where
       let n = longest-bounds u ls s k in
       under (in-window b s wide l 0 (omega arith)) (channel-fits-open b s wide c 0 0 (omega arith) (omega arith)) (some-placed u ls cs (search ands) (n .0) (n .1))
 
-  answer-from : (l : ℕ) (ls : List ℕ) (cs : List (List Pair)) (ts : List ℕ) (x : ℕ) (xs : List ℕ) → channels-within (l ∷ ls) cs ≡ true →
+  answer-from : (l : ℕ) (ls : List ℕ) (cs : List Channel) (ts : List ℕ) (x : ℕ) (xs : List ℕ) → channels-within (l ∷ ls) cs ≡ true →
       Best b (window s l) (stack-levels b s ls cs) ts x xs → Answer (stack (l ∷ ls) cs) s ts (x ∷ xs)
   unfolding legal stack in-spread
   answer-from l ls cs ts x xs e best =
@@ -73,14 +63,14 @@ module _ (b s : ℕ) (wide : s + 32 ≤ b) where
       go-places [] h = impossible h
       go-places (y ∷ zs) h = best .first-places y zs (placed ts y zs h)
 
-  answer-of : (ls : List ℕ) (cs : List (List Pair)) → channels-within ls cs ≡ true → longest ls ≤ s →
+  answer-of : (ls : List ℕ) (cs : List Channel) → channels-within ls cs ≡ true → longest ls ≤ s →
       Answer (stack ls cs) s (separations-with b (stack ls cs) s (total-with b (stack ls cs) s)) (positions-with b (stack ls cs) s (separations-with b (stack ls cs) s (total-with b (stack ls cs) s)))
   unfolding channels-within separations-with total-with positions-with positions bottom levels-of stack
   answer-of [] cs e h = impossible e
   answer-of (l ∷ ls) cs e h =
       let n = longest-bounds l ls s h in
       answer-from l ls cs _ _ _ e
-      (best b (window s l) (stack-levels b s ls cs) (stack-widening b s wide l ls cs e) (lasts-of cs) 0 (zeros-of cs) (some-placed l ls cs e (n .0) (n .1)))
+      (best b (window s l) (stack-levels b s ls cs) (stack-widening b s wide l ls cs (n .0) (n .1) e) (lasts-of cs) 0 (zeros-of cs) (some-placed l ls cs e (n .0) (n .1)))
 
   -- the answer with a bias of at least s + 32
   pub answer-with : (k : Stack) → within-limits k ≡ true → longest (k .strips) ≤ s →
@@ -88,19 +78,19 @@ module _ (b s : ℕ) (wide : s + 32 ≤ b) where
   unfolding within-limits stack
   answer-with k e h = answer-of (k .strips) (k .channels) (search ands) h
 
-  widening-of : (ls : List ℕ) (cs : List (List Pair)) → channels-within ls cs ≡ true → Widening (levels-of b (stack ls cs) s)
+  widening-of : (ls : List ℕ) (cs : List Channel) → channels-within ls cs ≡ true → longest ls ≤ s → Widening (levels-of b (stack ls cs) s)
   unfolding channels-within levels-of stack
-  widening-of [] cs e = impossible e
-  widening-of (l ∷ ls) cs e = stack-widening b s wide l ls cs e
+  widening-of [] cs e h = impossible e
+  widening-of (l ∷ ls) cs e h = let n = longest-bounds l ls s h in stack-widening b s wide l ls cs (n .0) (n .1) e
 
-  most-of : (ls : List ℕ) (cs : List (List Pair)) → channels-within ls cs ≡ true → longest ls ≤ s → total-with b (stack ls cs) s ≤ most (levels-of b (stack ls cs) s)
+  most-of : (ls : List ℕ) (cs : List Channel) → channels-within ls cs ≡ true → longest ls ≤ s → total-with b (stack ls cs) s ≤ most (levels-of b (stack ls cs) s)
   unfolding channels-within total-with bottom levels-of stack
   most-of [] cs e h = impossible e
   most-of (l ∷ ls) cs e h =
       let n = longest-bounds l ls s h in
-      least-total-at-most b (window s l) (stack-levels b s ls cs) (stack-widening b s wide l ls cs e) (lasts-of cs) 0 (zeros-of cs) (some-placed l ls cs e (n .0) (n .1))
+      least-total-at-most b (window s l) (stack-levels b s ls cs) (stack-widening b s wide l ls cs (n .0) (n .1) e) (lasts-of cs) 0 (zeros-of cs) (some-placed l ls cs e (n .0) (n .1))
 
-  exactly-of : (ls : List ℕ) (cs : List (List Pair)) → channels-within ls cs ≡ true → longest ls ≤ s →
+  exactly-of : (ls : List ℕ) (cs : List Channel) → channels-within ls cs ≡ true → longest ls ≤ s →
       Exactly b (bottom (stack ls cs) s) (levels-of b (stack ls cs) s) (total-with b (stack ls cs) s)
   unfolding channels-within total-with bottom levels-of stack
   exactly-of [] cs e h = impossible e
@@ -108,7 +98,7 @@ module _ (b s : ℕ) (wide : s + 32 ≤ b) where
       let n = longest-bounds l ls s h in
       let w = window s l in
       let up = stack-levels b s ls cs in
-      let wide-levels = stack-widening b s wide l ls cs e in
+      let wide-levels = stack-widening b s wide l ls cs (n .0) (n .1) e in
       least-total-reached b w up wide-levels (most-of (l ∷ ls) cs e h)
 
   -- the least total is one of use
@@ -116,9 +106,9 @@ module _ (b s : ℕ) (wide : s + 32 ≤ b) where
   unfolding within-limits stack
   total-most k e h = most-of (k .strips) (k .channels) (search ands) h
 
-  pub widening-with : (k : Stack) → within-limits k ≡ true → Widening (levels-of b k s)
+  pub widening-with : (k : Stack) → within-limits k ≡ true → longest (k .strips) ≤ s → Widening (levels-of b k s)
   unfolding within-limits stack
-  widening-with k e = widening-of (k .strips) (k .channels) (search ands)
+  widening-with k e h = widening-of (k .strips) (k .channels) (search ands) h
 
   -- some placement has the least total
   pub exactly-with : (k : Stack) → within-limits k ≡ true → longest (k .strips) ≤ s → Exactly b (bottom k s) (levels-of b k s) (total-with b k s)
@@ -128,10 +118,10 @@ module _ (b s : ℕ) (wide : s + 32 ≤ b) where
   -- the separations sum to the least total
   pub sum-with : (k : Stack) → within-limits k ≡ true → longest (k .strips) ≤ s → sum (separations-with b k s (total-with b k s)) ≡ total-with b k s
   unfolding separations-with
-  sum-with k e h = chosen b (bottom k s) (levels-of b k s) (total-with b k s) (widening-with k e) (exactly-with k e h) .total
+  sum-with k e h = chosen b (bottom k s) (levels-of b k s) (total-with b k s) (widening-with k e h) (exactly-with k e h) .total
 
 -- a placement's lengths
-good-length : (cs : List (List Pair)) (ts xs : List ℕ) → channels-good cs ts xs ≡ true → length ts ≡ length cs
+good-length : (cs : List Channel) (ts xs : List ℕ) → channels-good cs ts xs ≡ true → length ts ≡ length cs
 unfolding channels-good
 good-length [] [] xs g = refl
 good-length [] (t ∷ ts) xs g = impossible g

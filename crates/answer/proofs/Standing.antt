@@ -3,7 +3,7 @@ use mathlib.Core.Path.{_≡_, refl, sym, ap, ap₂, _∙_}
 use mathlib.Core.Bool.{true}
 use mathlib.Core.Logic.{_⊎_, inl, inr}
 use mathlib.Core.List.{List, [], _∷_}
-use Prim.Native.Nat.{ℕ, zero, suc, _+_, _-_, _≤_, _<_, min}
+use Prim.Native.Nat.{ℕ, zero, suc, _+_, _-_, _≤_, _<_, min, max}
 use native.Mathlib.Omega.{arith}
 use lib.ListN.{length, getD, set, drop, length-set, replicate, length-replicate, getD-replicate, drop-of-length-le}
 use lib.Seq.{getD-set-same, getD-set-other, set-set, drop-cons}
@@ -12,15 +12,15 @@ use Rattle.numbers.specs.Lists.{padded}
 use Rattle.numbers.proofs.Bools.{ands}
 use Rattle.numbers.proofs.Lists.{getD-tabulate}
 use Rattle.numbers.proofs.Orders.{lt-or-eq, eq-or-not}
-use Rattle.stack.specs.Stack.{Stack, longest}
-use Rattle.stack.specs.Limits.{channel-within, channels-within, within-limits}
-use Rattle.stack.specs.Value.{strip, no-terminals, channel-of, stack-of}
+use Rattle.stack.specs.Stack.{no-channel, channel-in, Stack, longest}
+use Rattle.stack.specs.Limits.{pairs-within, channel-within, channels-within, within-limits}
+use Rattle.stack.specs.Value.{strip, no-terminals, floor-at, channel-at, stack-of}
 use Rattle.stack.specs.declared.Stack.{Stack as Stack-struct}
 use Rattle.stack.specs.Sizes.{channels-held, strips-held, separations-held, totals-held}
-use Rattle.stack.proofs.Values.{channel-length}
-use Rattle.stack.proofs.Within.{strips-length, channel-in-limits, few-channels, few-pairs, stack-channels, stack-channel, stack-strip}
-use Rattle.channel.specs.Limits.{low-limit, high-limit, Limits-of}
-use Rattle.channel.proofs.Between.{high-bounded}
+use Rattle.stack.proofs.Values.{channel-length, stack-channel}
+use Rattle.stack.proofs.Within.{strips-length, channel-in-limits, few-channels, few-pairs, small-floor, stack-channels, stack-strip}
+use Rattle.channel.specs.Limits.{low-floored, high-floored, Limits-of}
+use Rattle.channel.proofs.Floors.{high-floored-bounded}
 use Rattle.channel.specs.declared.Limits.{Limits}
 use Rattle.spans.specs.Solver.{level, most, least-total}
 use Rattle.plan.specs.Plan.{Lasts-ask, Planned}
@@ -33,9 +33,9 @@ use Rattle.arrays.specs.Arrays.{bias, entry, sides, lasts-in, sums-in, Given, g
 use Rattle.separations.specs.Separations.{Separate-asks}
 use Rattle.solver.specs.Placing.{separations-of, Place-asks, Placement-is}
 use Rattle.answer.specs.Solve.{last-use, window, channel-limits, stack-levels, bottom, levels-of, total-with, separations-with, positions-with, answer-separations}
-use Rattle.answer.specs.Arrays.{channel-in, strip-in, Limits-in, Held, Windows-in, Answer-is}
-use Rattle.answer.proofs.Legal.{low-bounded}
-use Rattle.answer.proofs.Answers.{longest-bounds, total-most, widening-with, exactly-with, answer-with, answer-alone, answer-there, total-any-bias}
+use Rattle.answer.specs.Arrays.{strip-in, Limits-in, Held, Windows-in, Answer-is}
+use Rattle.answer.proofs.Legal.{longest-bounds, low-bounded}
+use Rattle.answer.proofs.Answers.{total-most, widening-with, exactly-with, answer-with, answer-alone, answer-there, total-any-bias}
 
 -- the arrays as they are at first
 abbrev no-limits : List ℕ
@@ -74,7 +74,7 @@ sides-set limits n x y h two =
     rw (getD-set-same limits n (set (sides limits n) 0 x) [] h, pair-set (sides limits n) x y two) (set-set limits n (set (sides limits n) 0 x) (x ∷ y ∷ []))
 
 pub limits-step : (k : Stack-struct) (n last : ℕ) (limits : List (List (List ℕ))) (lasts : List ℕ) (r : Limits) → n < k .count → k .count ≤ channels-held →
-    Limits-in (stack-of k) n limits lasts → Limits-of (channel-of (getD (k .channels) n no-terminals)) r → last ≡ last-use (getD (k .channels) n no-terminals .count) →
+    Limits-in (stack-of k) n limits lasts → Limits-of (channel-at k n) r → last ≡ max (getD (k .channels) n no-terminals .count) (floor-at k n) →
     Limits-in (stack-of k) (n + 1) (side-set (side-set limits n 0 (r .low)) n 1 (r .high)) (set lasts n last)
 limits-step k n last limits lasts r h few s l e =
     rw (sides-set limits n (r .low) (r .high) (omega (arith, s .sized-limits)) (s .two n (omega arith)))
@@ -83,10 +83,10 @@ limits-step k n last limits lasts r h few s l e =
       two = λ i m. both i m (eq-or-not i n);
       sized-lasts = length-set lasts n _ ∙ s .sized-lasts;
       limits-are = λ i m. next-place limits n i _ [] _ (omega (arith, s .sized-limits)) (s .limits-are) (rw (here, ← l .low, ← l .high)) m;
-      lasts-are = λ i m. next-place lasts n i _ 0 _ (omega (arith, s .sized-lasts)) (s .lasts-are) (e ∙ ap last-use (sym (channel-length (getD (k .channels) n no-terminals)) ∙ ap length (sym here))) m;
+      lasts-are = λ i m. next-place lasts n i _ 0 _ (omega (arith, s .sized-lasts)) (s .lasts-are) (rw (here, channel-length (getD (k .channels) n no-terminals)) e) m;
     })
   where
-    here : channel-in (stack-of k) n ≡ channel-of (getD (k .channels) n no-terminals)
+    here : channel-in (stack-of k) n ≡ channel-at k n
     here = stack-channel k n h
 
     both : (i : ℕ) → i < channels-held → (i ≡ n) ⊎ (i ≡ n → ⊥) → length (sides (set limits n (r .low ∷ r .high ∷ [])) i) ≡ 2
@@ -131,15 +131,17 @@ module _ (k : Stack) (s : ℕ) (g : Given) (st : Stands k s g) where
   channel-good : (i : ℕ) → i < m → channel-within (strip-in k i) (strip-in k (suc i)) (channel-in k i) ≡ true
   channel-good i h = channel-in-limits (k .strips) (k .channels) i within h
 
-  last-small : (i : ℕ) → i < m → last-use (length (channel-in k i)) < separations-held
-  unfolding channel-within
-  last-small i h = let e = channel-good i h in omega (arith, leb-true (length (channel-in k i)) 32 (search ands))
+  last-small : (i : ℕ) → i < m → last-use (channel-in k i) < separations-held
+  unfolding channel-within pairs-within
+  last-small i h =
+      let e = channel-good i h in
+      omega (arith, leb-true (length (channel-in k i .pairs)) 32 (search ands), leb-true (channel-in k i .floor) 64 (search ands))
 
-  low-is : (i q : ℕ) → i < m → q ≤ last-use (length (channel-in k i)) → low-of g i q ≡ low-limit bias (channel-in k i) q
-  low-is i q h l = rw (st .limits .limits-are i h) (getD-tabulate separations-held q (λ t. low-limit bias (channel-in k i) t) 0 (omega (arith, last-small i h)))
+  low-is : (i q : ℕ) → i < m → q ≤ last-use (channel-in k i) → low-of g i q ≡ low-floored bias (channel-in k i) q
+  low-is i q h l = rw (st .limits .limits-are i h) (getD-tabulate separations-held q (λ t. low-floored bias (channel-in k i) t) 0 (omega (arith, last-small i h)))
 
-  high-is : (i q : ℕ) → i < m → q ≤ last-use (length (channel-in k i)) → high-of g i q ≡ high-limit bias (channel-in k i) q
-  high-is i q h l = rw (st .limits .limits-are i h) (getD-tabulate separations-held q (λ t. high-limit bias (channel-in k i) t) 0 (omega (arith, last-small i h)))
+  high-is : (i q : ℕ) → i < m → q ≤ last-use (channel-in k i) → high-of g i q ≡ high-floored bias (channel-in k i) q
+  high-is i q h l = rw (st .limits .limits-are i h) (getD-tabulate separations-held q (λ t. high-floored bias (channel-in k i) t) 0 (omega (arith, last-small i h)))
 
   window-is : (i : ℕ) → i < suc m → window-of g i ≡ window s (strip-in k i)
   window-is i h = rw (st .windows .windows-are i h)
@@ -148,7 +150,7 @@ module _ (k : Stack) (s : ℕ) (g : Given) (st : Stands k s g) where
   unfolding channel-limits
   level-is i h =
       rw (st .limits .lasts-are i h)
-      (ap₂ level (limits-same _ _ _ _ 0 (suc (last-use (length (channel-in k i)))) (λ j l n. (low-is i j h (omega arith), high-is i j h (omega arith)))) (window-is (suc i) (omega arith)))
+      (ap₂ level (limits-same _ _ _ _ 0 (suc (last-use (channel-in k i))) (λ j l n. (low-is i j h (omega arith), high-is i j h (omega arith)))) (window-is (suc i) (omega arith)))
 
   levels-from : (i n : ℕ) → i + n ≡ m → levels g i n ≡ stack-levels bias s (drop (suc i) (k .strips)) (drop i (k .channels))
   unfolding levels stack-levels
@@ -157,7 +159,7 @@ module _ (k : Stack) (s : ℕ) (g : Given) (st : Stands k s g) where
       rw none
   levels-from i (suc n) e =
       let long = strips-length (k .strips) (k .channels) within in
-      rw (drop-cons (k .strips) (suc i) 0 (omega arith), drop-cons (k .channels) i [] (omega arith))
+      rw (drop-cons (k .strips) (suc i) 0 (omega arith), drop-cons (k .channels) i no-channel (omega arith))
       (ap₂ _∷_ (level-is i (omega arith)) (levels-from (suc i) n (omega arith)))
 
   -- the solver's stack is the stack's
@@ -179,7 +181,7 @@ module _ (k : Stack) (s : ℕ) (g : Given) (st : Stands k s g) (fits : s < 42949
   abbrev n : ℕ
   n = length (k .channels)
 
-  last-right : (i : ℕ) → i < n → last-of g i ≡ last-use (length (channel-in k i))
+  last-right : (i : ℕ) → i < n → last-of g i ≡ last-use (channel-in k i)
   last-right i h = st .limits .lasts-are i h
 
   -- windows lie within the spread
@@ -200,7 +202,7 @@ module _ (k : Stack) (s : ℕ) (g : Given) (st : Stands k s g) (fits : s < 42949
         ends = λ i h. omega (arith, window-small i h);
         lows = λ i q h l.
             omega (arith, low-is k s g st i q h (omega (arith, last-right i h)), low-bounded bias s (strip-in k i) (strip-in k (suc i)) q (channel-in k i) (omega arith) (omega (arith, longest-most (k .strips) i)) (channel-good k s g st i h));
-        highs = λ i q h l. omega (arith, high-is k s g st i q h (omega (arith, last-right i h)), high-bounded bias (channel-in k i) q);
+        highs = λ i q h l. omega (arith, high-is k s g st i q h (omega (arith, last-right i h)), high-floored-bounded bias (channel-in k i) q);
       }
 
   -- the scan finds the least total
@@ -213,7 +215,7 @@ module _ (k : Stack) (s : ℕ) (g : Given) (st : Stands k s g) (fits : s < 42949
       record {
         stack = asks;
         narrow = λ i j. omega (arith, window-small i j);
-        widening = rw (levels-are k s g st) (widening-with bias s (omega arith) k (st .good));
+        widening = rw (levels-are k s g st) (widening-with bias s (omega arith) k (st .good) wide);
         fits = h;
         exactly = rw (e, bottom-is k s g st, levels-are k s g st) (exactly-with bias s (omega arith) k (st .good) wide);
       }
@@ -247,7 +249,10 @@ module _ (k : Stack-struct) (limits : List (List (List ℕ))) (lasts : List ℕ)
   filled-lasts =
       record {
         channels = few-channels k e;
-        listed = λ i h. omega (arith, l .lasts-are i h, ap length (stack-channel k i h), channel-length (getD (k .channels) i no-terminals), few-pairs k e i h);
+        listed = λ i h. 
+            let last : entry lasts i ≡ max (getD (k .channels) i no-terminals .count) (floor-at k i) =
+            rw (stack-channel k i h, channel-length (getD (k .channels) i no-terminals)) at (l .lasts-are i h) in
+            omega (arith, few-pairs k e i h, small-floor k e i h);
       }
 
   pub held-made : (plan : List (List ℕ)) → Planned limits lasts (k .count) plan → Held k limits plan

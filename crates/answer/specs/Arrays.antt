@@ -6,25 +6,22 @@ use Prim.Native.Nat.{ℕ, _<_}
 use lib.ListN.{length, getD}
 use Rattle.stack.specs.Value.{tracks-of, columns-of, stack-of}
 use Rattle.numbers.specs.Lists.{tabulate, padded}
-use Rattle.stack.specs.Stack.{Pair, Stack}
+use Rattle.stack.specs.Stack.{Channel, channel-in, Stack}
 use Rattle.stack.specs.Limits.{within-limits}
 use Rattle.stack.specs.declared.Stack.{Stack as Stack-struct}
 use Rattle.stack.specs.Sizes.{channels-held, strips-held, separations-held}
 use Rattle.spans.specs.Spans.{Span}
-use Rattle.channel.specs.Limits.{low-limit, high-limit}
+use Rattle.channel.specs.Limits.{low-floored, high-floored}
 use Rattle.arrays.specs.Arrays.{bias, entry, row, sides, lasts-in, Plan-is}
 use Rattle.solver.specs.declared.Placement.{Placement}
 use Rattle.answer.specs.Solve.{last-use, window, answer-total, answer-separations, answer-positions}
-
-abbrev pub channel-in : Stack → (i : ℕ) → List Pair
-channel-in k i = getD (k .channels) i []
 
 abbrev pub strip-in : Stack → (i : ℕ) → ℕ
 strip-in k i = getD (k .strips) i 0
 
 -- a channel's limits, in a row of lows and a row of highs
-abbrev pub limit-rows : List Pair → List (List ℕ)
-limit-rows c = tabulate separations-held 0 (λ t. low-limit bias c t) ∷ tabulate separations-held 0 (λ t. high-limit bias c t) ∷ []
+abbrev pub limit-rows : Channel → List (List ℕ)
+limit-rows c = tabulate separations-held 0 (λ t. low-floored bias c t) ∷ tabulate separations-held 0 (λ t. high-floored bias c t) ∷ []
 
 -- the first n channels' limits and last separations of use
 pub record Limits-in (k : Stack) (n : ℕ) (limits : List (List (List ℕ))) (lasts : List ℕ) : Type 0 where
@@ -32,7 +29,7 @@ pub record Limits-in (k : Stack) (n : ℕ) (limits : List (List (List ℕ))) (la
   pub two : (i : ℕ) → i < channels-held → length (sides limits i) ≡ 2
   pub sized-lasts : length lasts ≡ strips-held
   pub limits-are : (i : ℕ) → i < n → sides limits i ≡ limit-rows (channel-in k i)
-  pub lasts-are : (i : ℕ) → i < n → entry lasts i ≡ last-use (length (channel-in k i))
+  pub lasts-are : (i : ℕ) → i < n → entry lasts i ≡ last-use (channel-in k i)
 
 -- the limits and the plan of a stack, which serve for every spread
 pub record Held (k : Stack-struct) (limits : List (List (List ℕ))) (plan : List (List ℕ)) : Type 0 where

@@ -1,10 +1,10 @@
 -- The answer for a stack and a spread as executable definitions: the stack's windows and limits handed to the solver. Assumes nothing: these are definitions.
 -- They are proved to be Stack.antt's Answer; nobody has to believe them.
 use mathlib.Core.List.{List, [], _∷_}
-use Prim.Native.Nat.{ℕ, suc, _+_, _-_}
+use Prim.Native.Nat.{ℕ, suc, _+_, _-_, max}
 use lib.ListN.{length, getD, drop}
-use Rattle.stack.specs.Stack.{Pair, Stack}
-use Rattle.channel.specs.Limits.{low-limit, high-limit}
+use Rattle.stack.specs.Stack.{Channel, Stack}
+use Rattle.channel.specs.Limits.{low-floored, high-floored}
 use Rattle.spans.specs.Spans.{Span, span, Limit}
 use Rattle.spans.specs.Solver.{Level, level, least-total, separations, positions}
 use Rattle.arrays.specs.Arrays.{limits-from}
@@ -13,16 +13,16 @@ use Rattle.arrays.specs.Arrays.{limits-from}
 unfoldable pub window : (s length : ℕ) → Span
 window s l = span 0 (suc s - l)
 
--- the last separation of use in a channel, from its count of pairs
-abbrev pub last-use : (pairs : ℕ) → ℕ
-last-use m = m
+-- the last separation of use in a channel, its count of pairs or its floor: there the limits leave every offset open
+abbrev pub last-use : Channel → ℕ
+last-use c = max (length (c .pairs)) (c .floor)
 
 -- a channel's limits for the separations up to the last of use
-unfoldable pub channel-limits : (b : ℕ) → List Pair → List Limit
-channel-limits b c = limits-from (low-limit b c) (high-limit b c) 0 (suc (last-use (length c)))
+unfoldable pub channel-limits : (b : ℕ) → Channel → List Limit
+channel-limits b c = limits-from (low-floored b c) (high-floored b c) 0 (suc (last-use c))
 
 -- each channel with the strip on top of it
-unfoldable pub stack-levels : (b s : ℕ) → (upper-strips : List ℕ) → List (List Pair) → List Level
+unfoldable pub stack-levels : (b s : ℕ) → (upper-strips : List ℕ) → List Channel → List Level
 stack-levels b s [] cs = []
 stack-levels b s (l ∷ ls) [] = []
 stack-levels b s (l ∷ ls) (c ∷ cs) = level (channel-limits b c) (window s l) ∷ stack-levels b s ls cs

@@ -1,11 +1,10 @@
 // The answer for a stack and a spread.
 ghost use mathlib.Core.Path.{_≡_};
 ghost use mathlib.Core.Bool.{true};
-ghost use Prim.Native.Nat.{suc, _≤_};
+ghost use Prim.Native.Nat.{suc, _≤_, max};
 ghost use Rattle.stack.specs.Limits.{within-limits};
 ghost use Rattle.stack.specs.Value.{stack-of};
 ghost use Rattle.stack.specs.Stack.{longest};
-ghost use Rattle.answer.specs.Solve.{last-use};
 ghost use Rattle.answer.specs.Arrays.{Limits-in, Windows-in, Answer-is};
 use arrays::ABOVE;
 use arrays::HIGH;
@@ -20,12 +19,14 @@ use solver::Placement;
 use solver::place_in;
 use stack::Columns;
 use stack::Stack;
+use stack::Tracks;
 
-// The last separation of use in a channel with so many pairs: there the limits leave every offset open.
-fn last_use(pairs: usize) -> usize
-    ensures { λ r. ⌜ r ≡ last-use pairs ⌝ }
+// The last separation of use in a channel with so many pairs and this floor: there the limits leave every offset open.
+fn last_use(pairs: usize, floor: Tracks) -> usize
+    ensures { λ r. ⌜ r ≡ max pairs (floor .0) ⌝ }
 {
-    pairs
+    let least = floor.0 as usize;
+    if pairs < least { least } else { pairs }
 }
 
 // The limits and the last separations of use of a stack's channels, in the solver's arrays.
@@ -37,12 +38,13 @@ pub fn fill_limits(stack: Stack, limits: &mut StackLimits, lasts: &mut [usize; S
     let channels = stack.count;
     for i in 0..channels {
         let terminals = stack.channels[i];
-        let found = channel_limits(terminals);
+        let floor = stack.floors[i];
+        let found = channel_limits(terminals, floor);
         let lows = found.low;
         let highs = found.high;
         limits[i][LOW] = lows;
         limits[i][HIGH] = highs;
-        lasts[i] = last_use(terminals.count);
+        lasts[i] = last_use(terminals.count, floor);
     }
 }
 

@@ -12,10 +12,10 @@ use lib.ListN.{getD}
 use borrow.Author.Tests.{leb-true, eqb-true, eqb-false, not-true, le-leb}
 use Rattle.numbers.proofs.Bools.{and-left, and-right, and-both}
 use Rattle.numbers.proofs.Orders.{le-or-lt, lt-or-eq}
-use Rattle.stack.specs.Stack.{Stack, stack, pair, p-at, q-at, left-good, right-good, every, in-spread, channels-good, feasible, legal, sum}
+use Rattle.stack.specs.Stack.{Stack, stack, pair, channel, p-at, q-at, left-good, right-good, every, in-spread, channels-good, wirable, feasible, legal, sum}
 
 abbrev pub card : Stack
-card = stack (2 ∷ 1 ∷ 2 ∷ []) ((pair 0 1 ∷ []) ∷ (pair 0 2 ∷ []) ∷ [])
+card = stack (2 ∷ 1 ∷ 2 ∷ []) (channel (pair 0 1 ∷ []) 0 ∷ channel (pair 0 2 ∷ []) 0 ∷ [])
 
 abbrev placed : (t u x y z : ℕ) → Bool
 placed t u x y z = legal card 3 (t ∷ u ∷ []) (x ∷ y ∷ z ∷ [])
@@ -45,7 +45,7 @@ good : (t u x y z : ℕ) → Bool
 good t u x y z = not (placed t u x y z && leb (t + u) 1) || (eqb (t + u) 1 && not (eqb y 1))
 
 all-good : tested good ≡ true
-unfolding tested good every legal in-spread channels-good feasible left-good right-good p-at q-at stack pair
+unfolding tested good every legal in-spread channels-good feasible wirable left-good right-good p-at q-at stack pair
 all-good = refl
 
 -- a legal placement has three positions, none above 3, and two separations
@@ -89,9 +89,9 @@ record Two (us : List ℕ) : Type 0 where
 two : (us : List ℕ) (x y z : ℕ) → channels-good (card .channels) us (x ∷ y ∷ z ∷ []) ≡ true → Two us
 unfolding channels-good stack
 two [] x y z e = wrong e
-two (t ∷ []) x y z e = wrong (and-right (feasible (pair 0 1 ∷ []) t x y) _ e)
+two (t ∷ []) x y z e = wrong (and-right (feasible (channel (pair 0 1 ∷ []) 0) t x y) _ e)
 two (t ∷ u ∷ []) x y z e = record { t = t; u = u; are = refl }
-two (t ∷ u ∷ v ∷ us) x y z e = wrong (and-right (feasible (pair 0 2 ∷ []) u y z) _ (and-right (feasible (pair 0 1 ∷ []) t x y) _ e))
+two (t ∷ u ∷ v ∷ us) x y z e = wrong (and-right (feasible (channel (pair 0 2 ∷ []) 0) u y z) _ (and-right (feasible (channel (pair 0 1 ∷ []) 0) t x y) _ e))
 
 implies : (a b : Bool) → (not a || b) ≡ true → a ≡ true → b ≡ true
 implies true b h e = h
@@ -131,7 +131,7 @@ pub record Two-spans : Type 0 where
   pub gap : (us ys : List ℕ) → legal card 3 us ys ≡ true → sum us ≡ 1 → getD ys 1 0 ≡ 1 → ⊥
 
 pub middle-strip-in-two-spans : Two-spans
-unfolding every legal in-spread channels-good feasible left-good right-good p-at q-at stack pair
+unfolding every legal in-spread channels-good feasible wirable left-good right-good p-at q-at stack pair
 middle-strip-in-two-spans =
     record {
       left = refl;
