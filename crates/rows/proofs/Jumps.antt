@@ -10,7 +10,7 @@ use native.Mathlib.Omega.{arith}
 use borrow.Author.Tests.{lt-ltb, le-ltb}
 use Rattle.numbers.proofs.Bools.{ands, impossible}
 use Rattle.numbers.proofs.Orders.{le-or-lt}
-use Rattle.stack.specs.Stack.{Pair, Stack, stack, sum, longest, in-spread, legal}
+use Rattle.stack.specs.Stack.{Channel, Stack, stack, sum, longest, in-spread, legal}
 use Rattle.stack.specs.Limits.{channels-within, within-limits}
 use Rattle.spans.specs.Spans.{Span, span, In, nonempty}
 use Rattle.spans.specs.Solver.{Level, most, back, first, first-total, least-total}
@@ -21,8 +21,8 @@ use Rattle.spans.proofs.Total.{least-total-at-most}
 use Rattle.spans.proofs.Back.{back-complete}
 use Rattle.spans.proofs.Jump.{back-grows}
 use Rattle.answer.specs.Solve.{window, stack-levels, bottom, levels-of, total-with, answer-total, answer-separations, answer-positions}
-use Rattle.answer.proofs.Legal.{channel-low, low-bounded, legal-placed, stack-widening}
-use Rattle.answer.proofs.Answers.{longest-bounds, lasts-of, zeros-of, some-placed, answer-there, answer-sum, total-any-bias}
+use Rattle.answer.proofs.Legal.{longest-bounds, channel-low, low-bounded, legal-placed, stack-widening}
+use Rattle.answer.proofs.Answers.{lasts-of, zeros-of, some-placed, answer-there, answer-sum, total-any-bias}
 use Rattle.rows.specs.Walk.{rows-walk}
 use Rattle.rows.proofs.Settled.{legal-wider}
 
@@ -31,7 +31,7 @@ window-wider : (s d l : ℕ) → l ≤ s → window (s + d) l ≡ widened d (win
 unfolding window
 window-wider s d l h = ap (span 0) (omega arith)
 
-levels-wider : (b s d : ℕ) (ls : List ℕ) (cs : List (List Pair)) → longest ls ≤ s → stack-levels b (s + d) ls cs ≡ widened-levels d (stack-levels b s ls cs)
+levels-wider : (b s d : ℕ) (ls : List ℕ) (cs : List Channel) → longest ls ≤ s → stack-levels b (s + d) ls cs ≡ widened-levels d (stack-levels b s ls cs)
 unfolding stack-levels widened-levels
 levels-wider b s d [] cs h = refl
 levels-wider b s d (l ∷ ls) [] h = refl
@@ -39,7 +39,7 @@ levels-wider b s d (l ∷ ls) (c ∷ cs) h =
     let n = longest-bounds l ls s h in
     rw (window-wider s d l (n .0), levels-wider b s d ls cs (n .1))
 
-roomy : (b s d l : ℕ) (ls : List ℕ) (cs : List (List Pair)) → s + d + 32 ≤ b → l ≤ s → longest ls ≤ s → channels-within (l ∷ ls) cs ≡ true →
+roomy : (b s d l : ℕ) (ls : List ℕ) (cs : List Channel) → s + d + 32 ≤ b → l ≤ s → longest ls ≤ s → channels-within (l ∷ ls) cs ≡ true →
     Roomy b b d (window s l) (stack-levels b s ls cs)
 unfolding Roomy stack-levels channels-within window
 roomy b s d l [] [] w h n e = omega arith
@@ -57,7 +57,7 @@ filled-before d s t x g i = go (le-or-lt (s .upto) (s .from))
     go (inl h) = absurd (omega (arith, g .empty h, i .above, i .below))
     go (inr h) = lt-ltb (s .from) (s .upto) h
 
-module _ (b s d l : ℕ) (ls : List ℕ) (cs : List (List Pair)) (wide : s + d + 32 ≤ b) (h : l ≤ s) (n : longest ls ≤ s) (e : channels-within (l ∷ ls) cs ≡ true) where
+module _ (b s d l : ℕ) (ls : List ℕ) (cs : List Channel) (wide : s + d + 32 ≤ b) (h : l ≤ s) (n : longest ls ≤ s) (e : channels-within (l ∷ ls) cs ≡ true) where
   abbrev w : Span
   w = window s l
 
@@ -69,7 +69,7 @@ module _ (b s d l : ℕ) (ls : List ℕ) (cs : List (List Pair)) (wide : s + d +
       nonempty (back b w up u) ≡ true
   possible-before v u y us zs clear i j p t =
       let there : In (back b (window (s + d) l) (stack-levels b (s + d) ls cs) u) y =
-      back-complete b (stack-levels b (s + d) ls cs) (stack-widening b (s + d) wide l ls cs e) (window (s + d) l) u us y zs p (omega arith) in
+      back-complete b (stack-levels b (s + d) ls cs) (stack-widening b (s + d) wide l ls cs (omega arith) (omega arith) e) (window (s + d) l) u us y zs p (omega arith) in
       filled-before d (back b w up u) (back b (widened d w) (widened-levels d up) u) y
       (back-grows b b d v w up (roomy b s d l ls cs wide h n e) clear u i j)
       (rw (window-wider s d l h, levels-wider b s d ls cs n) at there)
@@ -94,12 +94,12 @@ module _ (b s d l : ℕ) (ls : List ℕ) (cs : List (List Pair)) (wide : s + d +
   no-fall-legal v us (y ∷ zs) clear i j g = no-fall v y us zs clear i j (legal-placed b (s + d) wide l ls cs us y zs e (search ands) (search ands))
 
 -- the least total is one of use
-most-total : (b s l : ℕ) (ls : List ℕ) (cs : List (List Pair)) → s + 32 ≤ b → l ≤ s → longest ls ≤ s → channels-within (l ∷ ls) cs ≡ true →
+most-total : (b s l : ℕ) (ls : List ℕ) (cs : List Channel) → s + 32 ≤ b → l ≤ s → longest ls ≤ s → channels-within (l ∷ ls) cs ≡ true →
     least-total b (window s l) (stack-levels b s ls cs) ≤ most (stack-levels b s ls cs)
 most-total b s l ls cs wide h n e =
-    least-total-at-most b (window s l) (stack-levels b s ls cs) (stack-widening b s wide l ls cs e) (lasts-of cs) 0 (zeros-of cs) (some-placed b s wide l ls cs e h n)
+    least-total-at-most b (window s l) (stack-levels b s ls cs) (stack-widening b s wide l ls cs h n e) (lasts-of cs) 0 (zeros-of cs) (some-placed b s wide l ls cs e h n)
 
-no-fall-strips : (b s d v : ℕ) (ls : List ℕ) (cs : List (List Pair)) (us ys : List ℕ) → s + d + 32 ≤ b → longest ls ≤ s → channels-within ls cs ≡ true →
+no-fall-strips : (b s d v : ℕ) (ls : List ℕ) (cs : List Channel) (us ys : List ℕ) → s + d + 32 ≤ b → longest ls ≤ s → channels-within ls cs ≡ true →
     None-within b b d v (bottom (stack ls cs) s) (levels-of b (stack ls cs) s) → total-with b (stack ls cs) s ≤ suc v → legal (stack ls cs) (s + d) us ys ≡ true →
     total-with b (stack ls cs) s ≤ sum us
 unfolding channels-within total-with bottom levels-of stack

@@ -12,39 +12,51 @@ use lib.ListN.{length}
 use borrow.Author.Tests.{leb-true, le-leb}
 use Rattle.numbers.proofs.Bools.{ands, and-right, and-both, or-left, impossible}
 use Rattle.numbers.proofs.Orders.{le-or-lt}
-use Rattle.stack.specs.Stack.{Pair, Stack, stack, feasible, in-spread, channels-good, legal, sum, longest}
-use Rattle.stack.specs.Limits.{channel-within, channels-within, strips-within, within-limits}
-use Rattle.stack.proofs.Feasible.{By-pairs, by-pairs-feasible, feasible-by-pairs}
+use Rattle.stack.specs.Stack.{Channel, Stack, stack, wirable, feasible, in-spread, channels-good, legal, sum, longest}
+use Rattle.stack.specs.Limits.{pairs-within, channel-within, channels-within, strips-within, within-limits}
+use Rattle.stack.proofs.Feasible.{By-pairs, by-pairs-wirable, wirable-by-pairs}
 use Rattle.stack.proofs.OnStrips.{terminals-on}
 use Rattle.stack.proofs.Within.{strips-count, channels-few}
 use Rattle.rows.specs.Walk.{widest}
 
--- feasibility goes by the offset alone
-feasible-moved : (c : List Pair) (t x y x′ y′ : ℕ) → y + x′ ≡ y′ + x → feasible c t x y ≡ true → feasible c t x′ y′ ≡ true
-feasible-moved c t x y x′ y′ e f =
-    let g : By-pairs c t x y = feasible-by-pairs c t x y f in
-    by-pairs-feasible c t x′ y′
-    (record { left = λ j i h l. omega (arith, g .left j i h l); right = λ j i h l. omega (arith, g .right j i h l) })
+-- feasible, by its two tests
+module _ (c : Channel) (t x y : ℕ) where
+  pub feasible-says : feasible c t x y ≡ true → (c .floor ≤ t) × (wirable (c .pairs) t x y ≡ true)
+  unfolding feasible
+  feasible-says e = (leb-true (c .floor) t (search ands), search ands)
 
-pub feasible-open : (c : List Pair) (t x y : ℕ) → length c ≤ t → feasible c t x y ≡ true
-unfolding feasible
-feasible-open c t x y h = or-left _ _ (le-leb (length c) t h)
+  says-feasible : c .floor ≤ t → wirable (c .pairs) t x y ≡ true → feasible c t x y ≡ true
+  unfolding feasible
+  says-feasible h e = rw (le-leb (c .floor) t h) e
+
+  pub feasible-open : c .floor ≤ t → length (c .pairs) ≤ t → feasible c t x y ≡ true
+  unfolding wirable
+  feasible-open h k = says-feasible h (or-left _ _ (le-leb (length (c .pairs)) t k))
+
+-- feasibility goes by the offset alone
+feasible-moved : (c : Channel) (t x y x′ y′ : ℕ) → y + x′ ≡ y′ + x → feasible c t x y ≡ true → feasible c t x′ y′ ≡ true
+feasible-moved c t x y x′ y′ e f =
+    let both = feasible-says c t x y f in
+    let g : By-pairs (c .pairs) t x y = wirable-by-pairs (c .pairs) t x y (both .1) in
+    says-feasible c t x′ y′ (both .0)
+    (by-pairs-wirable (c .pairs) t x′ y′
+    (record { left = λ j i h l. omega (arith, g .left j i h l); right = λ j i h l. omega (arith, g .right j i h l) }))
 
 -- with more pairs than tracks the strips touch
 record Touch (l u x y : ℕ) : Type 0 where
   pub right : y ≤ x + l
   pub left : x ≤ y + u
 
-touch : (l u t x y : ℕ) (c : List Pair) → channel-within l u c ≡ true → t < length c → feasible c t x y ≡ true → Touch l u x y
-unfolding channel-within
+touch : (l u t x y : ℕ) (c : Channel) → channel-within l u c ≡ true → t < length (c .pairs) → feasible c t x y ≡ true → Touch l u x y
+unfolding channel-within pairs-within
 touch l u t x y c e h f =
-    let g : By-pairs c t x y = feasible-by-pairs c t x y f in
+    let g : By-pairs (c .pairs) t x y = wirable-by-pairs (c .pairs) t x y (feasible-says c t x y f .1) in
     let z : 0 + t ≡ t = omega arith in
-    let on = terminals-on l u c (search ands) t h in
+    let on = terminals-on l u (c .pairs) (search ands) t h in
     omega (arith, g .left 0 t z h, g .right 0 t z h)
 
 -- these separations can be had with the bottom strip at any x that leaves this many columns on its left, and this many from it on
-record Compact (l : ℕ) (ls : List ℕ) (cs : List (List Pair)) (ts : List ℕ) : Type 0 where
+record Compact (l : ℕ) (ls : List ℕ) (cs : List Channel) (ts : List ℕ) : Type 0 where
   pub before : ℕ
   pub onward : ℕ
   pub longer : l ≤ onward
@@ -60,7 +72,7 @@ module _ (l u before onward total d : ℕ) (longer : u ≤ onward) (fits : befor
   left-fits h = omega arith
 
 -- one strip more under a compact stack, at this offset
-module _ (l u : ℕ) (ls : List ℕ) (c : List Pair) (cs : List (List Pair)) (t : ℕ) (ts : List ℕ) (k : Compact u ls cs ts) where
+module _ (l u : ℕ) (ls : List ℕ) (c : Channel) (cs : List Channel) (t : ℕ) (ts : List ℕ) (k : Compact u ls cs ts) where
   joined : (x s y : ℕ) (ys : List ℕ) → x + l ≤ s → feasible c t x y ≡ true → (in-spread s (u ∷ ls) (y ∷ ys) && channels-good cs ts (y ∷ ys)) ≡ true →
       (in-spread s (l ∷ u ∷ ls) (x ∷ y ∷ ys) && channels-good (c ∷ cs) (t ∷ ts) (x ∷ y ∷ ys)) ≡ true
   unfolding in-spread channels-good
@@ -92,7 +104,7 @@ module _ (l u : ℕ) (ls : List ℕ) (c : List Pair) (cs : List (List Pair)) (t 
             ((z - (x - y)) ∷ p .0, joined z s (z - (x - y)) (p .0) (omega arith) (feasible-moved c t x y z (z - (x - y)) (omega arith) f) (p .1));
       }
 
-compact : (l : ℕ) (ls : List ℕ) (cs : List (List Pair)) (ts : List ℕ) (s x : ℕ) (xs : List ℕ) → channels-within (l ∷ ls) cs ≡ true →
+compact : (l : ℕ) (ls : List ℕ) (cs : List Channel) (ts : List ℕ) (s x : ℕ) (xs : List ℕ) → channels-within (l ∷ ls) cs ≡ true →
     in-spread s (l ∷ ls) (x ∷ xs) ≡ true → channels-good cs ts (x ∷ xs) ≡ true → Compact l ls cs ts
 unfolding channels-within in-spread channels-good sum
 compact l [] [] [] s x [] e i g =
@@ -104,13 +116,13 @@ compact l (u ∷ ls) [] ts s x xs e i g = impossible e
 compact l (u ∷ ls) (c ∷ cs) [] s x xs e i g = impossible g
 compact l (u ∷ ls) (c ∷ cs) (t ∷ ts) s x [] e i g = impossible (and-right (leb (x + l) s) false i)
 compact l (u ∷ ls) (c ∷ cs) (t ∷ ts) s x (y ∷ xs) e i g =
-    go (compact u ls cs ts s y xs (search ands) (search ands) (search ands)) (le-or-lt (length c) t) (le-or-lt x y)
+    go (compact u ls cs ts s y xs (search ands) (search ands) (search ands)) (le-or-lt (length (c .pairs)) t) (le-or-lt x y)
   where
     f : feasible c t x y ≡ true
     f = search ands
 
-    go : Compact u ls cs ts → (length c ≤ t) ⊎ (t < length c) → (x ≤ y) ⊎ (y < x) → Compact l (u ∷ ls) (c ∷ cs) (t ∷ ts)
-    go k (inl h) o = to-the-right l u ls c cs t ts k 0 0 (omega arith) (omega arith) (feasible-open c t 0 0 h)
+    go : Compact u ls cs ts → (length (c .pairs) ≤ t) ⊎ (t < length (c .pairs)) → (x ≤ y) ⊎ (y < x) → Compact l (u ∷ ls) (c ∷ cs) (t ∷ ts)
+    go k (inl h) o = to-the-right l u ls c cs t ts k 0 0 (omega arith) (omega arith) (feasible-open c t 0 0 (feasible-says c t x y f .0) h)
     go k (inr h) (inl o) = let m : Touch l u x y = touch l u t x y c (search ands) h f in to-the-right l u ls c cs t ts k x y o (m .right) f
     go k (inr h) (inr o) = let m : Touch l u x y = touch l u t x y c (search ands) h f in to-the-left l u ls c cs t ts k x y (omega arith) (m .left) f
 
@@ -129,7 +141,7 @@ unfolding legal
 legal-wider k s r ts xs h e =
     and-both (in-spread r (k .strips) xs) (channels-good (k .channels) ts xs) (spread-wider s r (k .strips) xs h (search ands)) (search ands)
 
-settled-strips : (ls : List ℕ) (cs : List (List Pair)) (s : ℕ) (us ys : List ℕ) → channels-within ls cs ≡ true → legal (stack ls cs) s us ys ≡ true →
+settled-strips : (ls : List ℕ) (cs : List Channel) (s : ℕ) (us ys : List ℕ) → channels-within ls cs ≡ true → legal (stack ls cs) s us ys ≡ true →
     (zs : List ℕ) × (legal (stack ls cs) (sum ls) us zs ≡ true)
 unfolding legal stack channels-within sum in-spread
 settled-strips [] cs s us ys e h = impossible e

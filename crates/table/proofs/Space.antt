@@ -1,7 +1,7 @@
--- A stated number of bytes, table-bytes, is enough for every table of a stack within document 01's limits. A separation above its channel's count of pairs
--- could be cut down to that count, so in an answer none is; a position is within the spread, and no row's spread is past the sum of the lengths: so each row
--- is within the limits of its numbers. Each further row has a smaller total than the row before it, and the first one's is at most 256: so there are at most
--- 257 rows. Assumes nothing.
+-- A stated number of bytes, table-bytes, is enough for every table of a stack within the limits. A separation above its channel's floor and count of pairs
+-- could be cut down to the greater of the two, so in an answer none is; a position is within the spread, and no row's spread is past the sum of the lengths: so
+-- each row is within the limits of its numbers. Each further row has a smaller total than the row before it; the first one's is at most 32 a channel above the
+-- sum of the floors, and no row's is below that sum: so there are at most 257 rows, whatever the floors are. Assumes nothing.
 use mathlib.Core.Path.{_≡_, refl}
 use mathlib.Core.Bool.{true, _&&_}
 use mathlib.Core.Logic.{_⊎_, inl, inr}
@@ -12,56 +12,78 @@ use lib.ListN.{length, getD}
 use borrow.Author.Tests.{leb-true}
 use Rattle.numbers.proofs.Bools.{ands, and-both, impossible}
 use Rattle.numbers.proofs.Orders.{le-or-lt}
-use Rattle.stack.specs.Stack.{Pair, Stack, Row, row, feasible, in-spread, channels-good, legal, sum, total, Answer, Stays, Rows-after, Rows-are}
-use Rattle.stack.specs.Limits.{channel-within, within-limits}
+use Rattle.stack.specs.Stack.{Channel, no-channel, channel-in, Stack, Row, row, feasible, in-spread, channels-good, legal, sum, total, Answer, Stays, Rows-after, Rows-are}
+use Rattle.stack.specs.Limits.{pairs-within, channel-within, within-limits}
 use Rattle.stack.proofs.Within.{channel-in-limits, strips-count, channels-few}
+use Rattle.answer.specs.Solve.{last-use}
 use Rattle.answer.proofs.Answers.{legal-lengths}
 use Rattle.rows.specs.Walk.{widest, rows-of}
-use Rattle.rows.proofs.Settled.{feasible-open, settled, widest-small, longest-widest}
+use Rattle.rows.proofs.Settled.{feasible-says, feasible-open, settled, widest-small, longest-widest}
 use Rattle.rows.proofs.Rows.{rows-are}
-use Rattle.writing.specs.Output.{row-bytes, table-bytes, Row-limited}
+use Rattle.writing.specs.Output.{row-bytes, rows-most, table-bytes, Row-limited}
 use Rattle.writing.specs.TableText.{table-text}
 use Rattle.writing.proofs.Bounds.{table-below}
 
--- separations cut down to their channels' counts of pairs: they are good too, sum to no more, and to as much only if none was above 32
-record Lowered (cs : List (List Pair)) (ts xs : List ℕ) : Type 0 where
+-- separations cut down to the last ones of use: they are good too, sum to no more, and to as much only if none was above
+record Lowered (cs : List Channel) (ts xs : List ℕ) : Type 0 where
   pub us : List ℕ
   pub good : channels-good cs us xs ≡ true
   pub below : sum us ≤ sum ts
-  pub tight : sum ts ≤ sum us → (i : ℕ) → i < length ts → getD ts i 0 ≤ 32
+  pub tight : sum ts ≤ sum us → (i : ℕ) → i < length ts → getD ts i 0 ≤ last-use (getD cs i no-channel)
 
-feasible-lowered : (c : List Pair) (t x y : ℕ) → feasible c t x y ≡ true → feasible c (min t (length c)) x y ≡ true
-feasible-lowered c t x y f = go (le-or-lt (length c) t)
+feasible-lowered : (c : Channel) (t x y : ℕ) → feasible c t x y ≡ true → feasible c (min t (last-use c)) x y ≡ true
+feasible-lowered c t x y f = go (le-or-lt (last-use c) t)
   where
-    go : (length c ≤ t) ⊎ (t < length c) → feasible c (min t (length c)) x y ≡ true
-    go (inl h) = feasible-open c (min t (length c)) x y (omega arith)
-    go (inr h) = let e : min t (length c) ≡ t = omega arith in rw e f
+    go : (last-use c ≤ t) ⊎ (t < last-use c) → feasible c (min t (last-use c)) x y ≡ true
+    go (inl h) = feasible-open c (min t (last-use c)) x y (omega arith) (omega arith)
+    go (inr h) = let e : min t (last-use c) ≡ t = omega arith in rw e f
 
-lowered : (cs : List (List Pair)) (ts xs : List ℕ) → ((i : ℕ) → i < length cs → length (getD cs i []) ≤ 32) → channels-good cs ts xs ≡ true → Lowered cs ts xs
+lowered : (cs : List Channel) (ts xs : List ℕ) → channels-good cs ts xs ≡ true → Lowered cs ts xs
 unfolding channels-good sum
-lowered [] [] xs few g = record { us = []; good = refl; below = omega arith; tight = λ h i l. absurd (omega arith) }
-lowered [] (t ∷ ts) xs few g = impossible g
-lowered (c ∷ cs) [] xs few g = impossible g
-lowered (c ∷ cs) (t ∷ ts) [] few g = impossible g
-lowered (c ∷ cs) (t ∷ ts) (x ∷ xs) few g = go (lowered cs ts xs (λ i h. few (suc i) (omega arith)) (search ands))
+lowered [] [] xs g = record { us = []; good = refl; below = omega arith; tight = λ h i l. absurd (omega arith) }
+lowered [] (t ∷ ts) xs g = impossible g
+lowered (c ∷ cs) [] xs g = impossible g
+lowered (c ∷ cs) (t ∷ ts) [] g = impossible g
+lowered (c ∷ cs) (t ∷ ts) (x ∷ xs) g = go (lowered cs ts xs (search ands))
   where
     go : Lowered cs ts xs → Lowered (c ∷ cs) (t ∷ ts) (x ∷ xs)
     go r =
         record {
-          us = min t (length c) ∷ r .us;
-          good = and-both (feasible c (min t (length c)) x (getD xs 0 0)) (channels-good cs (r .us) xs) (feasible-lowered c t x (getD xs 0 0) (search ands)) (r .good);
+          us = min t (last-use c) ∷ r .us;
+          good = and-both (feasible c (min t (last-use c)) x (getD xs 0 0)) (channels-good cs (r .us) xs) (feasible-lowered c t x (getD xs 0 0) (search ands)) (r .good);
           below = omega (arith, r .below);
           tight = λ h i l. each i h l;
         }
       where
-        each : (i : ℕ) → t + sum ts ≤ min t (length c) + sum (r .us) → i < suc (length ts) → getD (t ∷ ts) i 0 ≤ 32
-        each zero h l = omega (arith, r .below, few 0 (omega arith))
+        each : (i : ℕ) → t + sum ts ≤ min t (last-use c) + sum (r .us) → i < suc (length ts) → getD (t ∷ ts) i 0 ≤ last-use (getD (c ∷ cs) i no-channel)
+        each zero h l = omega (arith, r .below)
         each (suc i) h l = r .tight (omega arith) i (omega arith)
 
-sum-below : (ts : List ℕ) → ((i : ℕ) → i < length ts → getD ts i 0 ≤ 32) → sum ts ≤ 32 * length ts
+-- the sum of the floors: no legal total is below it, and no answer's more than 32 a channel above it
+floors : List Channel → ℕ
+floors [] = 0
+floors (c ∷ cs) = c .floor + floors cs
+
+floors-below : (cs : List Channel) (ts xs : List ℕ) → channels-good cs ts xs ≡ true → floors cs ≤ sum ts
+unfolding channels-good sum floors
+floors-below [] [] xs g = omega arith
+floors-below [] (t ∷ ts) xs g = impossible g
+floors-below (c ∷ cs) [] xs g = impossible g
+floors-below (c ∷ cs) (t ∷ ts) [] g = impossible g
+floors-below (c ∷ cs) (t ∷ ts) (x ∷ xs) g = omega (arith, feasible-says c t x (getD xs 0 0) (search ands) .0, floors-below cs ts xs (search ands))
+
+sum-below : (cs : List Channel) (ts : List ℕ) → length ts ≡ length cs → ((i : ℕ) → i < length ts → getD ts i 0 ≤ getD cs i no-channel .floor + 32) →
+    sum ts ≤ floors cs + 32 * length ts
+unfolding sum floors
+sum-below [] [] e h = omega arith
+sum-below [] (t ∷ ts) e h = absurd (omega arith)
+sum-below (c ∷ cs) [] e h = omega arith
+sum-below (c ∷ cs) (t ∷ ts) e h = omega (arith, h 0 (omega arith), sum-below cs ts (omega arith) (λ i l. h (suc i) (omega arith)))
+
+sum-most : (ts : List ℕ) → ((i : ℕ) → i < length ts → getD ts i 0 ≤ 64) → sum ts ≤ 64 * length ts
 unfolding sum
-sum-below [] h = omega arith
-sum-below (t ∷ ts) h = omega (arith, h 0 (omega arith), sum-below ts (λ i l. h (suc i) (omega arith)))
+sum-most [] h = omega arith
+sum-most (t ∷ ts) h = omega (arith, h 0 (omega arith), sum-most ts (λ i l. h (suc i) (omega arith)))
 
 -- a position is at most the spread
 position-below : (s : ℕ) (ls xs : List ℕ) → in-spread s ls xs ≡ true → (i : ℕ) → i < length xs → getD xs i 0 ≤ s
@@ -73,19 +95,42 @@ position-below s (l ∷ ls) (x ∷ xs) e zero h = omega (arith, leb-true (x + l)
 position-below s (l ∷ ls) (x ∷ xs) e (suc i) h = position-below s ls xs (search ands) i (omega arith)
 
 module _ (k : Stack) (good : within-limits k ≡ true) where
-  pairs-few : (i : ℕ) → i < length (k .channels) → length (getD (k .channels) i []) ≤ 32
-  unfolding within-limits channel-within
-  pairs-few i h =
+  channel-limited : (i : ℕ) → i < length (k .channels) → (length (channel-in k i .pairs) ≤ 32) × (channel-in k i .floor ≤ 64)
+  unfolding within-limits channel-within pairs-within
+  channel-limited i h =
       let w = channel-in-limits (k .strips) (k .channels) i (search ands) h in
-      leb-true (length (getD (k .channels) i [])) 32 (search ands)
+      (leb-true (length (channel-in k i .pairs)) 32 (search ands), leb-true (channel-in k i .floor) 64 (search ands))
 
-  -- no separation of an answer is above 32
-  pub separations-small : (s : ℕ) (ts xs : List ℕ) → Answer k s ts xs → (i : ℕ) → i < length ts → getD ts i 0 ≤ 32
-  unfolding legal
-  separations-small s ts xs a =
-      let g : (in-spread s (k .strips) xs && channels-good (k .channels) ts xs) ≡ true = a .is-legal in
-      let r = lowered (k .channels) ts xs pairs-few (search ands) in
-      r .tight (a .least (r .us) xs (and-both (in-spread s (k .strips) xs) (channels-good (k .channels) (r .us) xs) (search ands) (r .good)))
+  module _ (s : ℕ) (ts xs : List ℕ) (a : Answer k s ts xs) where
+    -- no separation of an answer is past the last one of use
+    separations-of-use : (i : ℕ) → i < length ts → getD ts i 0 ≤ last-use (channel-in k i)
+    unfolding legal
+    separations-of-use =
+        let g : (in-spread s (k .strips) xs && channels-good (k .channels) ts xs) ≡ true = a .is-legal in
+        let r = lowered (k .channels) ts xs (search ands) in
+        r .tight (a .least (r .us) xs (and-both (in-spread s (k .strips) xs) (channels-good (k .channels) (r .us) xs) (search ands) (r .good)))
+
+    in-channels : (i : ℕ) → i < length ts → i < length (k .channels)
+    in-channels i l = omega (arith, legal-lengths k s ts xs (a .is-legal))
+
+    -- so none is above 64
+    pub separations-small : (i : ℕ) → i < length ts → getD ts i 0 ≤ 64
+    separations-small i l = omega (arith, separations-of-use i l, channel-limited i (in-channels i l))
+
+    -- its total is at least the sum of the floors, and at most 32 a channel more
+    total-between : (floors (k .channels) ≤ sum ts) × (sum ts ≤ floors (k .channels) + 32 * length (k .channels))
+    unfolding legal
+    total-between =
+        let g : (in-spread s (k .strips) xs && channels-good (k .channels) ts xs) ≡ true = a .is-legal in
+        let n = legal-lengths k s ts xs (a .is-legal) in
+        let most = sum-below (k .channels) ts (n .0) (λ i l. omega (arith, separations-of-use i l, channel-limited i (in-channels i l))) in
+        (floors-below (k .channels) ts xs (search ands), rw (n .0) at most)
+
+    -- NO TOTAL OF AN ANSWER is above 512
+    pub total-small : sum ts ≤ 512
+    total-small =
+        let n = legal-lengths k s ts xs (a .is-legal) in
+        omega (arith, sum-most ts separations-small, channels-few k good)
 
   -- a row up to the sum of the lengths is within the limits of its numbers
   row-limited : (r : Row) → r .spread ≤ widest k → Answer k (r .spread) (r .separations) (r .positions) → Row-limited r
@@ -94,13 +139,12 @@ module _ (k : Stack) (good : within-limits k ≡ true) where
       let n = legal-lengths k (r .spread) (r .separations) (r .positions) (a .is-legal) in
       let g : (in-spread (r .spread) (k .strips) (r .positions) && channels-good (k .channels) (r .separations) (r .positions)) ≡ true = a .is-legal in
       let wide = widest-small k good in
-      let ts = separations-small (r .spread) (r .separations) (r .positions) a in
       record {
         channels = omega (arith, channels-few k good);
         strips = omega (arith, strips-count k good, channels-few k good);
         spread-below = omega arith;
-        total-below = omega (arith, sum-below (r .separations) ts, channels-few k good);
-        separations-below = ts;
+        total-below = omega (arith, total-small (r .spread) (r .separations) (r .positions) a);
+        separations-below = separations-small (r .spread) (r .separations) (r .positions) a;
         positions-below = λ i l. omega (arith, position-below (r .spread) (k .strips) (r .positions) (search ands) i l);
       }
 
@@ -115,10 +159,11 @@ module _ (k : Stack) (good : within-limits k ≡ true) where
           let z = settled k (q .spread) (q .separations) (q .positions) good (a .is-legal) in
           absurd (omega (arith, st (sum (k .strips)) (q .separations) (z .0) h m (z .1)))
 
-  rows-few : (r : Row) (qs : List Row) → Rows-after k r qs → length qs ≤ total r
-  unfolding Rows-after
-  rows-few r [] a = omega arith
-  rows-few r (q ∷ qs) a = omega (arith, a .1, rows-few q qs (a .4))
+  -- each further row has a smaller total, and none is below the sum of the floors
+  rows-few : (r : Row) (qs : List Row) → Answer k (r .spread) (r .separations) (r .positions) → Rows-after k r qs → floors (k .channels) + length qs ≤ total r
+  unfolding Rows-after total
+  rows-few r [] first a = omega (arith, total-between (r .spread) (r .separations) (r .positions) first .0)
+  rows-few r (q ∷ qs) first a = omega (arith, a .1, rows-few q qs (a .3) (a .4))
 
   rows-limited : (r : Row) (qs : List Row) → r .spread ≤ widest k → Rows-after k r qs → (i : ℕ) → i < length qs → Row-limited (getD qs i (row 0 [] []))
   unfolding Rows-after
@@ -128,9 +173,11 @@ module _ (k : Stack) (good : within-limits k ≡ true) where
 
   -- ENOUGH for the table of any list of the stack's rows
   pub rows-space : (rs : List Row) → Rows-are k rs → length (table-text (length (k .channels)) rs) ≤ table-bytes
-  unfolding Rows-are table-bytes row-bytes
+  unfolding Rows-are table-bytes row-bytes rows-most total
   rows-space [] a = absurd a
-  rows-space (r ∷ qs) a = omega (arith, table-below (length (k .channels)) (r ∷ qs) (omega (arith, channels-few k good)) (λ i l. each i l), rows-few r qs (a .2), first .total-below)
+  rows-space (r ∷ qs) a =
+      let most = total-between (r .spread) (r .separations) (r .positions) (a .1) .1 in
+      omega (arith, table-below (length (k .channels)) (r ∷ qs) (omega (arith, channels-few k good)) (λ i l. each i l), rows-few r qs (a .1) (a .2), channels-few k good)
     where
       near : r .spread ≤ widest k
       near = omega (arith, a .0, longest-widest k)

@@ -11,7 +11,7 @@ use Rattle.answer.specs.Solve.{answer-total}
 use Rattle.rows.specs.Walk.{row-at, rows-walk, widest, rows-of}
 use Rattle.rows.proofs.Settled.{longest-widest}
 use Rattle.rows.proofs.Walks.{walk-zero, walk-on, walk-falls, walk-ends}
-use Rattle.writing.specs.Output.{written, written-at, Written, row-bytes, table-bytes, Line-put, Line-put-at}
+use Rattle.writing.specs.Output.{written, written-at, Written, row-bytes, rows-most, table-bytes, Line-put, Line-put-at}
 use Rattle.writing.specs.TableText.{table-text, row-text, rows-text}
 use Rattle.writing.proofs.Bounds.{table-head}
 use Rattle.writing.proofs.Lines.{written-starts, written-steps, written-at-start}
@@ -61,7 +61,7 @@ module _ (k : Stack) (good : within-limits k ≡ true) where
 
   -- the text so far is a part of the table's, so it is short
   pub at-fits : (o : List ℕ) (w : Walk) → Walking k o w → w .at ≤ 2 ^ 32
-  unfolding table-bytes row-bytes
+  unfolding table-bytes row-bytes rows-most
   at-fits o w c = omega (arith, c .at-is, simp length-append at (ap length (c .whole)), table-space k good)
 
   module _ (o : List ℕ) (w : Walk) (c : Walking k o w) (next jump : ℕ) (more : 0 < jump) (jumped : next ≡ w .spread + w .jump) (inside : next ≤ widest k) where

@@ -43,14 +43,18 @@ pub record Written (text before after : List ℕ) : Type 0 where
 abbrev pub line-bytes : ℕ
 line-bytes = 213
 
--- the bytes of the longest row within document 01's limits: the word ROW, a line feed, a spread and nine positions of up to four digits, a total of up to
+-- the bytes of the longest row within the limits: the word ROW, a line feed, a spread and nine positions of up to four digits, a total of up to
 -- three and eight separations of up to two, each behind a tab
 unfoldable pub row-bytes : ℕ
 row-bytes = 82
 
--- enough for a table within the limits: the first line's 8 bytes, and a row for each total
+-- the most rows of a table: a row for each total from the sum of the floors up to eight times 32 more, since past its floor and 32 tracks no channel gains
+unfoldable pub rows-most : ℕ
+rows-most = suc (8 * 32)
+
+-- enough for a table within the limits: the first line's 8 bytes, and these rows
 unfoldable pub table-bytes : ℕ
-table-bytes = 8 + row-bytes * totals-held
+table-bytes = 8 + row-bytes * rows-most
 
 -- what a line's writer leaves and answers
 pub record Line-put (text before after : List ℕ) (r : ℕ) : Type 0 where
@@ -85,11 +89,11 @@ pub record Clearing (from : ℕ) (before : List ℕ) (i : ℕ) (now : List ℕ) 
   pub stands : now ≡ take from before ++ replicate (i - from) 0 ++ drop i before
   pub same-length : length now ≡ length before
 
--- a row of at most eight channels within document 01's limits
+-- a row of at most eight channels within the limits
 pub record Row-limited (r : Row) : Type 0 where
   pub channels : length (r .separations) ≤ 8
   pub strips : length (r .positions) ≤ 9
   pub spread-below : r .spread ≤ 9999
   pub total-below : total r < totals-held
-  pub separations-below : (i : ℕ) → i < length (r .separations) → getD (r .separations) i 0 ≤ 32
+  pub separations-below : (i : ℕ) → i < length (r .separations) → getD (r .separations) i 0 ≤ 64
   pub positions-below : (i : ℕ) → i < length (r .positions) → getD (r .positions) i 0 ≤ 9999
