@@ -1,4 +1,5 @@
 //! The page of a channel, by document 02, P1: each path point by point, the arms of its points, a line for each track.
+//! With a floor (P2) there may be tracks above the runs, where paths go straight up.
 //! What P1 says of the paths is looked at for every page; where it does not hold, the program ends with words.
 
 use crate::reader::{Refusal, Stack};

@@ -1,4 +1,4 @@
-//! Random stacks and their texts, each from a seed.
+//! Random stacks and their texts, each from a seed. Half of the stacks have floors.
 
 use crate::channel::Pair;
 use crate::reader::Stack;
@@ -76,21 +76,62 @@ impl Random {
         };
         let lengths: Vec<i64> = (0..=k).map(|_| length(self)).collect();
         let channels = (0..k).map(|i| self.channel(lengths[i], lengths[i + 1], pairs)).collect();
-        Stack { lengths, channels }
+        self.with_floors(lengths, channels)
     }
-}
 
-pub fn text(stack: &Stack) -> Vec<u8> {
-    let mut text = format!("STACK\t{}\n", stack.channels.len());
-    for length in &stack.lengths {
-        text += &format!("PART\t{}\n", length);
+    /// A floor for a channel of m pairs: small or below half their count; unless it is to be low, also below their count or about it, the
+    /// greatest, or any.
+    fn floor(&mut self, m: usize, low: bool) -> usize {
+        let floor = match self.below(if low { 2 } else { 7 }) {
+            0 => self.below(3),
+            1 => self.below(1 + m / 2),
+            2 => self.below(1 + m),
+            3 | 4 => (m + self.below(5)).saturating_sub(2),
+            5 => 64,
+            _ => self.below(65),
+        };
+        floor.min(64)
     }
-    for channel in &stack.channels {
-        text += "NETS";
-        for (p, q) in channel {
-            text += &format!("\t{}\t{}", p, q);
+
+    /// The stack of these strips and channels, in half of the cases with floors: in one channel, in some, in each, or the same in each. One
+    /// at least is not 0.
+    pub fn with_floors(&mut self, lengths: Vec<i64>, channels: Vec<Vec<Pair>>) -> Stack {
+        let mut floors = vec![0; channels.len()];
+        if self.chance(2) {
+            let (style, one, low) = (self.below(4), self.below(channels.len()), self.chance(2));
+            let equal = self.floor(channels[one].len(), low);
+            for (i, floor) in floors.iter_mut().enumerate() {
+                *floor = match style {
+                    0 if i != one => 0,
+                    1 if self.chance(2) => 0,
+                    2 => equal,
+                    _ => self.floor(channels[i].len(), low),
+                };
+            }
+            floors[one] = floors[one].max(1);
         }
-        text += "\n";
+        Stack { lengths, channels, floors }
     }
-    text.into_bytes()
+
+    /// The text of a stack; floors of 0 are left out, or now and then some of them are written.
+    pub fn text(&mut self, stack: &Stack) -> Vec<u8> {
+        let mut text = format!("STACK\t{}\n", stack.channels.len());
+        for length in &stack.lengths {
+            text += &format!("PART\t{}\n", length);
+        }
+        for channel in &stack.channels {
+            text += "NETS";
+            for (p, q) in channel {
+                text += &format!("\t{}\t{}", p, q);
+            }
+            text += "\n";
+        }
+        let zeros = self.chance(4);
+        for (i, floor) in stack.floors.iter().enumerate() {
+            if *floor > 0 || zeros && self.chance(2) {
+                text += &format!("GAP\t{}\t{}\n", i + 1, floor);
+            }
+        }
+        text.into_bytes()
+    }
 }

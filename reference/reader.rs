@@ -1,4 +1,4 @@
-//! Reading a stack's text, by document 01, "Lines and tabs" and "Sent back at the counter".
+//! Reading a stack's text, by document 01, "Lines and tabs" and "Sent back at the counter", and document 02, P2.
 
 use crate::channel::Pair;
 
@@ -6,6 +6,8 @@ use crate::channel::Pair;
 pub struct Stack {
     pub lengths: Vec<i64>,
     pub channels: Vec<Vec<Pair>>,
+    /// By channel, 0 without a `GAP` line.
+    pub floors: Vec<usize>,
 }
 
 /// Number, line and field.
@@ -67,6 +69,29 @@ fn nets(values: &[i64], lower: i64, upper: i64, line: u32) -> Result<Vec<Pair>, 
     Ok(values.chunks(2).map(|c| (c[0], c[1])).collect())
 }
 
+/// The floors of k channels, by the lines behind the last `NETS`.
+fn gaps(lines: &[(Vec<u8>, bool)], k: usize) -> Result<Vec<usize>, Refusal> {
+    let mut floors = vec![0; k];
+    let mut before = 0;
+    for i in 2 * k + 2..lines.len() {
+        let line = i as u32 + 1;
+        let gap = numbers(lines.get(i), "GAP", |n| n == 2).ok_or((2, line, 0))?;
+        let (channel, floor) = (gap[0], gap[1]);
+        if channel < 1 || channel > k as i64 {
+            return Err((3, line, 2));
+        }
+        if floor > 64 {
+            return Err((3, line, 3));
+        }
+        if channel <= before {
+            return Err((6, line, 2));
+        }
+        before = channel;
+        floors[channel as usize - 1] = floor as usize;
+    }
+    Ok(floors)
+}
+
 pub fn read(text: &[u8]) -> Result<Stack, Refusal> {
     if text.len() > 8192 {
         return Err((1, 0, 0));
@@ -77,7 +102,7 @@ pub fn read(text: &[u8]) -> Result<Stack, Refusal> {
         return Err((3, 1, 2));
     }
     let k = head[0] as usize;
-    let mut stack = Stack { lengths: Vec::new(), channels: Vec::new() };
+    let mut stack = Stack { lengths: Vec::new(), channels: Vec::new(), floors: Vec::new() };
     for i in 1..=k + 1 {
         let line = i as u32 + 1;
         let part = numbers(lines.get(i), "PART", |n| n == 1).ok_or((2, line, 0))?;
@@ -92,8 +117,6 @@ pub fn read(text: &[u8]) -> Result<Stack, Refusal> {
         let values = numbers(lines.get(i), "NETS", |n| n % 2 == 0).ok_or((2, line, 0))?;
         stack.channels.push(nets(&values, stack.lengths[c], stack.lengths[c + 1], line)?);
     }
-    if lines.len() > 2 * k + 2 {
-        return Err((2, 2 * k as u32 + 3, 0));
-    }
+    stack.floors = gaps(&lines, k)?;
     Ok(stack)
 }

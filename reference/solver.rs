@@ -10,9 +10,14 @@ pub struct Answer {
     pub positions: Vec<i64>,
 }
 
+/// Channel i, from 0: by its pairs, and from its floor upward.
+fn feasible_in(stack: &Stack, i: usize, t: usize, offset: i64) -> bool {
+    t >= stack.floors[i] && feasible(&stack.channels[i], t, offset)
+}
+
 pub fn legal(stack: &Stack, spread: i64, separations: &[usize], positions: &[i64]) -> bool {
     let within = positions.iter().zip(&stack.lengths).all(|(x, l)| *x >= 0 && x + l <= spread);
-    within && separations.iter().enumerate().all(|(i, t)| feasible(&stack.channels[i], *t, positions[i + 1] - positions[i]))
+    within && separations.iter().enumerate().all(|(i, t)| feasible_in(stack, i, *t, positions[i + 1] - positions[i]))
 }
 
 /// The first positions in dictionary order for these separations, each position tried from the left.
@@ -22,7 +27,7 @@ fn place_by_trying(stack: &Stack, spread: i64, separations: &[usize], placed: &m
         return true;
     }
     for x in 0..=spread - stack.lengths[i] {
-        if i > 0 && !feasible(&stack.channels[i - 1], separations[i - 1], x - placed[i - 1]) {
+        if i > 0 && !feasible_in(stack, i - 1, separations[i - 1], x - placed[i - 1]) {
             continue;
         }
         placed.push(x);
@@ -61,12 +66,18 @@ fn place_by_ranges(stack: &Stack, spread: i64, separations: &[usize]) -> Option<
     legal(stack, spread, separations, &placed).then_some(placed)
 }
 
-/// The least separation that is feasible at some offset.
-fn least_open(pairs: &[Pair]) -> usize {
-    (0..pairs.len()).find(|&t| left_limit(pairs, t) <= right_limit(pairs, t)).unwrap_or(pairs.len())
+/// The least separation of a channel that is feasible at some offset.
+fn least_open(stack: &Stack, i: usize) -> usize {
+    let pairs = &stack.channels[i];
+    (stack.floors[i]..pairs.len()).find(|&t| left_limit(pairs, t) <= right_limit(pairs, t)).unwrap_or(least_free(stack, i))
 }
 
-/// The separations of a total in dictionary order, each at most the channel's count of pairs.
+/// The least separation of a channel that is feasible at every offset.
+fn least_free(stack: &Stack, i: usize) -> usize {
+    stack.channels[i].len().max(stack.floors[i])
+}
+
+/// The separations of a total in dictionary order, each from the channel's floor to the least that is feasible at every offset.
 /// Unless every position is to be tried, those are passed over that leave too little for the channels above, or place no strips so far.
 fn try_total(stack: &Stack, spread: i64, left: usize, chosen: &mut Vec<usize>, brute: bool) -> Option<Vec<i64>> {
     let i = chosen.len();
@@ -83,13 +94,13 @@ fn try_total(stack: &Stack, spread: i64, left: usize, chosen: &mut Vec<usize>, b
     if !brute && place_by_ranges(stack, spread, chosen).is_none() {
         return None;
     }
-    let rest = &stack.channels[i + 1..];
-    let most: usize = rest.iter().map(|c| c.len()).sum();
-    let least: usize = if brute { 0 } else { rest.iter().map(|c| least_open(c)).sum() };
+    let rest = i + 1..stack.channels.len();
+    let most: usize = rest.clone().map(|c| least_free(stack, c)).sum();
+    let least: usize = rest.map(|c| if brute { stack.floors[c] } else { least_open(stack, c) }).sum();
     if left < least {
         return None;
     }
-    for t in left.saturating_sub(most)..=(left - least).min(stack.channels[i].len()) {
+    for t in left.saturating_sub(most).max(stack.floors[i])..=(left - least).min(least_free(stack, i)) {
         chosen.push(t);
         if let Some(placed) = try_total(stack, spread, left - t, chosen, brute) {
             return Some(placed);
@@ -114,14 +125,14 @@ pub fn small(stack: &Stack) -> bool {
 
 /// For a spread from the longest strip upward; `brute` tries every position.
 pub fn answer(stack: &Stack, spread: i64, brute: bool) -> Answer {
-    let most: usize = stack.channels.iter().map(|c| c.len()).sum();
+    let most: usize = (0..stack.channels.len()).map(|i| least_free(stack, i)).sum();
     for total in 0..=most {
         let mut separations = Vec::new();
         if let Some(positions) = try_total(stack, spread, total, &mut separations, brute) {
             return Answer { total, separations, positions };
         }
     }
-    unreachable!("a separation of every channel's count of pairs is feasible at every offset")
+    unreachable!("with separations that are feasible at every offset each strip may stand at the left")
 }
 
 /// The rows of the table: every spread up to past the sum of the lengths is tried, beyond which nothing falls.

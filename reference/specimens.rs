@@ -1,13 +1,33 @@
-//! The specimens of document 01: a stack's text with what it is answered, their pages by document 02 too. Tabs are written as spaces here.
+//! The specimens of document 01: a stack's text with what it is answered, their pages by document 02 too; then with floors, by P2.
+//! Tabs are written as spaces here.
+
+/// Specimen A's text, and lines behind it.
+macro_rules! a {
+    ($behind:literal) => {
+        concat!("STACK 1\nPART 4\nPART 4\nNETS 0 2 2 4\n", $behind)
+    };
+}
+
+/// Specimen B's text, and lines behind it.
+macro_rules! b {
+    ($behind:literal) => {
+        concat!("STACK 2\nPART 4\nPART 4\nPART 4\nNETS 0 2 2 4\nNETS 0 2 2 4\n", $behind)
+    };
+}
+
+const A_TABLE: &str = "TABLE 1\nROW 4 2 2 0 0\nROW 5 1 1 1 0\nROW 6 0 0 2 0\n";
+const FLOOR_1: &str = a!("GAP 1 1\n");
+const FLOOR_2: &str = a!("GAP 1 2\n");
+const FLOOR_64: &str = a!("GAP 1 64\n");
+const FLOOR_65: &str = a!("GAP 1 65\n");
+const FLOOR_BELOW: &str = b!("GAP 1 1\n");
+const FLOOR_ABOVE: &str = b!("GAP 2 1\n");
+const NO_PAIRS: &str = "STACK 1\nPART 3\nPART 5\nNETS\nGAP 1 3\n";
 
 /// The text, and the table or the refusal's line.
-pub const TABLES: [(&str, &str, &str); 12] = [
-    ("A", "STACK 1\nPART 4\nPART 4\nNETS 0 2 2 4\n", "TABLE 1\nROW 4 2 2 0 0\nROW 5 1 1 1 0\nROW 6 0 0 2 0\n"),
-    (
-        "B",
-        "STACK 2\nPART 4\nPART 4\nPART 4\nNETS 0 2 2 4\nNETS 0 2 2 4\n",
-        "TABLE 2\nROW 4 4 2 2 0 0 0\nROW 5 3 1 2 1 0 0\nROW 6 2 0 2 2 0 0\nROW 7 1 0 1 3 1 0\nROW 8 0 0 0 4 2 0\n",
-    ),
+pub const TABLES: [(&str, &str, &str); 29] = [
+    ("A", a!(""), A_TABLE),
+    ("B", b!(""), "TABLE 2\nROW 4 4 2 2 0 0 0\nROW 5 3 1 2 1 0 0\nROW 6 2 0 2 2 0 0\nROW 7 1 0 1 3 1 0\nROW 8 0 0 0 4 2 0\n"),
     ("C", "STACK 1\nPART 3\nPART 5\nNETS\n", "TABLE 1\nROW 5 0 0 0 0\n"),
     ("D", "STACK 1\nPART 1\nPART 1\nNETS 1 0\n", "TABLE 1\nROW 1 1 1 0 0\nROW 2 0 0 0 1\n"),
     ("E", "", "2 1 0\n"),
@@ -18,32 +38,65 @@ pub const TABLES: [(&str, &str, &str); 12] = [
     ("length 1,001", "STACK 1\nPART 1000\nPART 1001\nNETS\n", "4 3 2\n"),
     ("no channel", "STACK 0\nPART 1\n", "3 1 2\n"),
     ("nine channels", "STACK 9\n", "3 1 2\n"),
+    ("A, floor 0", a!("GAP 1 0\n"), A_TABLE),
+    ("A, floor 1", FLOOR_1, "TABLE 1\nROW 4 2 2 0 0\nROW 5 1 1 1 0\n"),
+    ("A, floor 2", FLOOR_2, "TABLE 1\nROW 4 2 2 0 0\n"),
+    ("A, floor 64", FLOOR_64, "TABLE 1\nROW 4 64 64 0 0\n"),
+    // At spread 6 the floor forbids separations 0, 2; then 1, 1 are first.
+    ("B, floor 1 below", FLOOR_BELOW, "TABLE 2\nROW 4 4 2 2 0 0 0\nROW 5 3 1 2 1 0 0\nROW 6 2 1 1 2 1 0\nROW 7 1 1 0 3 2 0\n"),
+    ("B, floor 1 above", FLOOR_ABOVE, "TABLE 2\nROW 4 4 2 2 0 0 0\nROW 5 3 1 2 1 0 0\nROW 6 2 0 2 2 0 0\nROW 7 1 0 1 3 1 0\n"),
+    ("B, floors 2 and 5", b!("GAP 1 2\nGAP 2 5\n"), "TABLE 2\nROW 4 7 2 5 0 0 0\n"),
+    ("C, floor 3", NO_PAIRS, "TABLE 1\nROW 5 3 3 0 0\n"),
+    ("D, floor 1", "STACK 1\nPART 1\nPART 1\nNETS 1 0\nGAP 1 1\n", "TABLE 1\nROW 1 1 1 0 0\n"),
+    ("GAP with one number", a!("GAP 1\n"), "2 5 0\n"),
+    ("GAP before NETS", "STACK 1\nPART 4\nPART 4\nGAP 1 1\nNETS 0 2 2 4\n", "2 4 0\n"),
+    ("a line behind GAP", a!("GAP 1 1\nNETS\n"), "2 6 0\n"),
+    ("GAP of channel 0", a!("GAP 0 65\n"), "3 5 2\n"),
+    ("GAP of channel 2", a!("GAP 2 65\n"), "3 5 2\n"),
+    ("floor 65", FLOOR_65, "3 5 3\n"),
+    ("GAP twice", a!("GAP 1 1\nGAP 1 1\n"), "6 6 2\n"),
+    ("GAP twice, floor 65", a!("GAP 1 1\nGAP 1 65\n"), "3 6 3\n"),
 ];
 
 /// The text, a spread, and the row or the refusal's line.
-pub const SPREADS: [(&str, &str, u32, &str); 4] = [
+pub const SPREADS: [(&str, &str, u32, &str); 9] = [
     ("A at 3", TABLES[0].1, 3, "7 0 0\n"),
     ("A at 100", TABLES[0].1, 100, "ROW 100 0 0 2 0\n"),
     ("B at 6", TABLES[1].1, 6, "ROW 6 2 0 2 2 0 0\n"),
     ("A at the widest", TABLES[0].1, u32::MAX, "ROW 4294967295 0 0 2 0\n"),
+    ("A, floor 1, at 6", FLOOR_1, 6, "ROW 6 1 1 1 0\n"),
+    ("A, floor 2, at 6", FLOOR_2, 6, "ROW 6 2 2 0 0\n"),
+    ("A, floor 64, at 3", FLOOR_64, 3, "7 0 0\n"),
+    ("B, floor 1 below, at 8", FLOOR_BELOW, 8, "ROW 8 1 1 0 3 2 0\n"),
+    ("B, floor 1 above, at 8", FLOOR_ABOVE, 8, "ROW 8 1 0 1 3 1 0\n"),
 ];
 
 /// The text, a spread, separations and positions, and whether they are legal.
-pub const TRIALS: [(&str, &str, u32, &[u32], &[u32], bool); 4] = [
+pub const TRIALS: [(&str, &str, u32, &[u32], &[u32], bool); 12] = [
     ("B at 6 with 1, 1", TABLES[1].1, 6, &[1, 1], &[2, 1, 0], true),
     ("B at 5 with 1, 1", TABLES[1].1, 5, &[1, 1], &[1, 0, 0], false),
     ("A at 6 with 0", TABLES[0].1, 6, &[0], &[2, 0], true),
     ("A at 5 with 0", TABLES[0].1, 5, &[0], &[2, 0], false),
+    ("A, floor 1, at 6 with 1", FLOOR_1, 6, &[1], &[2, 0], true),
+    ("A, floor 1, at 6 with 0", FLOOR_1, 6, &[0], &[2, 0], false),
+    ("A, floor 64, at 4 with 64", FLOOR_64, 4, &[64], &[0, 0], true),
+    ("A, floor 64, at 4 with 63", FLOOR_64, 4, &[63], &[0, 0], false),
+    ("B, floor 1 above, at 8 with 0, 1", FLOOR_ABOVE, 8, &[0, 1], &[4, 2, 0], true),
+    ("B, floor 1 above, at 8 with 0, 0", FLOOR_ABOVE, 8, &[0, 0], &[4, 2, 0], false),
+    ("C, floor 3, at 5 with 3", NO_PAIRS, 5, &[3], &[2, 0], true),
+    ("C, floor 3, at 5 with 2", NO_PAIRS, 5, &[2], &[2, 0], false),
 ];
 
 const TWO_LEFT: &str = "STACK 1\nPART 4\nPART 4\nNETS 0 0 3 1 4 2\n";
+const STRAIGHT: &str = "STACK 1\nPART 1\nPART 1\nNETS 0 0\nGAP 1 2\n";
+const HIGHER: &str = b!("GAP 2 3\n");
 const BOTH_WAYS: &str = "STACK 1\nPART 6\nPART 6\nNETS 1 0 2 1 4 5 5 6\n";
 
 /// The lines of a page, each up to its last character that is not a dot, or the refusal.
 type Page = Result<&'static [&'static str], (u32, u32, u32)>;
 
 /// The text, a spread, a channel, and the page.
-pub const PAGES: [(&str, &str, u32, u32, Page); 27] = [
+pub const PAGES: [(&str, &str, u32, u32, Page); 34] = [
     ("A at 4", TABLES[0].1, 4, 1, Ok(&["  2 ..o.o", "  1 .++.|", "  0 o+o-+"])),
     ("A at 5", TABLES[0].1, 5, 1, Ok(&["  1 ..o.o", "  0 .o+o+"])),
     ("A at 6", TABLES[0].1, 6, 1, Ok(&["  0 ..o.o"])),
@@ -71,6 +124,13 @@ pub const PAGES: [(&str, &str, u32, u32, Page); 27] = [
     ("A at 64", TABLES[0].1, 64, 1, Err((9, 0, 0))),
     ("length 1,000 at 999", TABLES[8].1, 999, 1, Err((7, 0, 0))),
     ("length 1,000 at 1,000", TABLES[8].1, 1000, 1, Err((9, 0, 0))),
+    ("A, floor 1, at 6", FLOOR_1, 6, 1, Ok(&["  1 ..o.o", "  0 .o+o+"])),
+    ("A, floor 2, at 6", FLOOR_2, 6, 1, Ok(&["  2 ..o.o", "  1 .++.|", "  0 o+o-+"])),
+    ("B, floor 3 above, at 6", HIGHER, 6, 2, Ok(&["  3 ..o.o", "  2 ..|.|", "  1 .++.|", "  0 o+o-+"])),
+    ("C, floor 3, at 63", NO_PAIRS, 63, 1, Ok(&["  3 ", "  2 ", "  1 ", "  0 "])),
+    ("straight, floor 2, at 1", STRAIGHT, 1, 1, Ok(&["  2 o", "  1 |", "  0 o"])),
+    ("floor 65, channel 2, at 3", FLOOR_65, 3, 2, Err((3, 5, 3))),
+    ("A, floor 64, at 64", FLOOR_64, 64, 1, Err((9, 0, 0))),
 ];
 
 /// A page's text: its lines with dots up to column 63.
