@@ -69,6 +69,15 @@ fn skewed() -> String {
     text(&[1000; CHANNELS + 1], &channels)
 }
 
+/// As `skewed`, with a floor in each channel: below what the pairs need at every spread, between that and their count, and above their count.
+fn floors() -> String {
+    let mut random = Random(4);
+    let channels: Vec<_> = (0..CHANNELS).map(|_| (random.terminals(0, 120), random.terminals(880, 1000))).collect();
+    let floors = [1, 4, 8, 12, 16, 24, 32, 64];
+    let gaps: String = floors.iter().enumerate().map(|(i, floor)| format!("GAP\t{}\t{}\n", i + 1, floor)).collect();
+    text(&[1000; CHANNELS + 1], &channels) + &gaps
+}
+
 /// As many rows as can be: each column more saves a track in one channel, channel 1 first. Neighbouring channels are drawn to opposite sides.
 fn rows() -> String {
     let near: Terminals = (0..PAIRS as u64).map(|j| 2 * j).collect();
@@ -109,13 +118,14 @@ fn paged(pair: impl Fn(u64) -> (u64, u64)) -> String {
     text(&[63; 2], &[(0..PAIRS as u64).map(pair).unzip()])
 }
 
-pub fn all() -> [(&'static str, String); 8] {
+pub fn all() -> [(&'static str, String); 9] {
     [
         ("short", short()),
         ("long", long()),
         ("skewed", skewed()),
         ("rows", rows()),
         ("loose", loose()),
+        ("floors", floors()),
         ("right", paged(|j| (j, 32 + j))),
         ("left", paged(|j| (32 + j, j))),
         ("stairs", paged(|j| (2 * j, 32 + j))),

@@ -25,9 +25,9 @@ struct Drawing {
     /// By pair: the first and the last pair of its level.
     first: [u8; PAIRS],
     last: [u8; PAIRS],
-    /// By track: the paths that run right there, and left.
-    right: [u32; PAIRS + 1],
-    left: [u32; PAIRS + 1],
+    /// By track below the count of pairs, the only ones with runs: the paths that run right there, and left.
+    right: [u32; PAIRS],
+    left: [u32; PAIRS],
     /// The line of a track without runs.
     uprights: Line,
 }
@@ -39,7 +39,7 @@ impl Drawing {
         uprights[WIDTH - 1] = b'\n';
         let none = [0; PAIRS];
         let mut new =
-            Drawing { at: none, upto: none, levels: none, first: none, last: none, right: [0; PAIRS + 1], left: [0; PAIRS + 1], uprights };
+            Drawing { at: none, upto: none, levels: none, first: none, last: none, right: [0; PAIRS], left: [0; PAIRS], uprights };
         for j in 0..m {
             new.at[j] = lower[j];
             new.upto[j] = upper[j];
@@ -105,7 +105,9 @@ impl Drawing {
         for (track, line) in lines.iter_mut().rev().enumerate() {
             number(&mut self.uprights, track);
             *line = self.uprights;
-            self.runs(line, track, lower.len());
+            if track < lower.len() {
+                self.runs(line, track, lower.len());
+            }
         }
         let t = lines.len() - 1;
         for (from, upto) in lower.iter().zip(upper) {

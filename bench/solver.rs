@@ -4,7 +4,9 @@
 const CHANNELS: usize = 8;
 const STRIPS: usize = CHANNELS + 1;
 pub const PAIRS: usize = 32;
+/// Totals above the floors: a channel needs no more than its pairs do, or its floor.
 const TOTALS: usize = CHANNELS * PAIRS + 1;
+const GREATEST_FLOOR: i16 = 64;
 
 // Columns fit sixteen bits, so that a vector holds many: nine strips of 1,000 are 9,000 wide.
 
@@ -24,6 +26,7 @@ pub struct Stack {
     pub counts: [usize; CHANNELS],
     pub lower: [[i16; PAIRS]; CHANNELS],
     pub upper: [[i16; PAIRS]; CHANNELS],
+    floors: [usize; CHANNELS],
 }
 
 /// A number's value and what is behind it.
@@ -70,6 +73,32 @@ fn single<'a>(text: &'a [u8], word: &[u8]) -> Option<(i16, &'a [u8])> {
     (count == 1).then_some((kept[0], behind))
 }
 
+/// The floors of k channels, from the lines behind line `at`.
+fn gaps(text: &[u8], k: usize, mut at: u32) -> Result<[usize; CHANNELS], Refusal> {
+    let mut floors = [0; CHANNELS];
+    let mut rest = text;
+    let mut before = 0;
+    while !rest.is_empty() {
+        at += 1;
+        let mut kept = [0; 2];
+        let (_, behind) = line(rest, b"GAP", &mut kept).filter(|found| found.0 == 2).ok_or((2, at, 0))?;
+        let [channel, floor] = kept;
+        if !(1..=k as i16).contains(&channel) {
+            return Err((3, at, 2));
+        }
+        if floor > GREATEST_FLOOR {
+            return Err((3, at, 3));
+        }
+        if channel <= before {
+            return Err((6, at, 2));
+        }
+        before = channel;
+        floors[channel as usize - 1] = floor as usize;
+        rest = behind;
+    }
+    Ok(floors)
+}
+
 pub fn read(text: &[u8]) -> Result<Stack, Refusal> {
     if text.len() > 8192 {
         return Err((1, 0, 0));
@@ -79,7 +108,8 @@ pub fn read(text: &[u8]) -> Result<Stack, Refusal> {
         return Err((3, 1, 2));
     }
     let k = k as usize;
-    let mut stack = Stack { k, lengths: [0; STRIPS], counts: [0; CHANNELS], lower: [[0; PAIRS]; CHANNELS], upper: [[0; PAIRS]; CHANNELS] };
+    let none = [[0; PAIRS]; CHANNELS];
+    let mut stack = Stack { k, lengths: [0; STRIPS], counts: [0; CHANNELS], lower: none, upper: none, floors: [0; CHANNELS] };
     let mut at = 1;
     for length in &mut stack.lengths[..=k] {
         at += 1;
@@ -113,15 +143,15 @@ pub fn read(text: &[u8]) -> Result<Stack, Refusal> {
             stack.upper[i][j] = pair[1];
         }
     }
-    if rest.is_empty() {
-        Ok(stack)
-    } else {
-        Err((2, at + 1, 0))
-    }
+    stack.floors = gaps(rest, k, at)?;
+    Ok(stack)
 }
 
+// From here on separations and totals are counted above the floors: a channel of m pairs and a floor is like one whose first limits are
+// left out, so floors cost nothing.
+
 /// The limits of one channel, that of separation t in place PAIRS - 1 - t, so that limits and spans run the same way when a total is
-/// parted between a separation and the channels above. At a separation of the count of pairs every offset is feasible.
+/// parted between a separation and the channels above. At a separation of `count` every offset is feasible.
 #[derive(Clone, Copy)]
 struct Limits {
     low: [i16; PAIRS],
@@ -130,19 +160,20 @@ struct Limits {
     count: usize,
 }
 
-fn limits(p: &[i16], q: &[i16]) -> Limits {
+fn limits(p: &[i16], q: &[i16], floor: usize) -> Limits {
     let m = p.len();
-    let mut limits = Limits { low: [CLOSED; PAIRS], high: [-CLOSED; PAIRS], least: m, count: m };
-    for t in (0..m).rev() {
+    let count = m.saturating_sub(floor);
+    let mut limits = Limits { low: [CLOSED; PAIRS], high: [-CLOSED; PAIRS], least: count, count };
+    for t in (floor..m).rev() {
         let shift = t as i16;
         let low = p.iter().zip(&q[t..]).map(|(p, q)| p - q).max().unwrap_or(0) + shift;
         let high = p[t..].iter().zip(q).map(|(p, q)| p - q).min().unwrap_or(0) - shift;
         if low > high {
             break;
         }
-        limits.low[PAIRS - 1 - t] = low;
-        limits.high[PAIRS - 1 - t] = high;
-        limits.least = t;
+        limits.least = t - floor;
+        limits.low[PAIRS - 1 - limits.least] = low;
+        limits.high[PAIRS - 1 - limits.least] = high;
     }
     limits
 }
@@ -196,9 +227,11 @@ struct Solver {
     k: usize,
     lengths: [i16; STRIPS],
     limits: [Limits; CHANNELS],
-    /// By strip: the sum of the counts of pairs of the channels above it.
+    /// By strip: the sum of the counts of the channels above it.
     most: [usize; STRIPS],
-    floor: usize,
+    /// No total is less.
+    least: usize,
+    floors: [usize; CHANNELS],
     windows: [i16; STRIPS],
     spans: [Spans; STRIPS],
 }
@@ -217,15 +250,16 @@ impl Solver {
             lengths: stack.lengths,
             limits: [none; CHANNELS],
             most: [0; STRIPS],
-            floor: 0,
+            least: 0,
+            floors: stack.floors,
             windows: [0; STRIPS],
             spans: [Spans { from: [NOWHERE; PAIRS - 1 + TOTALS], upto: [-NOWHERE; PAIRS - 1 + TOTALS] }; STRIPS],
         };
         for i in (0..stack.k).rev() {
             let m = stack.counts[i];
-            solver.limits[i] = limits(&stack.lower[i][..m], &stack.upper[i][..m]);
-            solver.most[i] = solver.most[i + 1] + m;
-            solver.floor += solver.limits[i].least;
+            solver.limits[i] = limits(&stack.lower[i][..m], &stack.upper[i][..m], stack.floors[i]);
+            solver.most[i] = solver.most[i + 1] + solver.limits[i].count;
+            solver.least += solver.limits[i].least;
         }
         solver
     }
@@ -288,7 +322,7 @@ impl Solver {
         unreachable!("at the sum of the counts every position serves")
     }
 
-    /// The placement for the total that a scan has found, by the tie rule.
+    /// The placement for the total that a scan has found, by the tie rule, with the floors added.
     fn place(&self, total: usize) -> Placement {
         let k = self.k;
         let mut placement = Placement { total, separations: [0; CHANNELS], positions: [0; STRIPS] };
@@ -319,6 +353,10 @@ impl Solver {
         for i in 0..k {
             let (low, _) = self.limits[i].at(placement.separations[i]);
             placement.positions[i + 1] = (placement.positions[i] + low).max(starts[i + 1]);
+        }
+        for (t, floor) in placement.separations.iter_mut().zip(self.floors) {
+            *t += floor;
+            placement.total += floor;
         }
         placement
     }
@@ -408,7 +446,7 @@ fn write_table(text: &[u8], out: &mut [u8]) -> Result<usize, Refusal> {
     let mut least = usize::MAX;
     let mut spread = solver.longest();
     let widest = solver.widest();
-    while spread <= widest && least > solver.floor {
+    while spread <= widest && least > solver.least {
         let (total, jump) = solver.scan(spread);
         if total < least {
             least = total;
