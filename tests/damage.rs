@@ -2,7 +2,7 @@
 
 use crate::random::Random;
 
-pub const KINDS: [&str; 20] = [
+pub const KINDS: [&str; 29] = [
     "byte changed",
     "byte dropped",
     "byte doubled",
@@ -23,12 +23,33 @@ pub const KINDS: [&str; 20] = [
     "cut short",
     "run on",
     "about 8,192 bytes",
+    "GAP: another word",
+    "GAP: field emptied, dropped or doubled",
+    "GAP: ill-formed number",
+    "GAP: channel or floor changed",
+    "GAP: channel that does not rise",
+    "GAP: moved up",
+    "GAP: unended",
+    "GAP: a line behind it",
+    "GAP: several faults",
 ];
 
-const BYTES: &[u8] = b"0123456789\t\n\r -+.,/:STACKPARTNETSstackROWTABLE\0\x0b\x7f\x80\xff";
+const BYTES: &[u8] = b"0123456789\t\n\r -+.,/:STACKPARTNETSGAPstackgapROWTABLE\0\x0b\x7f\x80\xff";
 const ODD_BYTES: [u8; 4] = [0, 13, 32, 255];
-const NUMBERS: [&str; 14] = ["0", "1", "2", "8", "9", "10", "31", "32", "33", "99", "999", "1000", "1001", "9999"];
-const LINES: [&str; 8] = ["\n", "STACK\t1\n", "PART\t4\n", "PART\n", "NETS\n", "NETS\t0\t0\n", "GAP\t1\t1\n", "ROW\t4\t0\t0\t0\n"];
+const NUMBERS: [&str; 16] = ["0", "1", "2", "8", "9", "10", "31", "32", "33", "64", "65", "99", "999", "1000", "1001", "9999"];
+const LINES: [&str; 10] = [
+    "\n",
+    "STACK\t1\n",
+    "PART\t4\n",
+    "PART\n",
+    "NETS\n",
+    "NETS\t0\t0\n",
+    "GAP\t1\t1\n",
+    "GAP\n",
+    "FIX\t1\tGAP\t1\t1\n",
+    "ROW\t4\t0\t0\t0\n",
+];
+const WORDS: [&str; 10] = ["gap", "Gap", "GA", "GAPS", "GAQ", "GAP ", " GAP", "", "NETS", "FIX"];
 
 fn lines(text: &[u8]) -> Vec<Vec<u8>> {
     text.split_inclusive(|b| *b == 10).map(|l| l.to_vec()).collect()
@@ -68,7 +89,7 @@ fn near_limit(random: &mut Random, text: &[u8]) -> Vec<u8> {
         3 | 4 => 8193,
         _ => 8180 + random.below(300),
     };
-    let filling: &[u8] = [&b"\t0"[..], b"\n", b"1", b"\t1\t2", b"NETS\n", b"PART\t1\n", b"\0", b"\xff"][random.below(8)];
+    let filling: &[u8] = [&b"\t0"[..], b"\n", b"1", b"\t1\t2", b"NETS\n", b"PART\t1\n", b"GAP\t1\t0\n", b"\0", b"\xff"][random.below(9)];
     while long.len() < length {
         long.extend(filling);
     }
@@ -77,6 +98,80 @@ fn near_limit(random: &mut Random, text: &[u8]) -> Vec<u8> {
         long[length - 1] = 10;
     }
     long
+}
+
+/// The lines of a text; where it has no `GAP` lines, some are put behind it.
+fn with_gaps(random: &mut Random, text: &[u8]) -> Vec<Vec<u8>> {
+    let mut all = lines(text);
+    let k = all.iter().filter(|l| l.starts_with(b"NETS")).count();
+    if !all.iter().any(|l| l.starts_with(b"GAP")) {
+        let first = 1 + random.below(k.max(1));
+        let channels = (1..=k.max(1)).filter(|c| *c == first || random.chance(2)).collect::<Vec<_>>();
+        all.extend(channels.iter().map(|c| format!("GAP\t{}\t{}\n", c, random.below(65)).into_bytes()));
+    }
+    all
+}
+
+/// A field of a `GAP` line with a channel or a floor at the end of its range, or beyond.
+fn gap_number(random: &mut Random, fields: &mut [Vec<u8>], n: usize, k: usize) {
+    let value = match n {
+        1 => [0, 1, k, k + 1, 9, 10, 9999][random.below(7)],
+        _ => [0, 1, 63, 64, 65, 66, 256, 9999][random.below(8)],
+    };
+    fields[n] = value.to_string().into_bytes();
+}
+
+fn ill_formed(random: &mut Random, fields: &mut [Vec<u8>], n: usize) {
+    match random.below(3) {
+        0 => fields[n].insert(0, b'0'),
+        1 => fields[n].insert(0, [b'+', b'-', b' ', b'.'][random.below(4)]),
+        _ => fields[n] = (10_000 + random.below(90_000)).to_string().into_bytes(),
+    }
+}
+
+fn other_fields(random: &mut Random, fields: &mut Vec<Vec<u8>>, n: usize) {
+    match random.below(3) {
+        0 => fields[n].clear(),
+        1 => {
+            fields.remove(n);
+        }
+        _ => fields.insert(n, fields[n].clone()),
+    }
+}
+
+/// The text, which gets `GAP` lines where it has none, with damage of one kind to them.
+fn gap_done(random: &mut Random, text: &[u8], kind: &str) -> Vec<u8> {
+    let mut all = with_gaps(random, text);
+    let whole = all.concat();
+    let k = all.iter().filter(|l| l.starts_with(b"NETS")).count();
+    let gaps: Vec<usize> = (0..all.len()).filter(|i| all[*i].starts_with(b"GAP")).collect();
+    let (at, other) = (gaps[random.below(gaps.len())], gaps[random.below(gaps.len())]);
+    match kind {
+        "GAP: another word" => all[at] = [WORDS[random.below(WORDS.len())].as_bytes(), &all[at][3..]].concat(),
+        "GAP: field emptied, dropped or doubled" => return with_field(random, &whole, "GAP", other_fields),
+        "GAP: ill-formed number" => return with_field(random, &whole, "GAP", |random, fields, n| ill_formed(random, fields, n)),
+        "GAP: channel or floor changed" => return with_field(random, &whole, "GAP", |random, fields, n| gap_number(random, fields, n, k)),
+        // A line again, behind itself, behind a later one or before itself.
+        "GAP: channel that does not rise" => all.insert(at + 1, all[other].clone()),
+        "GAP: moved up" => {
+            let moved = all.remove(at);
+            all.insert(random.below(gaps[0] + 1), moved);
+        }
+        "GAP: unended" => {
+            all.truncate(at + 1);
+            all[at].pop();
+        }
+        "GAP: a line behind it" => all.insert(at + 1, LINES[random.below(LINES.len())].as_bytes().to_vec()),
+        _ => {
+            let mut text = whole;
+            for _ in 0..2 + random.below(3) {
+                let one = ["GAP: channel or floor changed", "GAP: channel that does not rise", "GAP: ill-formed number"][random.below(3)];
+                text = gap_done(random, &text, one);
+            }
+            return text;
+        }
+    }
+    all.concat()
 }
 
 /// The text with damage of one kind.
@@ -171,8 +266,9 @@ pub fn done(random: &mut Random, text: &[u8], kind: usize) -> Vec<u8> {
             new = all.concat();
         }
         "cut short" => new.truncate(if random.chance(3) { text.len() - 1 } else { at }),
-        "run on" => new.extend([&b"\n"[..], b"\t", b"0", b"NETS\n", b"\0", b"NETS\t0\t0\n"][random.below(6)]),
-        _ => new = near_limit(random, text),
+        "run on" => new.extend([&b"\n"[..], b"\t", b"0", b"NETS\n", b"\0", b"NETS\t0\t0\n", b"GAP\t1\t2\n", b"GAP\t1\t2"][random.below(8)]),
+        "about 8,192 bytes" => new = near_limit(random, text),
+        kind => new = gap_done(random, text, kind),
     }
     new
 }

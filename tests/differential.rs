@@ -33,6 +33,25 @@ const USAGE: &str =
 /// Small stacks, middle ones, damaged texts, stacks at the limits and stacks for pages, unless told otherwise.
 const COUNTS: [u64; 5] = [4000, 1500, 50000, 50, 2000];
 
+/// What is counted and must have been met, in a run of at least the usual counts.
+const MET: [&str; 12] = [
+    "stacks with floors",
+    "stacks with a floor on a channel without pairs",
+    "stacks with a floor of 0 written",
+    "answers, total raised by a floor",
+    "answers, total not raised by a floor",
+    "pages, tracks above the pairs' own",
+    "trials, not legal by a floor alone",
+    "refusal 2 of a GAP line",
+    "refusal 2 of another line behind NETS",
+    "refusal 3 of a GAP line's channel",
+    "refusal 3 of a GAP line's floor",
+    "refusal 6 of a GAP line",
+];
+
+/// Longer than every table.
+const SPACE: usize = 45056;
+
 /// What was due and what was found, in words.
 type Checked = Result<(), String>;
 
@@ -126,6 +145,28 @@ fn drawn_page(stack: &Stack, answer: &solver::Answer, channel: usize) -> &'stati
     }
 }
 
+/// What is counted of a refusal at a line behind the last `NETS`.
+fn refused_gap(text: &[u8], r: Refusal) -> Option<&'static str> {
+    // A refusal behind the first line says that the first is good: its number is at byte 6.
+    if r.1 < 2 || r.1 <= 2 * (text[6] - b'0') as u32 + 2 {
+        return None;
+    }
+    let word = text.split(|b| *b == 10).nth(r.1 as usize - 1)?.split(|b| *b == 9).next()?;
+    match r {
+        (2, ..) if word == b"GAP" => Some("refusal 2 of a GAP line"),
+        (2, ..) => Some("refusal 2 of another line behind NETS"),
+        (3, _, 2) => Some("refusal 3 of a GAP line's channel"),
+        (3, _, 3) => Some("refusal 3 of a GAP line's floor"),
+        (6, _, 2) => Some("refusal 6 of a GAP line"),
+        _ => None,
+    }
+}
+
+/// The text of an accepted stack without its `GAP` lines, if it has any.
+fn without_gaps(text: &[u8]) -> Option<&[u8]> {
+    text.windows(4).position(|w| w == b"\nGAP").map(|at| &text[..=at])
+}
+
 /// The trial's verdict on eight separations and nine positions.
 fn judged(stack: &Stack, spread: u32, placement: &[u32; 17]) -> bool {
     let k = stack.channels.len();
@@ -133,6 +174,13 @@ fn judged(stack: &Stack, spread: u32, placement: &[u32; 17]) -> bool {
     let separations: Vec<usize> = placement[..k].iter().map(|t| *t as usize).collect();
     let positions: Vec<i64> = placement[8..=8 + k].iter().map(|x| *x as i64).collect();
     unused && solver::legal(stack, spread as i64, &separations, &positions)
+}
+
+fn plain_table(text: &[u8]) -> Result<Vec<u8>, String> {
+    let mut table = vec![0; SPACE];
+    let length = plain::table(text, &mut table).map_err(|r| format!("the plain program refuses: {:?}", r))?;
+    table.truncate(length);
+    Ok(table)
 }
 
 struct Run {
@@ -157,7 +205,7 @@ impl Run {
         for space in [length + 1 + more, length, length - 1, some, 0] {
             self.table_in(text, space, due)?;
         }
-        let mut output = vec![255; 32768];
+        let mut output = vec![255; SPACE];
         match (plain::table(text, &mut output), due) {
             (Ok(length), Ok(table)) if output[..length] == table[..] && output[length..].iter().all(|b| *b == 0) => Ok(()),
             (Err(found), Err(r)) if found == *r && output.iter().all(|b| *b == 0) => Ok(()),
@@ -189,8 +237,12 @@ impl Run {
                 let answer = answer.ok_or("no answer to draw a page from")?;
                 self.count("pages");
                 self.count(drawn_page(stack, answer, channel as usize));
-                if answer.separations[channel as usize - 1] >= 10 {
+                let t = answer.separations[channel as usize - 1];
+                if t >= 10 {
                     self.count("pages, numbers of two digits");
+                }
+                if t > stack.channels[channel as usize - 1].len() {
+                    self.count("pages, tracks above the pairs' own");
                 }
                 let drawn = std::panic::catch_unwind(|| page::page(stack, answer, spread as i64, channel as usize));
                 Ok(drawn.map_err(|_| format!("page {} at spread {} breaks a rule", channel, spread))?.into_bytes())
@@ -226,10 +278,36 @@ impl Run {
         if space[..8].iter().chain(&space[26..]).any(|v| *v != u32::MAX) {
             return Err(format!("answer at spread {}: numbers beside the space are changed", spread));
         }
+        self.raised(text, spread, &due)?;
         match plain::answer(text, spread) {
             found if found == due => Ok(()),
             found => Err(format!("the plain program's answer at spread {}: {:?}, due {:?}", spread, found, due)),
         }
+    }
+
+    /// Floors never lower a total: the plain program has that of the stack without them.
+    fn raised(&mut self, text: &[u8], spread: u32, due: &Result<[u32; 18], Refusal>) -> Checked {
+        let (Some(bare), Ok(due)) = (without_gaps(text), due) else {
+            return Ok(());
+        };
+        let without = plain::answer(bare, spread).map_err(|r| format!("the plain program refuses without GAP lines: {:?}", r))?;
+        if due[0] < without[0] {
+            return Err(format!("answer at spread {}: {} with floors, {} without", spread, due[0], without[0]));
+        }
+        self.count(if due[0] > without[0] { "answers, total raised by a floor" } else { "answers, total not raised by a floor" });
+        Ok(())
+    }
+
+    /// The trial of a placement of a stack.
+    fn try_on(&mut self, stack: &Stack, text: &[u8], spread: u32, placement: &[u32; 17]) -> Checked {
+        let legal = judged(stack, spread, placement);
+        if !legal && placement.iter().zip(&stack.floors).any(|(t, floor)| (*t as usize) < *floor) {
+            let bare = Stack { floors: vec![0; stack.floors.len()], ..stack.clone() };
+            if judged(&bare, spread, placement) {
+                self.count("trials, not legal by a floor alone");
+            }
+        }
+        self.trial(text, spread, placement, Ok(legal))
     }
 
     fn trial(&mut self, text: &[u8], spread: u32, placement: &[u32; 17], due: Result<bool, Refusal>) -> Checked {
@@ -265,9 +343,12 @@ impl Run {
             with(place, base[place].wrapping_add(1));
         }
         for (i, channel) in stack.channels.iter().enumerate() {
-            with(i, channel.len() as u32);
+            let floor = stack.floors[i] as u32;
+            for value in [channel.len() as u32, floor, floor.saturating_sub(1)] {
+                with(i, value);
+            }
         }
-        for value in [u32::MAX, 1 << 31, (1 << 31) - 1, 32, 33, 256] {
+        for value in [u32::MAX, 1 << 31, (1 << 31) - 1, 32, 33, 63, 64, 65, 256] {
             with(self.random.below(k), value);
             with(8 + self.random.below(k + 1), value);
         }
@@ -276,7 +357,7 @@ impl Run {
             with(place, [1, 255, 1 << 16, u32::MAX][self.random.below(4)]);
         }
         for (spread, placement) in all {
-            self.trial(text, spread, &placement, Ok(judged(stack, spread, &placement)))?;
+            self.try_on(stack, text, spread, &placement)?;
         }
         Ok(())
     }
@@ -286,7 +367,9 @@ impl Run {
         let k = stack.channels.len();
         let mut placement = [0; 17];
         for (i, channel) in stack.channels.iter().enumerate() {
-            placement[i] = self.random.below(channel.len() + 2) as u32;
+            // By the pairs, about the floor, or enough for both.
+            let (any, floor) = (self.random.below(channel.len() + 2), stack.floors[i]);
+            placement[i] = [any, (floor + self.random.below(3)).saturating_sub(1), any.max(floor)][self.random.below(3)] as u32;
         }
         for (i, length) in stack.lengths.iter().enumerate() {
             let room = (spread as i64 - length).clamp(0, 2000);
@@ -304,7 +387,7 @@ impl Run {
     fn placements(&mut self, stack: &Stack, text: &[u8], spread: u32, count: usize) -> Checked {
         for _ in 0..count {
             let placement = self.placement(stack, spread);
-            self.trial(text, spread, &placement, Ok(judged(stack, spread, &placement)))?;
+            self.try_on(stack, text, spread, &placement)?;
         }
         Ok(())
     }
@@ -360,9 +443,7 @@ impl Run {
         if reader::read(text).as_ref() != Ok(stack) {
             return Err("the reference reads another stack".to_string());
         }
-        let mut table = vec![0; 32768];
-        let length = plain::table(text, &mut table).map_err(|r| format!("the plain program refuses: {:?}", r))?;
-        table.truncate(length);
+        let table = plain_table(text)?;
         let row = |line: &[u8]| std::str::from_utf8(line).unwrap().split('\t').nth(1).unwrap().parse::<u32>().unwrap();
         let rows: Vec<u32> = table.split(|b| *b == 10).filter(|l| l.starts_with(b"ROW")).map(row).collect();
         self.table(text, &Ok(table))?;
@@ -391,6 +472,9 @@ impl Run {
             let due = plain::answer(text, spread as u32);
             self.answer(text, spread as u32, due)?;
             let answer = due.map(|due| unpadded(stack, &due)).map_err(|r| format!("the plain program refuses: {:?}", r))?;
+            if !solver::legal(stack, spread, &answer.separations, &answer.positions) {
+                return Err(format!("answer at spread {}: {:?} is not legal", spread, answer));
+            }
             for channel in 1..=k {
                 self.page(stack, text, spread as u32, channel, Some(&answer))?;
             }
@@ -412,9 +496,8 @@ impl Run {
         match &read {
             Ok(stack) => {
                 self.count("damaged texts, accepted");
-                let mut table = vec![0; 32768];
-                let length = plain::table(text, &mut table).map_err(|r| format!("the plain program refuses: {:?}", r))?;
-                table.truncate(length);
+                let table = plain_table(text)?;
+                let length = table.len();
                 self.table_in(text, length + 9, &Ok(table.clone()))?;
                 self.table_in(text, length - 1, &Ok(table))?;
                 let due = plain::answer(text, spread);
@@ -433,6 +516,9 @@ impl Run {
                     5 => "refusal 5",
                     _ => "refusal 6",
                 });
+                if let Some(what) = refused_gap(text, *r) {
+                    self.count(what);
+                }
                 self.table(text, &Err(*r))?;
                 self.answer(text, spread, Err(*r))?;
                 self.count("pages, text refused");
@@ -487,7 +573,7 @@ impl Run {
             let q = edge(&mut self.random, lengths[i + 1], !left);
             channels.push(p.into_iter().zip(q).collect());
         }
-        Stack { lengths, channels }
+        self.random.with_floors(lengths, channels)
     }
 
     /// Up to eight channels of up to 32 pairs between strips that a page can show, most of them near the greatest length.
@@ -497,7 +583,7 @@ impl Run {
         let least = [1, longest, longest - longest / 4][self.random.below(3)];
         let lengths: Vec<i64> = (0..=k).map(|_| self.random.between(least, longest)).collect();
         let channels = lengths.windows(2).map(|l| self.channel_for_pages(l[0], l[1])).collect();
-        Stack { lengths, channels }
+        self.random.with_floors(lengths, channels)
     }
 
     /// A channel whose paths go far right, far left, apart, together, anywhere, or rise at nearly each column.
@@ -588,6 +674,19 @@ fn check_page_specimens(run: &mut Run) {
     }
 }
 
+/// What is counted of a stack's floors.
+fn count_floors(run: &mut Run, stack: &Stack, text: &[u8]) {
+    if stack.floors.iter().any(|f| *f > 0) {
+        run.count("stacks with floors");
+    }
+    if stack.floors.iter().zip(&stack.channels).any(|(f, c)| *f > 0 && c.is_empty()) {
+        run.count("stacks with a floor on a channel without pairs");
+    }
+    if text.split(|b| *b == 10).any(|l| l.starts_with(b"GAP") && l.ends_with(b"\t0")) {
+        run.count("stacks with a floor of 0 written");
+    }
+}
+
 /// So many random stacks of a kind, each compared; their texts are kept.
 fn compare_stacks(
     run: &mut Run,
@@ -599,11 +698,28 @@ fn compare_stacks(
 ) {
     for _ in 0..count {
         let stack = make(run);
-        let text = random::text(&stack);
+        let text = run.random.text(&stack);
         run.count(names[1]);
+        count_floors(run, &stack, &text);
         let checked = check(run, &stack, &text);
         expect(names[0], &text, checked);
         texts.push(text);
+    }
+}
+
+/// So many texts damaged, each compared.
+fn compare_damaged(run: &mut Run, count: u64, bases: &[Vec<u8>]) {
+    for n in 0..count as usize {
+        let base = run.random.below(bases.len());
+        let kind = n % damage::KINDS.len();
+        let mut text = damage::done(&mut run.random, &bases[base], kind);
+        if run.random.chance(8) {
+            let more = run.random.below(damage::KINDS.len());
+            text = damage::done(&mut run.random, &text, more);
+        }
+        run.count(damage::KINDS[kind]);
+        let checked = run.damaged(&text);
+        expect(damage::KINDS[kind], &text, checked);
     }
 }
 
@@ -630,20 +746,14 @@ fn main() {
     if bases.is_empty() {
         bases.push(specimens::tabbed(specimens::TABLES[1].1).into_bytes());
     }
-    for n in 0..counts[2] as usize {
-        let base = run.random.below(bases.len());
-        let kind = n % damage::KINDS.len();
-        let mut text = damage::done(&mut run.random, &bases[base], kind);
-        if run.random.chance(8) {
-            let more = run.random.below(damage::KINDS.len());
-            text = damage::done(&mut run.random, &text, more);
-        }
-        run.count(damage::KINDS[kind]);
-        let checked = run.damaged(&text);
-        expect(damage::KINDS[kind], &text, checked);
-    }
+    compare_damaged(&mut run, counts[2], &bases);
     for (what, count) in &run.counts {
         println!("{:>9} {}", count, what);
+    }
+    let usual = counts.iter().zip(COUNTS).all(|(given, usual)| *given >= usual);
+    if let Some(what) = MET.iter().find(|what| usual && !run.counts.contains_key(*what)) {
+        println!("never met: {}", what);
+        std::process::exit(1);
     }
     println!("seed {}: no difference", seed);
 }
