@@ -40,7 +40,7 @@ fn table_in(text: &[u8], space: usize) -> (u64, Vec<u8>) {
 /// A table with zeros behind it in every longer space, and short space with zeros in every shorter one.
 fn check_table(name: &str, text: &[u8], table: &str) {
     let length = table.len();
-    for space in [0, 1, length - 1, length, length + 1, length + 100, 21082] {
+    for space in [0, 1, length - 1, length, length + 1, length + 100, 42074] {
         let due = if space < length {
             (code((8, 0, 0)), vec![0; space])
         } else {
@@ -60,7 +60,7 @@ fn page_in(text: &[u8], spread: u32, channel: u32, space: usize) -> (u64, Vec<u8
 /// A page with zeros behind it in every longer space, and short space with zeros in every shorter one; or its refusal in every space.
 fn check_page(name: &str, text: &str, spread: u32, channel: u32, due: Result<String, Refusal>) {
     let length = due.as_ref().map_or(69, |page| page.len());
-    for space in [0, 1, length - 1, length, length + 1, 2277, 3000] {
+    for space in [0, 1, length - 1, length, length + 1, 4485, 5000] {
         let due = match &due {
             Err(r) => (code(*r), vec![0; space]),
             Ok(_) if space < length => (code((8, 0, 0)), vec![0; space]),
@@ -134,6 +134,108 @@ fn long_text(bytes: usize) -> Vec<u8> {
     text.resize(bytes, b'\n');
     text
 }
+
+/// `GAP` lines of channels from 1 on.
+fn gaps(floors: &[u32]) -> String {
+    floors.iter().enumerate().map(|(i, floor)| format!("GAP\t{}\t{}\n", i + 1, floor)).collect()
+}
+
+/// Lines behind A, of one channel: the first is line 5. Spaces stand for tabs.
+const BEHIND_A: [(&str, &str, Refusal); 43] = [
+    ("another word", "GOP 1 1\n", (2, 5, 0)),
+    ("lower case", "gap 1 1\n", (2, 5, 0)),
+    ("a longer word", "GAPS 1 1\n", (2, 5, 0)),
+    ("a shorter word", "GA 1 1\n", (2, 5, 0)),
+    ("FIX", "FIX 4 NETS\n", (2, 5, 0)),
+    ("GAP alone", "GAP\n", (2, 5, 0)),
+    ("GAP with one number", "GAP 1\n", (2, 5, 0)),
+    ("GAP with three numbers", "GAP 1 1 1\n", (2, 5, 0)),
+    ("GAP with a tab behind", "GAP 1 1 \n", (2, 5, 0)),
+    ("GAP with a tab before", " GAP 1 1\n", (2, 5, 0)),
+    ("GAP with an empty channel", "GAP  1\n", (2, 5, 0)),
+    ("GAP with an empty floor", "GAP 1 \n", (2, 5, 0)),
+    ("GAP with two tabs", "GAP  \n", (2, 5, 0)),
+    ("channel with a leading zero", "GAP 01 1\n", (2, 5, 0)),
+    ("floor with a leading zero", "GAP 1 01\n", (2, 5, 0)),
+    ("floor 00", "GAP 1 00\n", (2, 5, 0)),
+    ("channel with five digits", "GAP 10000 1\n", (2, 5, 0)),
+    ("floor with five digits", "GAP 1 10000\n", (2, 5, 0)),
+    ("channel with a sign", "GAP +1 1\n", (2, 5, 0)),
+    ("floor below 0", "GAP 1 -1\n", (2, 5, 0)),
+    ("floor with a letter", "GAP 1 1x\n", (2, 5, 0)),
+    ("an empty line", "\n", (2, 5, 0)),
+    ("unended GAP", "GAP 1 1", (2, 5, 0)),
+    ("unended word", "GAP", (2, 5, 0)),
+    ("channel 0", "GAP 0 1\n", (3, 5, 2)),
+    ("channel 2 of 1", "GAP 2 1\n", (3, 5, 2)),
+    ("channel 9,999", "GAP 9999 1\n", (3, 5, 2)),
+    ("floor 65", "GAP 1 65\n", (3, 5, 3)),
+    ("floor 9,999", "GAP 1 9999\n", (3, 5, 3)),
+    ("channel before floor", "GAP 0 65\n", (3, 5, 2)),
+    ("channel before floor", "GAP 2 9999\n", (3, 5, 2)),
+    ("layout before channel", "GAP 0\n", (2, 5, 0)),
+    ("layout before channel and floor", "GAP 0 065\n", (2, 5, 0)),
+    ("unended before channel and floor", "GAP 2 65", (2, 5, 0)),
+    ("equal channels", "GAP 1 1\nGAP 1 1\n", (6, 6, 2)),
+    ("equal channels, floors 0", "GAP 1 0\nGAP 1 0\n", (6, 6, 2)),
+    ("floor before equal channels", "GAP 1 1\nGAP 1 65\n", (3, 6, 3)),
+    ("layout before equal channels", "GAP 1 1\nGAP 1\n", (2, 6, 0)),
+    ("equal channels before a later floor", "GAP 1 1\nGAP 1 1\nGAP 1 65\n", (6, 6, 2)),
+    ("floor before a later line", "GAP 1 65\nNETS\n", (3, 5, 3)),
+    ("NETS behind GAP", "GAP 1 1\nNETS\n", (2, 6, 0)),
+    ("an empty line behind GAP", "GAP 1 1\n\n", (2, 6, 0)),
+    ("an unended GAP behind GAP", "GAP 1 1\nGAP 2 1", (2, 6, 0)),
+];
+
+/// Lines behind B, of two channels: the first is line 7. Spaces stand for tabs.
+const BEHIND_B: [(&str, &str, Refusal); 13] = [
+    ("channel 3 of 2", "GAP 3 1\n", (3, 7, 2)),
+    ("falling channels", "GAP 2 1\nGAP 1 1\n", (6, 8, 2)),
+    ("equal channels", "GAP 2 1\nGAP 2 2\n", (6, 8, 2)),
+    ("channel 3 behind 1", "GAP 1 1\nGAP 3 1\n", (3, 8, 2)),
+    ("channel 0 behind 2", "GAP 2 1\nGAP 0 1\n", (3, 8, 2)),
+    ("floor before falling channels", "GAP 2 1\nGAP 1 65\n", (3, 8, 3)),
+    ("channel before floor behind 2", "GAP 2 1\nGAP 3 65\n", (3, 8, 2)),
+    ("floor of the second", "GAP 1 64\nGAP 2 65\n", (3, 8, 3)),
+    ("a third that does not rise", "GAP 1 1\nGAP 2 1\nGAP 2 0\n", (6, 9, 2)),
+    ("a third that is none", "GAP 1 1\nGAP 2 1\nGAP 3 0\n", (3, 9, 2)),
+    ("another word as a third", "GAP 1 1\nGAP 2 1\nROW 4\n", (2, 9, 0)),
+    ("layout before falling channels", "GAP 2\nGAP 1 1\n", (2, 7, 0)),
+    ("falling channels before layout", "GAP 2 1\nGAP 1 1\nGAP\n", (6, 8, 2)),
+];
+
+/// Texts refused for a `GAP` line or where it stands, or before it for something else.
+fn refused_gaps() -> Vec<(&'static str, Vec<u8>, Refusal)> {
+    let b = specimens::tabbed(specimens::TABLES[1].1);
+    let behind = |text: &str, lines: &str| [text.as_bytes(), specimens::tabbed(lines).as_bytes()].concat();
+    let mut all = Vec::new();
+    all.extend(BEHIND_A.map(|(name, lines, due)| (name, behind(A, lines), due)));
+    all.extend(BEHIND_B.map(|(name, lines, due)| (name, behind(&b, lines), due)));
+    for (name, text, due) in &specimens::TABLES[4..8] {
+        let due: Vec<u32> = due.split_whitespace().map(|n| n.parse().expect("a number")).collect();
+        all.push((*name, behind(&specimens::tabbed(text), "GAP 0 65\nGAP\n"), (due[0], due[1], due[2])));
+    }
+    let eight = bare(8, 1) + &gaps(&[0; 8]);
+    all.push(("a ninth GAP line, channel 9", behind(&eight, "GAP 9 0\n"), (3, 27, 2)));
+    all.push(("a ninth GAP line, channel 8", behind(&eight, "GAP 8 0\n"), (6, 27, 2)));
+    all.push(("eight GAP lines and another word", behind(&eight, "NETS\n"), (2, 27, 0)));
+    all.push(("GAP for PART", with_line(3, "GAP\t1\t1"), (2, 3, 0)));
+    all.push(("GAP for NETS", with_line(4, "GAP\t1\t1"), (2, 4, 0)));
+    all.push(("GAP before NETS", with_line(4, "GAP\t1\t1\nNETS\t0\t2\t2\t4"), (2, 4, 0)));
+    all.push(("GAP before each NETS", b.replace("NETS", "GAP\t1\t1\nNETS").into_bytes(), (2, 5, 0)));
+    all.push(("GAP before the last NETS", bare(2, 4).replace("NETS\nNETS", "NETS\nGAP\t1\t1\nNETS").into_bytes(), (2, 6, 0)));
+    let many = behind(A, &"GAP 1 0\n".repeat(1100));
+    all.push(("8,192 bytes of GAP lines", many[..8192].to_vec(), (6, 6, 2)));
+    all.push(("8,193 bytes of GAP lines", many[..8193].to_vec(), (1, 0, 0)));
+    for (name, byte) in ODD_BYTES {
+        for line in ["?GAP\t1\t1", "GAP?\t1\t1", "GAP\t?\t1", "GAP\t1?\t1", "GAP\t1\t1?"] {
+            all.push((name, with_byte(4, &format!("NETS\n{}", line), byte), (2, 5, 0)));
+        }
+    }
+    all
+}
+
+const ODD_BYTES: [(&str, u8); 4] = [("byte 0", 0), ("byte 13", 13), ("byte 32", 32), ("byte 255", 255)];
 
 /// Texts that document 01 refuses: number, line and field.
 fn refused() -> Vec<(&'static str, Vec<u8>, Refusal)> {
@@ -210,7 +312,7 @@ fn refused() -> Vec<(&'static str, Vec<u8>, Refusal)> {
         ("eight channels, one PART less", format!("STACK\t8\n{}{}", "PART\t1\n".repeat(8), "NETS\n".repeat(8)).into_bytes(), (2, 10, 0)),
         ("eight channels, an extra line", (bare(8, 1) + "NETS\n").into_bytes(), (2, 19, 0)),
     ];
-    for (name, byte) in [("byte 0", 0), ("byte 13", 13), ("byte 32", 32), ("byte 255", 255)] {
+    for (name, byte) in ODD_BYTES {
         all.push((name, with_byte(1, "STACK\t1?", byte), (2, 1, 0)));
         all.push((name, with_byte(1, "STAC?\t1", byte), (2, 1, 0)));
         all.push((name, with_byte(2, "PART\t4?", byte), (2, 2, 0)));
@@ -232,6 +334,13 @@ fn accepted() -> Vec<(&'static str, Vec<u8>, String)> {
     let zeros = "\t0".repeat(8 + 9 + 1);
     all.push(("eight channels of length 1,000", bare(8, 1000).into_bytes(), format!("TABLE\t8\nROW\t1000{}\n", zeros)));
     all.push(("eight channels of length 1", bare(8, 1).into_bytes(), format!("TABLE\t8\nROW\t1{}\n", zeros)));
+    let positions = "\t0".repeat(9);
+    let highest = (bare(8, 1) + &gaps(&[64; 8])).into_bytes();
+    all.push(("eight floors of 64", highest, format!("TABLE\t8\nROW\t1\t512{}{}\n", "\t64".repeat(8), positions)));
+    let rising = (bare(8, 1000) + &gaps(&[1, 2, 3, 4, 5, 6, 7, 8])).into_bytes();
+    all.push(("floors 1 to 8", rising, format!("TABLE\t8\nROW\t1000\t36\t1\t2\t3\t4\t5\t6\t7\t8{}\n", positions)));
+    let full = (specimens::tabbed(&specimens::pairs(32)) + &gaps(&[33])).into_bytes();
+    all.push(("32 pairs, floor 33", full, "TABLE\t1\nROW\t40\t33\t33\t0\t0\n".to_string()));
     all
 }
 
@@ -276,6 +385,65 @@ fn check_answers() {
     check_answer("D", &d, 1, 1, &[1], &[0, 0]);
     for spread in [2, 3, u32::MAX] {
         check_answer("D", &d, spread, 0, &[0], &[0, 1]);
+    }
+}
+
+/// Answers with floors at their rows, between and past them.
+fn check_floors() {
+    let b = specimens::tabbed(specimens::TABLES[1].1);
+    let with = |text: &str, lines: &str| text.to_string() + &specimens::tabbed(lines);
+    let all = [(4, 2, 0), (5, 1, 1), (6, 1, 1), (7, 1, 1), (u32::MAX, 1, 1)];
+    for (spread, total, position) in all {
+        check_answer("A, floor 1", &with(A, "GAP 1 1\n"), spread, total, &[total], &[position, 0]);
+    }
+    for (spread, floor) in [(4, 2), (5, 2), (6, 3), (100, 64), (u32::MAX, 64)] {
+        check_answer("A, floor 2 and more", &with(A, &format!("GAP 1 {}\n", floor)), spread, floor, &[floor], &[0, 0]);
+    }
+    check_answer("A, floor 0", &with(A, "GAP 1 0\n"), 6, 0, &[0], &[2, 0]);
+    check_narrow("A, floor 64", &with(A, "GAP 1 64\n"), 3);
+    for (spread, total, separations, positions) in [
+        (4, 4, [2, 2], [0, 0, 0]),
+        (5, 3, [1, 2], [1, 0, 0]),
+        (6, 2, [1, 1], [2, 1, 0]),
+        (7, 1, [1, 0], [3, 2, 0]),
+        (8, 1, [1, 0], [3, 2, 0]),
+        (u32::MAX, 1, [1, 0], [3, 2, 0]),
+    ] {
+        check_answer("B, floor 1 below", &with(&b, "GAP 1 1\n"), spread, total, &separations, &positions);
+    }
+    for (spread, total, separations, positions) in [(4, 5, [2, 3], [0, 0, 0]), (5, 4, [1, 3], [1, 0, 0]), (6, 3, [0, 3], [2, 0, 0])] {
+        check_answer("B, floor 3 above", &with(&b, "GAP 2 3\n"), spread, total, &separations, &positions);
+    }
+    check_answer("no pairs, floor 7", &(bare(1, 3) + &gaps(&[7])), 3, 7, &[7], &[0, 0]);
+    check_answer("eight floors of 64", &(bare(8, 1) + &gaps(&[64; 8])), 1, 512, &[64; 8], &[0; 9]);
+}
+
+/// Trials of separations at a floor, below it and above.
+fn check_floor_trials() {
+    let judge = |name: &str, text: &str, spread: u32, separations: &[u32], positions: &[u32], due: u64| {
+        let mut placement = [0; 17];
+        placement[..separations.len()].copy_from_slice(separations);
+        placement[8..8 + positions.len()].copy_from_slice(positions);
+        same(name, text.as_bytes(), library::try_placement(text.as_bytes(), spread, &placement), due);
+    };
+    let floor = |floor: u32| A.to_string() + &gaps(&[floor]);
+    judge("at floor 0", &floor(0), 6, &[0], &[2, 0], 1);
+    judge("below floor 1", &floor(1), 6, &[0], &[2, 0], 2);
+    judge("at floor 1", &floor(1), 6, &[1], &[2, 0], 1);
+    judge("at floor 1 where the pairs need more", &floor(1), 6, &[1], &[0, 0], 2);
+    judge("at floor 2", &floor(2), 4, &[2], &[0, 0], 1);
+    for (t, due) in [(0, 2), (2, 2), (62, 2), (63, 2), (64, 1), (65, 1), (u32::MAX, 1)] {
+        judge("floor 64", &floor(64), 4, &[t], &[0, 0], due);
+        judge("floor 64, a narrow spread", &floor(64), 3, &[t], &[0, 0], 2);
+        judge("floor 64, no pairs", &(bare(1, 4) + &gaps(&[64])), 4, &[t], &[0, 0], due);
+    }
+    judge("a floor in an unused place", &floor(64), 4, &[64, 64], &[0, 0], 2);
+    let eight = bare(8, 1) + &gaps(&[64; 8]);
+    judge("eight floors of 64", &eight, 1, &[64; 8], &[0; 9], 1);
+    for channel in 0..8 {
+        let mut separations = [64; 8];
+        separations[channel] = 63;
+        judge("one of eight below its floor", &eight, 1, &separations, &[0; 9], 2);
     }
 }
 
@@ -341,6 +509,37 @@ fn bundle(m: usize, right: bool) -> (String, Vec<String>) {
     (text, lines)
 }
 
+/// The lines of a page of two tracks or more when its channel gets t tracks: behind the former last track the paths go straight up.
+fn taller(lines: &[&str], t: usize) -> Vec<String> {
+    let ends = &lines[0][4..];
+    let mut all = vec![format!("{:>3} {}", t, ends)];
+    all.extend((lines.len() - 1..t).rev().map(|track| format!("{:>3} {}", track, ends.replace('o', "|"))));
+    all.extend(lines[1..].iter().map(|l| l.to_string()));
+    all
+}
+
+/// Pages of channels whose floor is above what their pairs need, up to 65 lines.
+fn check_tall_pages() {
+    let check = |name: &str, text: &str, spread: u32, t: usize, lines: &[&str]| {
+        let lines = taller(lines, t);
+        let lines: Vec<&str> = lines.iter().map(|l| &l[..]).collect();
+        same(name, text.as_bytes(), lines.len(), t + 1);
+        check_page(name, text, spread, 1, Ok(specimens::page(&lines)));
+    };
+    for t in [3, 9, 10, 33, 63, 64] {
+        check("A", &(A.to_string() + &gaps(&[t])), 6, t as usize, &["  2 ..o.o", "  1 .++.|", "  0 o+o-+"]);
+        let empty: Vec<String> = (0..=t).rev().map(|track| format!("{:>3} ", track)).collect();
+        let empty: Vec<&str> = empty.iter().map(|l| &l[..]).collect();
+        check_page("no pairs", &(bare(1, 5) + &gaps(&[t])), 63, 1, Ok(specimens::page(&empty)));
+    }
+    for (m, right, t) in [(9, true, 10), (10, false, 64), (32, true, 33), (32, true, 64), (32, false, 64)] {
+        let (text, lines) = bundle(m, right);
+        let lines: Vec<&str> = lines.iter().map(|l| &l[..]).collect();
+        check("bundle", &(text + &gaps(&[t])), 2 * m as u32 - 1, t as usize, &lines);
+    }
+    same("the longest page", A.as_bytes(), page_in((A.to_string() + &gaps(&[64])).as_bytes(), 4, 1, 4485).0, 65 * 69);
+}
+
 /// The pages of the specimens; then pages of the last column, without pairs, of two digits and of 33 lines.
 fn check_pages() {
     for (name, text, spread, channel, due) in specimens::PAGES {
@@ -380,7 +579,8 @@ fn check_page_refusals() {
 }
 
 fn main() {
-    let (refused, accepted) = (refused(), accepted());
+    let (mut refused, accepted) = (refused(), accepted());
+    refused.extend(refused_gaps());
     for (name, text, due) in &refused {
         check_refused(name, text, *due);
     }
@@ -392,9 +592,12 @@ fn main() {
     same("A's table in 49 bytes", A.as_bytes(), table_in(A.as_bytes(), 49), (code((8, 0, 0)), vec![0; 49]));
     check_reused_space();
     check_answers();
+    check_floors();
     check_trials();
+    check_floor_trials();
     check_spaces();
     check_pages();
+    check_tall_pages();
     check_page_refusals();
     println!(
         "entries: {} refused texts, {} tables, answers, trials and pages of the specimens: no difference",
