@@ -15,7 +15,7 @@ const USAGE: &str = "usage: bench report COUNTS STACK..       tables and answers
        bench repeat PROGRAM JOB COUNT STACK    (proved or plain; table, answer or page)";
 
 /// Longer than every table.
-const SPACE: usize = 45056;
+const SPACE: usize = 24576;
 /// As long as the longest page.
 const PAGE_SPACE: usize = 4485;
 const SAMPLES: usize = 31;

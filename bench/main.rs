@@ -24,7 +24,7 @@ fn refusal_text(r: solver::Refusal) -> Vec<u8> {
 
 /// What is written into a space long enough, or the refusal's line.
 fn written(write: impl FnOnce(&mut [u8]) -> Result<usize, solver::Refusal>) -> Vec<u8> {
-    let mut space = vec![0; 45056];
+    let mut space = vec![0; 32768];
     match write(&mut space) {
         Ok(length) => space[..length].to_vec(),
         Err(r) => refusal_text(r),

@@ -50,7 +50,7 @@ const MET: [&str; 12] = [
 ];
 
 /// Longer than every table.
-const SPACE: usize = 45056;
+const SPACE: usize = ;
 
 /// What was due and what was found, in words.
 type Checked = Result<(), String>;

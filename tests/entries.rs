@@ -40,7 +40,7 @@ fn table_in(text: &[u8], space: usize) -> (u64, Vec<u8>) {
 /// A table with zeros behind it in every longer space, and short space with zeros in every shorter one.
 fn check_table(name: &str, text: &[u8], table: &str) {
     let length = table.len();
-    for space in [0, 1, length - 1, length, length + 1, length + 100, 42074] {
+    for space in [0, 1, length - 1, length, length + 1, length + 100, 21082] {
         let due = if space < length {
             (code((8, 0, 0)), vec![0; space])
         } else {
