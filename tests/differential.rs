@@ -50,7 +50,7 @@ const MET: [&str; 12] = [
 ];
 
 /// Longer than every table.
-const SPACE: usize = ;
+const SPACE: usize = 32768;
 
 /// What was due and what was found, in words.
 type Checked = Result<(), String>;
