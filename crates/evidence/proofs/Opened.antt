@@ -29,16 +29,17 @@ unfoldable pub reading : List String → Stack
 unfolding byte-shown line-shown text-shown stacks.pair stacks.stack
     lines.line lines.to-front lines.lines lines.no-line lines.line-at lines.into-field lines.fields lines.word-of lines.number-fields lines.same-bytes
     lines.has-word lines.is-digit lines.all-digits lines.is-number lines.ill-formed lines.value-of lines.value lines.values lines.numbers-of tabulate
-    texts.refusal texts.fine texts.or-else texts.stack-word texts.part-word texts.nets-word texts.kind texts.exactly texts.in-pairs texts.stack-kind
-    texts.part-kind texts.nets-kind texts.layout texts.entry texts.first-of texts.fault-at texts.supplied texts.part-content texts.terminals-refusal
-    texts.nets-content texts.check texts.k-of texts.head-refusal texts.head-check texts.part-check texts.length-at texts.nets-check texts.tail-at
-    texts.tail-check texts.checks texts.in-turn texts.text-refusal texts.file texts.file-in texts.pairs-of texts.stack-in-file texts.stack-in
+    texts.refusal texts.fine texts.or-else texts.stack-word texts.part-word texts.nets-word texts.gap-word texts.kind texts.exactly texts.in-pairs texts.stack-kind
+    texts.part-kind texts.nets-kind texts.gap-kind texts.layout texts.entry texts.first-of texts.second-of texts.fault-at texts.supplied texts.part-content
+    texts.terminals-refusal texts.nets-content texts.gap-content texts.check texts.k-of texts.head-refusal texts.head-check texts.part-check texts.length-at
+    texts.nets-check texts.tail-at texts.tail-count texts.channel-before texts.tail-check texts.checks texts.in-turn texts.text-refusal texts.file
+    texts.file-in texts.pairs-of texts.floor-in texts.stack-in-file texts.stack-in
 reading t = texts.stack-in (text-shown t)
 
 unfoldable pub replying : List ℕ → (s space : ℕ) → (ts xs : List ℕ) → Spread-reply × Table-reply × Bool
-unfolding stacks.p-at stacks.q-at stacks.every stacks.left-good stacks.right-good stacks.feasible stacks.in-spread stacks.channels-good stacks.legal
+unfolding stacks.p-at stacks.q-at stacks.every stacks.left-good stacks.right-good stacks.wirable stacks.feasible stacks.in-spread stacks.channels-good stacks.legal
     stacks.sum stacks.longest stacks.row stacks.total
-    limits.low-term limits.high-term limits.greatest limits.least limits.low-limit limits.high-limit spans.last spans.low-at spans.high-at
+    limits.low-term limits.high-term limits.greatest limits.least limits.low-limit limits.high-limit limits.from-floor limits.low-floored limits.high-floored spans.last spans.low-at spans.high-at
     spans.gather solver.first solver.first-open solver.most solver.cell solver.back solver.first-total solver.least-total solver.serves
     solver.first-serving solver.forward solver.separations solver.fixed solver.positions-on solver.lowest solver.positions limits-from
     solve.window solve.channel-limits solve.stack-levels solve.bottom solve.levels-of solve.total-with solve.separations-with solve.positions-with

@@ -1,9 +1,9 @@
 -- Wrong versions break the promises, each on a specimen: what such a version returns is not the specimen's reply. Document 01, "Reviewer's checklist" and
--- "Traps in the work"; document 02, P1. Assumes nothing.
+-- "Traps in the work"; document 02, P1 and P2. Assumes nothing.
 use mathlib.Core.Path.{_≡_, refl, sym, ap, _∙_}
 use mathlib.Core.Bool.{true, false}
 use mathlib.Core.List.{List, [], _∷_, _++_}
-use Prim.Native.Nat.{ℕ, zero, suc, _+_, _-_}
+use Prim.Native.Nat.{ℕ, zero, suc, _+_, _-_, _<_}
 use native.Mathlib.Omega.{arith}
 use native.Mathlib.Nat.{zero-add}
 use lib.ListN.{length, replicate}
@@ -13,6 +13,9 @@ use Rattle.numbers.specs.Lists.{padded}
 use Rattle.stack.specs.Value.{tracks-of}
 use Rattle.numbers.proofs.Bools.{impossible}
 use Rattle.stack.specs.Stack.{Stack, in-spread, longest, sum}
+use Rattle.stack.specs.Limits.{rises-above, rising, all-rising}
+use Rattle.table.proofs.Space.{floors, answer-floors}
+use Rattle.routing.proofs.Drawable.{legal-drawable}
 use Rattle.routing.specs.Paths as paths
 use Rattle.routing.specs.Paths.{point, Drawable}
 use Rattle.lines.specs.Lines.{same-bytes}
@@ -23,8 +26,8 @@ use Rattle.nabetsu.specs.Best.{Spread-best}
 use Rattle.nabetsu.specs.Pages.{Page-says}
 use Rattle.nabetsu.specs.declared.SpreadAnswer.{SpreadAnswer}
 use Rattle.nabetsu.specs.declared.TableAnswer.{TableAnswer}
-use Rattle.evidence.specs.Specimens.{text-shown, Specimen, spread-gives, table-gives, table-refused, page-gives, page-shown, page-a, Holds, All-hold, text-a, table-a, text-b, text-c, table-c, text-d, table-d, text-e, text-between, specimens, Specimens-right}
-use Rattle.evidence.proofs.Opened.{reading, showing}
+use Rattle.evidence.specs.Specimens.{text-shown, Specimen, spread-gives, table-gives, table-refused, page-gives, page-shown, page-a, Holds, All-hold, text-a, table-a, text-b, text-c, table-c, text-d, table-d, text-e, text-between, text-a-3, text-512, specimens, Specimens-right}
+use Rattle.evidence.proofs.Opened.{reading, replying, showing}
 use Rattle.evidence.proofs.Specimens.{specimens-right}
 
 -- THE SPECIMENS that are cited
@@ -91,6 +94,10 @@ a-page-at-4 : Holds (page-gives text-a 4 1 207 page-a)
 unfolding specimens Entry-holds
 a-page-at-4 = specimen 43
 
+a-3-at-4 : Holds (spread-gives text-a-3 4 3 (3 ∷ []) (0 ∷ 0 ∷ []))
+unfolding specimens Entry-holds
+a-3-at-4 = specimen 75
+
 -- bytes that differ
 bytes-same : (a : List ℕ) → same-bytes a a ≡ true
 unfolding same-bytes
@@ -109,7 +116,7 @@ a-drawn : Drawable (stack-in (text-shown text-a)) 100 (0 ∷ []) (2 ∷ 0 ∷ []
 unfolding reading in-spread point paths.same-column paths.same-point paths.chain paths.is-path paths.on-path paths.apart paths.apart-from-all
     paths.none-meet paths.all-paths paths.Channels-drawn
 a-drawn =
-    record { within = refl; drawn = (record { paths = (point (pos 2) 0 ∷ []) ∷ (point (pos 4) 0 ∷ []) ∷ []; led = refl; clear = refl }, refl) }
+    record { within = refl; drawn = (omega arith, record { paths = (point (pos 2) 0 ∷ []) ∷ (point (pos 4) 0 ∷ []) ∷ []; led = refl; clear = refl }, refl) }
 
 pub full-count-not-least : (r : SpreadAnswer) → r .total .0 ≡ 2 → Spread-best (text-shown text-a) 100 r → ⊥
 unfolding reading spread-refusal narrow-refusal longest sum
@@ -210,3 +217,35 @@ pub dropped-piece-breaks : (r : TableAnswer) (o x : List ℕ) → length o ≡ 2
     x ≡ page-shown ("  2 " ∷ "  1 .+o" ∷ "  0 o+o-o" ∷ []) → Page-says (text-shown text-a) 4 1 r o x → ⊥
 unfolding Holds reading showing
 dropped-piece-breaks r o x l w a = differ _ _ refl (sym w ∙ a-page-at-4 r o x l .0 a .1)
+
+-- THE FLOOR IGNORED: the answer of A at spread 4 is smaller than that of A with floor 3 and can be drawn in A, but it does not count: with the floor it can't be
+-- drawn, and it is not the answer
+a-drawn-at-4 : Drawable (stack-in (text-shown text-a)) 4 (2 ∷ []) (0 ∷ 0 ∷ [])
+unfolding reading replying all-rising rising rises-above
+a-drawn-at-4 = legal-drawable (stack-in (text-shown text-a)) 4 (2 ∷ []) (0 ∷ 0 ∷ []) refl refl
+
+pub smaller-drawn-without-floor : (r : SpreadAnswer) → Spread-says (text-shown text-a-3) 4 r → Drawable (stack-in (text-shown text-a)) 4 (2 ∷ []) (0 ∷ 0 ∷ []) × (2 < r .total .0)
+unfolding Holds placed-is
+smaller-drawn-without-floor r a = (a-drawn-at-4, omega (arith, a-3-at-4 r .0 a .1))
+
+pub not-drawn-with-floor : Drawable (stack-in (text-shown text-a-3)) 4 (2 ∷ []) (0 ∷ 0 ∷ []) → ⊥
+unfolding reading paths.Channels-drawn
+not-drawn-with-floor d = omega (arith, d .drawn .0)
+
+pub floor-ignored-breaks : (r : SpreadAnswer) → tracks-of (r .separations) ≡ padded 8 (2 ∷ []) → Spread-says (text-shown text-a-3) 4 r → ⊥
+unfolding Holds placed-is padded same-bytes
+floor-ignored-breaks r w a = differ (padded 8 (2 ∷ [])) (padded 8 (3 ∷ [])) refl (sym w ∙ a-3-at-4 r .0 a .2)
+
+-- THE FLOOR ADDED to the separation that the pairs need: 2 and 3
+pub floor-added-breaks : (r : SpreadAnswer) → tracks-of (r .separations) ≡ padded 8 (5 ∷ []) → Spread-says (text-shown text-a-3) 4 r → ⊥
+unfolding Holds placed-is padded same-bytes
+floor-added-breaks r w a = differ (padded 8 (5 ∷ [])) (padded 8 (3 ∷ [])) refl (sym w ∙ a-3-at-4 r .0 a .2)
+
+-- THE GREATEST TOTAL: eight channels with floor 64
+pub greatest-total : (r : SpreadAnswer) → Spread-says (text-shown text-512) 1 r → r .total .0 ≡ 512
+unfolding reading replying Spread-says Answered placed-is floors
+greatest-total r a =
+    let k = stack-in (text-shown text-512) in
+    let least = a .2 .least (replicate 8 64) (replicate 9 0) refl in
+    let most = answer-floors k 1 (a .0) (a .1) (a .2) in
+    omega (arith, a .3 .1)

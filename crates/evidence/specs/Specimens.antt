@@ -1,5 +1,5 @@
 -- TRUSTED. Document 01's specimen cards: one table of texts, questions and replies, and what each says of an entry's result. proofs/Specimens.antt proves all
--- of them. Document 01, "Specimen cards"; their pages by document 02, P1. Assumes nothing: these are definitions.
+-- of them. Document 01, "Specimen cards"; their pages by document 02, P1, and with floors by P2. Assumes nothing: these are definitions.
 use mathlib.Core.Path.{_≡_}
 use mathlib.Core.Bool.{Bool, true, false, cond}
 use mathlib.Core.List.{List, [], _∷_, _++_}
@@ -165,6 +165,45 @@ text-left = "STACK 1" ∷ "PART 4" ∷ "PART 4" ∷ "NETS 0 0 3 1 4 2" ∷ []
 abbrev pub page-left : List String
 page-left = "  2 ooo" ∷ "  1 ||+-+" ∷ "  0 o+-oo" ∷ []
 
+-- WITH FLOORS: lines behind a text
+abbrev pub with-lines : (text lines : List String) → List String
+with-lines t ls = t ++ ls
+
+abbrev pub text-a-1 : List String
+text-a-1 = with-lines text-a ("GAP 1 1" ∷ [])
+
+abbrev pub table-a-1 : List String
+table-a-1 = "TABLE 1" ∷ "ROW 4 2 2 0 0" ∷ "ROW 5 1 1 1 0" ∷ []
+
+abbrev pub text-a-3 : List String
+text-a-3 = with-lines text-a ("GAP 1 3" ∷ [])
+
+abbrev pub table-a-3 : List String
+table-a-3 = "TABLE 1" ∷ "ROW 4 3 3 0 0" ∷ []
+
+-- the last upright piece is a track longer
+abbrev pub page-a-3 : List String
+page-a-3 = "  3 ..o.o" ∷ "  2 ..|.|" ∷ "  1 .++.|" ∷ "  0 o+o-+" ∷ []
+
+-- B with a floor in channel 1: at spread 6 separations 1, 1 are first
+abbrev pub text-b-1 : List String
+text-b-1 = with-lines text-b ("GAP 1 1" ∷ [])
+
+abbrev pub table-b-1 : List String
+table-b-1 = "TABLE 2" ∷ "ROW 4 4 2 2 0 0 0" ∷ "ROW 5 3 1 2 1 0 0" ∷ "ROW 6 2 1 1 2 1 0" ∷ "ROW 7 1 1 0 3 2 0" ∷ []
+
+-- a channel without pairs
+abbrev pub text-c-3 : List String
+text-c-3 = with-lines text-c ("GAP 1 3" ∷ [])
+
+-- eight channels without pairs, and the greatest floor in each
+abbrev pub text-512 : List String
+text-512 =
+    "STACK 8" ∷ "PART 1" ∷ "PART 1" ∷ "PART 1" ∷ "PART 1" ∷ "PART 1" ∷ "PART 1" ∷ "PART 1" ∷ "PART 1" ∷ "PART 1"
+    ∷ "NETS" ∷ "NETS" ∷ "NETS" ∷ "NETS" ∷ "NETS" ∷ "NETS" ∷ "NETS" ∷ "NETS"
+    ∷ "GAP 1 64" ∷ "GAP 2 64" ∷ "GAP 3 64" ∷ "GAP 4 64" ∷ "GAP 5 64" ∷ "GAP 6 64" ∷ "GAP 7 64" ∷ "GAP 8 64"
+    ∷ []
+
 -- THE SPECIMENS
 unfoldable pub specimens : List Specimen
 specimens =
@@ -248,6 +287,43 @@ specimens =
     ∷ page-refused text-1000 1000 1 0 9 0 0
     ∷ page-refused text-a 64 1 300 9 0 0
     ∷ page-refused text-a 4 1 206 8 0 0
+    -- floors that raise a total: from spread 6 on, and at every spread; between two rows; and one that raises none
+    ∷ table-gives text-a-1 50 table-a-1
+    ∷ spread-gives text-a-1 6 1 (1 ∷ []) (1 ∷ 0 ∷ [])
+    ∷ table-gives text-a-3 22 table-a-3
+    ∷ table-refused text-a-3 21 8 0 0
+    ∷ spread-gives text-a-3 4 3 (3 ∷ []) (0 ∷ 0 ∷ [])
+    ∷ spread-gives text-a-3 100 3 (3 ∷ []) (0 ∷ 0 ∷ [])
+    ∷ spread-refused text-a-3 3 7 0 0
+    ∷ table-gives (with-lines text-a ("GAP 1 0" ∷ [])) 50 table-a
+    ∷ table-gives text-b-1 80 table-b-1
+    ∷ spread-gives text-b-1 8 1 (1 ∷ 0 ∷ []) (3 ∷ 2 ∷ 0 ∷ [])
+    ∷ spread-gives (with-lines text-b ("GAP 1 2" ∷ "GAP 2 5" ∷ [])) 9 7 (2 ∷ 5 ∷ []) (0 ∷ 0 ∷ 0 ∷ [])
+    -- a channel without pairs, and the greatest floor
+    ∷ table-gives text-c-3 22 ("TABLE 1" ∷ "ROW 5 3 3 0 0" ∷ [])
+    ∷ spread-gives (with-lines text-a ("GAP 1 64" ∷ [])) 4 64 (64 ∷ []) (0 ∷ 0 ∷ [])
+    -- trials at a floor and below it
+    ∷ trial-gives text-a-3 4 (3 ∷ []) (0 ∷ 0 ∷ []) true
+    ∷ trial-gives text-a-3 4 (2 ∷ []) (0 ∷ 0 ∷ []) false
+    ∷ trial-gives text-c-3 5 (2 ∷ []) (0 ∷ 0 ∷ []) false
+    ∷ trial-gives text-512 1 (64 ∷ 64 ∷ 64 ∷ 64 ∷ 64 ∷ 64 ∷ 64 ∷ 64 ∷ []) (replicate 9 0) true
+    ∷ trial-gives text-512 1 (64 ∷ 64 ∷ 64 ∷ 64 ∷ 64 ∷ 64 ∷ 64 ∷ 63 ∷ []) (replicate 9 0) false
+    -- pages
+    ∷ page-gives text-a-3 6 1 276 page-a-3
+    ∷ page-gives text-c-3 5 1 276 ("  3 " ∷ "  2 " ∷ "  1 " ∷ "  0 " ∷ [])
+    -- refusals of a GAP line, in their order
+    ∷ table-refused (with-lines text-a ("GAP 1" ∷ [])) 50 2 5 0
+    ∷ table-refused (with-lines text-a ("GAP 1 1 1" ∷ [])) 50 2 5 0
+    ∷ table-refused (with-lines text-a ("GAP 0 065" ∷ [])) 50 2 5 0
+    ∷ table-refused (with-lines text-a-1 ("NETS" ∷ [])) 50 2 6 0
+    ∷ table-refused (with-lines text-a ("GAP 0 1" ∷ [])) 50 3 5 2
+    ∷ table-refused (with-lines text-a ("GAP 2 65" ∷ [])) 50 3 5 2
+    ∷ spread-refused (with-lines text-a ("GAP 1 65" ∷ [])) 3 3 5 3
+    ∷ trial-refused (with-lines text-a ("GAP 1 65" ∷ [])) 4 (2 ∷ []) (0 ∷ 0 ∷ []) 3 5 3
+    ∷ page-refused (with-lines text-a ("GAP 1 65" ∷ [])) 64 2 300 3 5 3
+    ∷ table-refused (with-lines text-a-1 ("GAP 1 1" ∷ [])) 50 6 6 2
+    ∷ table-refused (with-lines text-a-1 ("GAP 1 65" ∷ [])) 50 3 6 3
+    ∷ table-refused (with-lines text-b ("GAP 2 1" ∷ "GAP 1 1" ∷ [])) 50 6 8 2
     ∷ []
 
 -- every one of them holds

@@ -12,12 +12,12 @@ use lib.Seq.{take-at}
 use borrow.Author.Tests.{le-leb, lt-leb, lt-ltb, le-ltb, leb-true, ltb-false}
 use Rattle.numbers.specs.Lists.{padded}
 use Rattle.numbers.proofs.Bools.{and-left, and-right}
-use Rattle.stack.specs.Stack.{Stack, Answer, longest}
+use Rattle.stack.specs.Stack.{Channel, channel-in, Stack, Answer, longest}
 use Rattle.stack.specs.Limits.{within-limits}
 use Rattle.stack.specs.Value.{tracks, columns, no-terminals, channel-of, stack-of}
 use Rattle.stack.specs.declared.Stack.{Stack as Stack-struct}
 use Rattle.stack.proofs.Values.{track-at, column-at}
-use Rattle.stack.proofs.Within.{stack-channels, stack-channel, strips-count, few-channels}
+use Rattle.stack.proofs.Within.{stack-channels, strips-count, few-channels}
 use Rattle.text.specs.Text.{Refusal, refusal, fine, or-else, text-refusal, stack-in}
 use Rattle.text.specs.Outcome.{refusal-of, is-accepted}
 use Rattle.text.specs.Driver.{Stack-read}
@@ -129,8 +129,8 @@ module _ (k : Stack-struct) (s n : ℕ) (w : within-limits (stack-of k) ≡ true
     position-is i h = sym (column-at (r .positions) i) ∙ ap (λ (l : List ℕ). getD l i 0) (a .positions-are) ∙ padded-at 9 xs i (omega (arith, long .1))
 
     -- what the page's writer is given is the answer's
-    channel-is : channel-of (getD (k .channels) (n - 1) no-terminals) ≡ getD (stack-of k .channels) (n - 1) []
-    channel-is = sym (stack-channel k (n - 1) channel-below)
+    channel-is : channel-of (getD (k .channels) (n - 1) no-terminals) ≡ channel-in (stack-of k) (n - 1) .pairs
+    channel-is = ap (λ (c : Channel). c .pairs) (sym (stack-channel k (n - 1) channel-below))
 
     upper-is : getD (r .positions) (n - 1 + 1) (columns 0) .0 ≡ getD xs (suc (n - 1)) 0
     upper-is = position-is (n - 1 + 1) (omega (arith, channel-below)) ∙ ap (λ (i : ℕ). getD xs i 0) (add-one (n - 1))
@@ -221,24 +221,24 @@ module _ (bs : List ℕ) (s n : ℕ) (e : page-refusal bs s n .number ≡ 0) whe
   there-is = let p = asked-fine (stack-in bs) s n (both-fine .1) in omega (arith, p .some, p .within)
 
   module _ (ts xs : List ℕ) (a : Answer (stack-in bs) s ts xs) where
-    small : getD ts (n - 1) 0 ≤ 32
+    small : getD ts (n - 1) 0 ≤ 64
     small = separations-small (stack-in bs) good s ts xs a (n - 1) (omega (arith, there-is, legal-lengths (stack-in bs) s ts xs (a .is-legal) .0))
 
-    page-below : length (channel-page (stack-in bs) ts xs (n - 1)) ≤ 2277
+    page-below : length (channel-page (stack-in bs) ts xs (n - 1)) ≤ 4485
     unfolding channel-page
     page-below = omega (arith, page-long (channel-paths (stack-in bs) ts xs (n - 1)) (getD ts (n - 1) 0) (omega (arith, small)), small)
 
-    shown-placed : Channel-placed s (getD (stack-in bs .channels) (n - 1) []) (getD ts (n - 1) 0) (getD xs (n - 1) 0) (getD xs (suc (n - 1)) 0)
+    shown-placed : Channel-placed s (channel-in (stack-in bs) (n - 1) .pairs) (getD ts (n - 1) 0) (getD xs (n - 1) 0) (getD xs (suc (n - 1)) 0)
     shown-placed = channel-placed (stack-in bs) s ts xs (n - 1) good (a .is-legal) there-is
 
-    shown-paths : Paths-shown s (getD (stack-in bs .channels) (n - 1) []) (getD ts (n - 1) 0) (getD xs (n - 1) 0) (getD xs (suc (n - 1)) 0)
+    shown-paths : Paths-shown s (channel-in (stack-in bs) (n - 1) .pairs) (getD ts (n - 1) 0) (getD xs (n - 1) 0) (getD xs (suc (n - 1)) 0)
         (channel-paths (stack-in bs) ts xs (n - 1)) (channel-page (stack-in bs) ts xs (n - 1))
     unfolding channel-page channel-paths
-    shown-paths = placed-shown s (getD (stack-in bs .channels) (n - 1) []) (getD ts (n - 1) 0) (getD xs (n - 1) 0) (getD xs (suc (n - 1)) 0) (omega (arith, small)) shown-placed
+    shown-paths = placed-shown s (channel-in (stack-in bs) (n - 1) .pairs) (getD ts (n - 1) 0) (getD xs (n - 1) 0) (getD xs (suc (n - 1)) 0) (omega (arith, small)) shown-placed
 
     page-plain : lacks 35 (channel-page (stack-in bs) ts xs (n - 1)) ≡ true
     unfolding channel-page channel-paths
-    page-plain = wiring-page-lacks (getD (stack-in bs .channels) (n - 1) []) (getD ts (n - 1) 0) (getD xs (n - 1) 0) (getD xs (suc (n - 1)) 0) (shown-placed .rises) (shown-placed .good)
+    page-plain = wiring-page-lacks (channel-in (stack-in bs) (n - 1) .pairs) (getD ts (n - 1) 0) (getD xs (n - 1) 0) (getD xs (suc (n - 1)) 0) (shown-placed .rises) (shown-placed .good)
 
     fits-shows : (r : TableAnswer) (o x : List ℕ) (v : Bool) → Fits v (channel-page (stack-in bs) ts xs (n - 1)) r o x → Page-shows bs s n r x
     unfolding Fits table-told refusal zeros channel-paths
@@ -261,7 +261,7 @@ module _ (bs : List ℕ) (s n : ℕ) (e : page-refusal bs s n .number ≡ 0) whe
           plain = rw (f .1) (lacks-copies 35 0 (length o) refl);
         }
 
-pub page-enough : (bs : List ℕ) (s n : ℕ) (r : TableAnswer) (o x : List ℕ) → Page-says bs s n r o x → Page-enough 2277 bs s n r o
+pub page-enough : (bs : List ℕ) (s n : ℕ) (r : TableAnswer) (o x : List ℕ) → Page-says bs s n r o x → Page-enough 4485 bs s n r o
 unfolding Page-says Paged Page-enough
 page-enough bs s n r o x says z l =
     let t = rw z at says in

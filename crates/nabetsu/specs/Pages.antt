@@ -2,11 +2,11 @@
 -- definitions.
 use mathlib.Core.Path.{_≡_}
 use mathlib.Core.Bool.{true, _&&_, cond}
-use mathlib.Core.List.{List, []}
+use mathlib.Core.List.{List}
 use Prim.Native.Nat.{ℕ, zero, suc, _-_, _≤_}
 use lib.Dec.{ltb, leb}
 use lib.ListN.{length, getD, take}
-use Rattle.stack.specs.Stack.{Stack, Answer}
+use Rattle.stack.specs.Stack.{channel-in, Stack, Answer}
 use Rattle.text.specs.Text.{Refusal, refusal, fine, or-else, text-refusal, stack-in}
 use Rattle.text.specs.Outcome.{refusal-of}
 use Rattle.page.specs.Page.{channel-paths, channel-page, lacks}
@@ -49,7 +49,7 @@ pub record Page-drawn (bs : List ℕ) (s channel : ℕ) (r : TableAnswer) (o-now
   pub answer : Answer (stack-in bs) s separations positions
   pub shown : take (r .written) o-now ≡ channel-page (stack-in bs) separations positions (channel - 1)
   pub paths-shown :
-      Paths-shown s (getD (stack-in bs .channels) (channel - 1) []) (getD separations (channel - 1) 0) (getD positions (channel - 1) 0)
+      Paths-shown s (channel-in (stack-in bs) (channel - 1) .pairs) (getD separations (channel - 1) 0) (getD positions (channel - 1) 0)
       (getD positions (suc (channel - 1)) 0) (channel-paths (stack-in bs) separations positions (channel - 1)) (take (r .written) o-now)
 
 -- of what is returned: where nothing is refused such a page is written, and # never appears

@@ -74,7 +74,7 @@ pub fn answer_spread(text: &[u8], spread: u32) -> SpreadAnswer
     }
 }
 
-// Enough bytes for the table of every text: a first line of 8, and at most 257 rows of at most 82.
+// Enough bytes for the table of every text, whatever its floors: a first line of 8, and at most 257 rows of at most 82.
 pub const TABLE_BYTES: usize = 21082;
 
 // How many bytes of a table or a page were written; none where it is refused.
@@ -120,8 +120,8 @@ pub fn write_table(text: &[u8], output: &mut [u8]) -> TableAnswer
     finish(outcome, written, output)
 }
 
-// Enough bytes for the page of every channel: at most 33 lines of 69.
-pub const PAGE_BYTES: usize = 2277;
+// Enough bytes for the page of every channel: at most 65 lines of 69.
+pub const PAGE_BYTES: usize = 4485;
 
 // The greatest spread that a page can show.
 const PAGE_SPREAD: u32 = 63;

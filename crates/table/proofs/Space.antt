@@ -60,7 +60,7 @@ lowered (c ∷ cs) (t ∷ ts) (x ∷ xs) g = go (lowered cs ts xs (search ands))
         each (suc i) h l = r .tight (omega arith) i (omega arith)
 
 -- the sum of the floors: no legal total is below it, and no answer's more than 32 a channel above it
-floors : List Channel → ℕ
+unfoldable pub floors : List Channel → ℕ
 floors [] = 0
 floors (c ∷ cs) = c .floor + floors cs
 
@@ -94,6 +94,12 @@ position-below s (l ∷ ls) [] e i h = impossible e
 position-below s (l ∷ ls) (x ∷ xs) e zero h = omega (arith, leb-true (x + l) s (search ands))
 position-below s (l ∷ ls) (x ∷ xs) e (suc i) h = position-below s ls xs (search ands) i (omega arith)
 
+pub answer-floors : (k : Stack) (s : ℕ) (ts xs : List ℕ) → Answer k s ts xs → floors (k .channels) ≤ sum ts
+unfolding legal
+answer-floors k s ts xs a =
+    let g : (in-spread s (k .strips) xs && channels-good (k .channels) ts xs) ≡ true = a .is-legal in
+    floors-below (k .channels) ts xs (search ands)
+
 module _ (k : Stack) (good : within-limits k ≡ true) where
   channel-limited : (i : ℕ) → i < length (k .channels) → (length (channel-in k i .pairs) ≤ 32) × (channel-in k i .floor ≤ 64)
   unfolding within-limits channel-within pairs-within
@@ -117,14 +123,11 @@ module _ (k : Stack) (good : within-limits k ≡ true) where
     pub separations-small : (i : ℕ) → i < length ts → getD ts i 0 ≤ 64
     separations-small i l = omega (arith, separations-of-use i l, channel-limited i (in-channels i l))
 
-    -- its total is at least the sum of the floors, and at most 32 a channel more
-    total-between : (floors (k .channels) ≤ sum ts) × (sum ts ≤ floors (k .channels) + 32 * length (k .channels))
-    unfolding legal
-    total-between =
-        let g : (in-spread s (k .strips) xs && channels-good (k .channels) ts xs) ≡ true = a .is-legal in
+    -- its total is at most 32 a channel above the sum of the floors
+    total-above : sum ts ≤ floors (k .channels) + 32 * length (k .channels)
+    total-above =
         let n = legal-lengths k s ts xs (a .is-legal) in
-        let most = sum-below (k .channels) ts (n .0) (λ i l. omega (arith, separations-of-use i l, channel-limited i (in-channels i l))) in
-        (floors-below (k .channels) ts xs (search ands), rw (n .0) at most)
+        rw (n .0) at (sum-below (k .channels) ts (n .0) (λ i l. omega (arith, separations-of-use i l, channel-limited i (in-channels i l))))
 
     -- NO TOTAL OF AN ANSWER is above 512
     pub total-small : sum ts ≤ 512
@@ -162,7 +165,7 @@ module _ (k : Stack) (good : within-limits k ≡ true) where
   -- each further row has a smaller total, and none is below the sum of the floors
   rows-few : (r : Row) (qs : List Row) → Answer k (r .spread) (r .separations) (r .positions) → Rows-after k r qs → floors (k .channels) + length qs ≤ total r
   unfolding Rows-after total
-  rows-few r [] first a = omega (arith, total-between (r .spread) (r .separations) (r .positions) first .0)
+  rows-few r [] first a = omega (arith, answer-floors k (r .spread) (r .separations) (r .positions) first)
   rows-few r (q ∷ qs) first a = omega (arith, a .1, rows-few q qs (a .3) (a .4))
 
   rows-limited : (r : Row) (qs : List Row) → r .spread ≤ widest k → Rows-after k r qs → (i : ℕ) → i < length qs → Row-limited (getD qs i (row 0 [] []))
@@ -176,7 +179,7 @@ module _ (k : Stack) (good : within-limits k ≡ true) where
   unfolding Rows-are table-bytes row-bytes rows-most total
   rows-space [] a = absurd a
   rows-space (r ∷ qs) a =
-      let most = total-between (r .spread) (r .separations) (r .positions) (a .1) .1 in
+      let most = total-above (r .spread) (r .separations) (r .positions) (a .1) in
       omega (arith, table-below (length (k .channels)) (r ∷ qs) (omega (arith, channels-few k good)) (λ i l. each i l), rows-few r qs (a .1) (a .2), channels-few k good)
     where
       near : r .spread ≤ widest k
