@@ -11,11 +11,11 @@
 #include <stddef.h>
 #include <stdint.h>
 
-/* So many bytes are enough for every table. */
+/* So many bytes are enough for every table, whatever the floors in its text. */
 #define NABETSU_TABLE_BYTES 21082
 
 /* So many bytes are enough for every page. */
-#define NABETSU_PAGE_BYTES 2277
+#define NABETSU_PAGE_BYTES 4485
 
 /* The numbers of an answer: the total, eight separations, nine positions; and of a placement, the same without the total. */
 #define NABETSU_ANSWER_NUMBERS 18
@@ -32,7 +32,7 @@ uint64_t nabetsu_write_table(const uint8_t *text, size_t text_length, uint8_t *o
 
 /* The placement with the least total in a spread, by document 01's tie rule: 0, with total, separations and positions in the output, zeros in unused places
  * and behind them. Or a refusal, 1 to 6, then 7, then 8 where the output has fewer than 18 places, and zeros in the whole output. The placement can be
- * drawn, and no placement that can be drawn in that spread has a smaller total. */
+ * drawn with no channel below its floor, and no placement that can be drawn so in that spread has a smaller total; a total is at most 512. */
 uint64_t nabetsu_answer_spread(const uint8_t *text, size_t text_length, uint32_t spread, uint32_t *output, size_t output_length);
 
 /* The page of a channel, from 1, in the answer for a spread of at most 63: a line of 69 bytes for each track, the highest first, and zeros in the rest of the
@@ -41,7 +41,7 @@ uint64_t nabetsu_answer_spread(const uint8_t *text, size_t text_length, uint32_t
  * shared, none outside the spread; every point of a path has a character other than the dot, every other point the dot; and # never appears. */
 uint64_t nabetsu_write_page(const uint8_t *text, size_t text_length, uint32_t spread, uint32_t channel, uint8_t *output, size_t output_length);
 
-/* The trial of eight separations and nine positions: 1 exactly if they are legal, with zeros in unused places; 2 if not, or if there are not 17 numbers. Or a
+/* The trial of eight separations and nine positions: 1 exactly if they are legal, floors included, with zeros in unused places; 2 if not, or if there are not 17 numbers. Or a
  * refusal, 1 to 6. */
 uint64_t nabetsu_try_placement(const uint8_t *text, size_t text_length, uint32_t spread, const uint32_t *placement, size_t placement_length);
 

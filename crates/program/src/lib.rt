@@ -77,6 +77,7 @@ fn print_help() -> u32
   spread: the answer for spread N, as a row of a table;
   page: the paths of a channel, from 1, in the answer for spread N, at most 63;
   trial: legal or not legal, for separations T1..TK and positions X0..XK in spread N.
+A line GAP, a channel and a floor behind the stack's NETS lines is a least separation of that channel.
 Where the stack, the spread or the channel is refused it prints the refusal's number, line and field.
 A number is 1 to 10 decimal digits, at most 4294967295.
 It exits with 0 for an answer, 1 for a refusal, 2 for anything said on standard error.
@@ -91,7 +92,7 @@ Example: two strips of 4 columns and two pairs, in a spread of 5
 fn print_version() -> u32
     ensures { λ r. ⌜ Passed-on 0 r ⌝ }
 {
-    print(b"stacktable 1.1\n", ANSWERED)
+    print(b"stacktable 1.2\n", ANSWERED)
 }
 
 // Says what is wrong with the arguments, and how the program is used.

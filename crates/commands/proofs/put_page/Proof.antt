@@ -20,7 +20,7 @@ unfolding Page-enough
 returns c =
     let start = c .before .before .before .before .before in
     let page = c .before .before .write-page in
-    let space : 2277 ≤ length (start .args .output .now) = search needs in
+    let space : 4485 ≤ length (start .args .output .now) = search needs in
     page-printed (start .args .text .now) (start .args .spread) (start .args .channel) (page .result) _ _ (λ z. page .ensures .1 .1 z space) _ _ (page .ensures .0) (c .put-outcome .ensures)
 
 pub put-page-spec : {M : Type 1} → statement M
