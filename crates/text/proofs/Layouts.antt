@@ -1,8 +1,7 @@
 -- The layout of a line as the reader of lines tells it: refused as document 01 refuses it, and else the numbers are kept. Assumes nothing.
 use mathlib.Core.Path.{_≡_, sym, _∙_}
 use mathlib.Core.Bool.{true, false, _&&_}
-use Prim.Native.Nat.{ℕ}
-use native.Mathlib.Omega.{arith}
+use Prim.Native.Nat.{ℕ, _<_}
 use lib.Dec.{eqb}
 use lib.ListN.{length, getD}
 use borrow.Author.Tests.{eqb-true}
@@ -65,5 +64,5 @@ module _ (K : Kind) (n : ℕ) (l : Line) (r : LineRead) (m : Line-read l (K .wor
     pub numbers-kept : r .values ≡ in-places 64 (numbers-of l)
     numbers-kept = m .values (m .ill ∙ layout-good .numbers)
 
-    pub first-kept : getD (r .values) 0 0 ≡ getD (numbers-of l) 0 0
-    first-kept = rw numbers-kept (getD-in-places 64 0 (numbers-of l) (omega arith))
+    pub number-kept : (i : ℕ) → i < 64 → getD (r .values) i 0 ≡ getD (numbers-of l) i 0
+    number-kept i h = rw numbers-kept (getD-in-places 64 i (numbers-of l) h)

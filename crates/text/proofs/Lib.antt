@@ -3,6 +3,7 @@ pub mod Refusals
 pub mod Layouts
 pub mod Singles
 pub mod Nets
+pub mod Gaps
 pub mod Within
 pub mod Stages
 pub mod Places

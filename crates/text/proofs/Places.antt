@@ -1,37 +1,40 @@
--- What reading the first line, or one line of a kind, adds to what has been read: the refusal of that line, the strip or the channel on it, and the place of the
--- next line. Assumes nothing.
-use mathlib.Core.Path.{_≡_, refl, sym, _∙_}
-use mathlib.Core.Bool.{true}
-use mathlib.Core.List.{List, []}
-use Prim.Native.Nat.{ℕ, suc, _+_, _-_, _≤_, _<_}
+-- What reading the first line, or one line of a kind, adds to what has been read: the refusal of that line, the strip, the channel or the floor on it, and the
+-- place of the next line. Assumes nothing.
+use mathlib.Core.Path.{_≡_, refl, ap, sym, _∙_}
+use mathlib.Core.Bool.{true, false}
+use mathlib.Core.List.{List}
+use Prim.Native.Nat.{ℕ, suc, _+_, _*_, _-_, _≤_, _<_}
 use native.Mathlib.Nat.{add-zero}
 use native.Mathlib.Numerals.{add-one}
 use native.Mathlib.Omega.{arith}
-use lib.ListN.{length, getD, take, drop}
+use lib.ListN.{length, getD, set, take, drop}
 use lib.Seq.{getD-drop, drop-drop}
 use borrow.Author.Tests.{leb-true}
 use Rattle.numbers.proofs.Bools.{ands}
-use Rattle.numbers.proofs.Lists.{getD-tabulate, filled-steps}
+use Rattle.numbers.proofs.Lists.{getD-tabulate, tabulate-set, filled-steps, filled-rest}
 use Rattle.lines.specs.Lines.{Line, line, lines, no-line, line-at, numbers-of}
 use Rattle.lines.specs.Cut.{Line-from, line-from, Next}
 use Rattle.lines.specs.declared.LineEnd.{LineEnd}
 use Rattle.lines.proofs.Places.{line-there, next-there}
-use Rattle.stack.specs.Stack.{Pair, Stack, stack}
+use Rattle.stack.specs.Stack.{Channel, channel, no-channel, channel-in, Stack, stack}
 use Rattle.stack.specs.Value.{strip, channel-of, length-at as struct-length, stack-of}
-use Rattle.stack.specs.Made.{bare, Strip-set, Channel-set}
+use Rattle.stack.specs.Made.{bare, Strip-set, Channel-set, Floor-set}
 use Rattle.stack.specs.declared.Stack.{Stack as Stack-struct}
-use Rattle.text.specs.Text.{Refusal, fine, part-kind, nets-kind, layout, entry, first-of, supplied, part-content, nets-content, check, k-of, head-refusal, head-check, part-check, length-at, nets-check, pairs-of}
-use Rattle.text.specs.Outcome.{refusal-of}
-use Rattle.text.specs.Kinds.{Head-read, part-refusal, Part-read, nets-refusal, Nets-read}
-use Rattle.text.specs.Driver.{Going, Read-to, line-refusal, Head-taken, Parting, Part-taken, Wiring, Nets-taken}
+use Rattle.text.specs.Text.{Refusal, refusal, fine, part-kind, nets-kind, gap-kind, layout, entry, first-of, second-of, supplied, part-content, nets-content, gap-content, check, k-of, head-refusal, head-check, part-check, length-at, nets-check, tail-at, channel-before, tail-check, floor-in}
+use Rattle.text.specs.Outcome.{refusal-of, is-accepted}
+use Rattle.text.specs.Kinds.{Head-read, part-refusal, Part-read, nets-refusal, Nets-read, gap-refusal, Gap-read}
+use Rattle.text.specs.Driver.{Going, Read-to, line-refusal, Head-taken, Parting, Part-taken, nets-pairs, Wiring, Nets-taken, gap-lines, gaps-read, Gapping, Gap-taken}
 use Rattle.text.specs.declared.Outcome.{Outcome}
 use Rattle.text.specs.declared.Progress.{Progress}
 use Rattle.text.specs.declared.Reading.{Reading}
 use Rattle.text.specs.declared.PartRead.{PartRead}
 use Rattle.text.specs.declared.NetsRead.{NetsRead}
-use Rattle.text.proofs.Refusals.{or-else-fine, number-fine, or-else-none}
+use Rattle.text.specs.declared.GapRead.{GapRead}
+use Rattle.text.specs.declared.GapTaken.{GapTaken}
+use Rattle.text.proofs.Refusals.{or-else-fine, refused-number, accepted-fine, number-fine, or-else-none}
 use Rattle.text.proofs.Layouts.{layout-ended}
 use Rattle.text.proofs.Within.{head-says}
+use Rattle.text.proofs.Gaps.{Gap-says, gap-says, floor-named, floor-unnamed}
 
 -- STACK
 module _ (bs : List ℕ) (e : LineEnd) (m : Line-from bs 0 e) (r : Reading) (h : Head-read (line (take (e .end - 0) (drop 0 bs)) (e .ended)) r) where
@@ -152,7 +155,99 @@ nets-taken bs p c e r k m h f t s =
     rw (← due bs i _ p g e f, ← number, ← strip-length bs p c c m (omega arith), ← add-one c, ← strip-length bs p c (c + 1) m (omega arith)) t in
     let says : refusal-of (r .outcome) ≡ line-refusal (nets-check ls c) = there .outcome ∙ sym (check-nets ls c) in
     let content = nets-content lo hi (entry (suc i) 0 (numbers-of l)) in
-    let pairs : ℕ → List Pair = λ j. pairs-of (supplied ls (k-of ls + 2 + j) .numbers) in
+    let wired : ℕ → Channel = λ j. channel (nets-pairs ls j) 0 in
+    let within : c < k-of ls = omega (arith, g .count) in
     line-taken bs i _ p g e f (line-refusal (nets-check ls c)) (r .outcome) _ k says
     (λ z. layout-ended nets-kind (suc i) l (or-else-fine _ content (rw (check-nets ls c) at z) .0))
-    (λ z. (s .count, s .value ∙ rw (g .stands, there .pairs (rw says z), ← filled-steps (k-of ls) c pairs [] (omega (arith, g .count)))))
+    (λ z. (
+      s .count,
+      s .value
+          ∙ rw (g .stands, there .pairs (rw says z), filled-rest (k-of ls) c c wired no-channel no-channel (omega arith) within, ← filled-steps (k-of ls) c wired no-channel within),
+    ))
+
+-- GAP
+check-gap : (ls : List Line) (g : ℕ) →
+    line-refusal (tail-check ls g) ≡ gap-refusal (k-of ls) (channel-before ls g) (suc (tail-at ls + g)) (line-at ls (tail-at ls + g))
+unfolding tail-check gap-refusal check supplied
+check-gap ls g = refl
+
+-- one floor more: that of the line's channel
+floor-more : (ls : List Line) (g c f : ℕ) → channel-before ls (suc g) ≡ suc c → second-of (supplied ls (tail-at ls + g)) ≡ f → ((j : ℕ) → j ≤ g → channel-before ls j ≤ c) → c < k-of ls →
+    stack (gaps-read ls g .strips) (set (gaps-read ls g .channels) c (channel (channel-in (gaps-read ls g) c .pairs) f)) ≡ gaps-read ls (g + 1)
+unfolding stack channel-before first-of second-of
+floor-more ls g c f named floor below within =
+    let numbers : ℕ → List ℕ = λ i. supplied ls i .numbers in
+    let at : ℕ → ℕ → Channel = λ g c. channel (nets-pairs ls c) (floor-in (gap-lines ls g) (suc c)) in
+    let here : at (suc g) c ≡ channel (nets-pairs ls c) f =
+    ap (λ v. channel (nets-pairs ls c) v) (floor-named numbers g (tail-at ls) (suc c) named (λ j l e. omega (arith, below (suc j) (omega arith))) ∙ floor) in
+    rw (getD-tabulate (k-of ls) c (at g) no-channel within, add-one g)
+    (ap (λ (cs : List Channel). stack (gaps-read ls g .strips) cs)
+    (sym (tabulate-set (k-of ls) c (at g) (at (suc g)) (channel (nets-pairs ls c) f) here
+    (λ j d. ap (λ v. channel (nets-pairs ls j) v) (floor-unnamed numbers g (tail-at ls) (suc j) (λ e. d (omega arith)))))))
+
+-- a line that is accepted
+pub gap-means : (bs : List ℕ) (g b : ℕ) (p : Progress) → Gapping bs g b p → line-refusal (tail-check (lines bs) g) .number ≡ 0 →
+    Gap-says (k-of (lines bs)) b (supplied (lines bs) (tail-at (lines bs) + g))
+unfolding tail-check check
+gap-means bs g b p m z =
+    let ls = lines bs in
+    rw (← m .last) at (gap-says (k-of ls) (channel-before ls g) (supplied ls (tail-at ls + g)) (or-else-fine _ _ z .1))
+
+module _ (bs : List ℕ) (p : Progress) (g b : ℕ) (e : LineEnd) (n : ℕ) (r : GapRead) (m : Gapping bs g b p) (f : Line-from bs (p .at) e)
+    (s : n ≡ 2 * p .stack .count + 3) (t : Gap-read (p .stack .count) b (n + g) (line (take (e .end - p .at) (drop (p .at) bs)) (e .ended)) r) where
+  going : Going bs (tail-at (lines bs) + g) (gaps-read (lines bs) g) p
+  going = m .read .going
+
+  gap-there : Gap-read (k-of (lines bs)) (channel-before (lines bs) g) (suc (tail-at (lines bs) + g)) (line-at (lines bs) (tail-at (lines bs) + g)) r
+  unfolding tail-at
+  gap-there =
+      let ls = lines bs in
+      let number : n + g ≡ suc (tail-at ls + g) = omega (arith, s, going .count) in
+      rw (going .count, number, m .last, due bs (tail-at ls + g) _ p going e f) at t
+
+  gap-refused : refusal-of (r .outcome) ≡ line-refusal (tail-check (lines bs) g)
+  gap-refused = gap-there .outcome ∙ sym (check-gap (lines bs) g)
+
+  pub gap-stays : is-accepted (r .outcome) ≡ false → (c : ℕ) → Gap-taken bs g (record { read = record { outcome = r .outcome; at = p .at; stack = p .stack }; channel = c })
+  gap-stays a c =
+      let none : line-refusal (tail-check (lines bs) g) .number ≡ 0 → ⊥ = rw gap-refused at (refused-number (r .outcome) a) in
+      record { read = record { outcome = gap-refused; going = λ z. absurd (none z) }; channel = λ z. absurd (none z) }
+
+  module _ (a : is-accepted (r .outcome) ≡ true) where
+    gap-fine : refusal-of (r .outcome) .number ≡ 0
+    unfolding fine refusal
+    gap-fine = rw (accepted-fine (r .outcome) a)
+
+    line-fine : line-refusal (tail-check (lines bs) g) .number ≡ 0
+    line-fine = rw gap-refused at gap-fine
+
+    channel-read : r .channel ≡ channel-before (lines bs) (suc g)
+    unfolding channel-before first-of supplied entry
+    channel-read = gap-there .channel gap-fine
+
+    pub gap-channel : (1 ≤ r .channel) × (r .channel ≤ p .stack .count)
+    unfolding channel-before
+    gap-channel = let s = gap-means bs g b p m line-fine in omega (arith, channel-read, going .count, s .some, s .within)
+
+    pub gap-taken : (k : Stack-struct) → Floor-set (p .stack) (r .channel - 1) (r .floor) k →
+        Gap-taken bs g (record { read = record { outcome = r .outcome; at = e .end + 1; stack = k }; channel = r .channel })
+    unfolding second-of supplied entry channel-before gap-refusal
+    gap-taken k u =
+        let ls = lines bs in
+        let i = tail-at ls + g in
+        let l = line-at ls i in
+        let c = r .channel - 1 in
+        let above : b < r .channel = omega (arith, channel-read, gap-means bs g b p m line-fine .above) in
+        let named : channel-before ls (suc g) ≡ suc c = sym channel-read ∙ omega (arith, above) in
+        record {
+          read =
+              line-taken bs i _ p going e f (line-refusal (tail-check ls g)) (r .outcome) _ k gap-refused
+              (λ z. layout-ended gap-kind (suc i) l (or-else-fine _ (gap-content (k-of ls) (channel-before ls g) (entry (suc i) 0 (numbers-of l))) (rw (check-gap ls g) at z) .0))
+              (λ z. (
+                u .count,
+                u .value
+                    ∙ rw (going .stands)
+                    (floor-more ls g c (r .floor) named (sym (gap-there .floor gap-fine)) (λ j h. omega (arith, m .rising j h, above)) (omega (arith, gap-channel .0, gap-channel .1, going .count))),
+              ));
+          channel = λ z. channel-read;
+        }

@@ -24,7 +24,7 @@ use Rattle.text.specs.declared.Outcome.the-variants.{Accepted}
 use Rattle.text.specs.declared.Reading.{Reading}
 use Rattle.text.specs.declared.PartRead.{PartRead}
 use Rattle.text.proofs.Refusals.{not-fine, refused-number}
-use Rattle.text.proofs.Layouts.{layout-refused, layout-then, first-kept}
+use Rattle.text.proofs.Layouts.{layout-refused, layout-then, number-kept}
 
 -- which of the two the test chose
 sized-says : (k : ℕ) → stack-found k ≡ Sized → (leb 1 k && leb k 8) ≡ true
@@ -56,7 +56,7 @@ module _ (l : Line) (r : LineRead) (m : Line-read l stack-word r) (f : ℕ) (e :
   module _ (a : is-accepted o ≡ true) (s : StackMade) (h : Stack-made (getD (r .values) 0 0) s) where
     number-there : getD (r .values) 0 0 ≡ k-of (l ∷ [])
     unfolding k-of line-at stack-kind kind
-    number-there = first-kept stack-kind 1 l r m f e o t a
+    number-there = number-kept stack-kind 1 l r m f e o t a 0 (omega arith)
 
     then-crowd : head-refusal (l ∷ []) ≡ cond (leb 1 (k-of (l ∷ [])) && leb (k-of (l ∷ [])) 8) fine (refusal 3 1 2)
     unfolding head-refusal line-at stack-kind kind
@@ -125,7 +125,7 @@ module _ (n : ℕ) (l : Line) (r : LineRead) (m : Line-read l part-word r) (f : 
   pub part-there : (q : PartRead) → is-accepted o ≡ true → Part-content (getD (r .values) 0 0) n q → Part-read n l q
   unfolding part-refusal part-kind kind
   part-there q a h =
-      let first : getD (r .values) 0 0 ≡ getD (numbers-of l) 0 0 = first-kept part-kind n l r m f e o t a in
+      let first : getD (r .values) 0 0 ≡ getD (numbers-of l) 0 0 = number-kept part-kind n l r m f e o t a 0 (omega arith) in
       let after = layout-then part-kind n l r m f e o t a (part-content (entry n 0 (numbers-of l))) in
       record {
         outcome = h .outcome ∙ (rw first (by-first n l) ∙ sym after);

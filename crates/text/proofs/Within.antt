@@ -1,22 +1,24 @@
 -- A text that is not refused has a stack within document 01's limits: each test that refuses is a limit. By induction on the terminals of a line and on the
 -- lines of a kind. Assumes nothing.
 use mathlib.Core.Path.{_≡_, refl, ap, _∙_}
-use mathlib.Core.Bool.{Bool, true, false, _&&_, not}
+use mathlib.Core.Bool.{Bool, true, false, _&&_, not, cond}
 use mathlib.Core.List.{List, [], _∷_, _++_, map}
-use Prim.Native.Nat.{ℕ, zero, suc, _+_, _-_, _≤_}
+use Prim.Native.Nat.{ℕ, zero, suc, _+_, _≤_}
+use native.Mathlib.Nat.{add-zero}
 use native.Mathlib.Omega.{arith}
-use lib.Dec.{ltb, leb}
+use lib.Dec.{ltb, leb, eqb}
 use lib.ListN.{length, getD}
 use borrow.Author.Tests.{leb-false, ltb-false, le-leb, lt-ltb}
 use Rattle.numbers.specs.Lists.{tabulate}
-use Rattle.numbers.proofs.Lists.{length-tabulate}
+use Rattle.numbers.proofs.Lists.{length-tabulate, getD-tabulate, tabulate-same}
 use Rattle.lines.specs.Lines.{Line, lines, line-at}
-use Rattle.stack.specs.Stack.{pair, stack}
-use Rattle.stack.specs.Limits.{rises-above, rising, on-strips, channel-within, channels-within, strips-within, within-limits}
-use Rattle.text.specs.Text.{fine, or-else, stack-kind, layout, Entry, first-of, fault-at, supplied, part-content, terminals-refusal, nets-content, Check, check, k-of, head-refusal, head-check, part-check, length-at, nets-check, tail-at, tail-check, checks, in-turn, text-refusal, file, file-in, pairs-of, stack-in-file, stack-in}
-use Rattle.text.specs.Driver.{line-refusal, upto-head, upto-parts, upto-nets, upto-end}
+use Rattle.stack.specs.Stack.{pair, Channel, channel, stack}
+use Rattle.stack.specs.Limits.{rises-above, rising, on-strips, pairs-within, channel-within, channels-within, strips-within, within-limits}
+use Rattle.text.specs.Text.{fine, or-else, stack-kind, layout, Entry, first-of, second-of, fault-at, supplied, part-content, terminals-refusal, nets-content, Check, check, k-of, head-refusal, head-check, part-check, length-at, nets-check, tail-at, tail-count, channel-before, tail-check, checks, in-turn, text-refusal, file, file-in, pairs-of, floor-in, stack-in-file, stack-in}
+use Rattle.text.specs.Driver.{line-refusal, upto-head, upto-parts, nets-pairs, upto-nets, gap-lines, gaps-read, upto-gaps}
 use Rattle.text.proofs.Refusals.{or-else-fine, when-fine, only-fine, or-else-assoc, in-turn-append}
 use Rattle.text.proofs.Nets.{pairs-length}
+use Rattle.text.proofs.Gaps.{gap-says}
 
 -- CONTENTS
 strip-within : (e : Entry) → part-content e .number ≡ 0 → (leb 1 (first-of e) && leb (first-of e) 1000) ≡ true
@@ -64,9 +66,9 @@ module _ (lo hi n : ℕ) where
       let r = rises-fine (f + 2) x y vs (s .rest) in
       (rw (le-leb x lo (s .p-on), le-leb y hi (s .q-on)) (r .0), r .1)
 
-pairs-within : (lo hi : ℕ) (e : Entry) → nets-content lo hi e .number ≡ 0 → channel-within lo hi (pairs-of (e .numbers)) ≡ true
-unfolding nets-content fault-at channel-within
-pairs-within lo hi e h =
+pairs-fine : (lo hi : ℕ) (e : Entry) → nets-content lo hi e .number ≡ 0 → pairs-within lo hi (pairs-of (e .numbers)) ≡ true
+unfolding nets-content fault-at pairs-within
+pairs-fine lo hi e h =
     let vs = e .numbers in
     let u = when-fine (ltb 64 (length vs)) 2 (e .origin) (e .shift + 66) _ h in
     let few : length (pairs-of vs) ≤ 32 = omega (arith, pairs-length vs, ltb-false 64 (length vs) (u .0)) in
@@ -87,13 +89,30 @@ strips-fine (suc n) i ls h =
     let u = content-fine n i (λ j. part-check ls j) h in
     rw (strip-within (supplied ls (suc i)) (u .0)) (strips-fine n (suc i) ls (u .1))
 
-channels-fine : (n c : ℕ) (ls : List Line) → in-turn (tabulate n c (λ j. nets-check ls j)) .number ≡ 0 →
-    channels-within (tabulate (suc n) c (λ j. length-at ls j)) (tabulate n c (λ j. pairs-of (supplied ls (k-of ls + 2 + j) .numbers))) ≡ true
-unfolding tabulate channels-within nets-check check
-channels-fine zero c ls h = refl
-channels-fine (suc n) c ls h =
+channels-fine : (n c : ℕ) (ls : List Line) (floors : ℕ → ℕ) → in-turn (tabulate n c (λ j. nets-check ls j)) .number ≡ 0 → ((j : ℕ) → floors j ≤ 64) →
+    channels-within (tabulate (suc n) c (λ j. length-at ls j)) (tabulate n c (λ j. channel (nets-pairs ls j) (floors j))) ≡ true
+unfolding tabulate channels-within channel-within nets-check check
+channels-fine zero c ls floors h small = refl
+channels-fine (suc n) c ls floors h small =
     let u = content-fine n c (λ j. nets-check ls j) h in
-    rw (pairs-within (length-at ls c) (length-at ls (suc c)) (supplied ls (k-of ls + 2 + c)) (u .0)) (channels-fine n (suc c) ls (u .1))
+    let pairs = pairs-fine (length-at ls c) (length-at ls (suc c)) (supplied ls (k-of ls + 2 + c)) (u .0) in
+    rw (le-leb (floors c) 64 (small c), pairs) (channels-fine n (suc c) ls floors (u .1) small)
+
+-- from GAP line g on no floor is above 64
+floors-fine : (n g : ℕ) (ls : List Line) → in-turn (tabulate n g (λ j. tail-check ls j)) .number ≡ 0 → (c : ℕ) →
+    floor-in (tabulate n (tail-at ls + g) (λ i. supplied ls i .numbers)) c ≤ 64
+unfolding tabulate floor-in tail-check check second-of
+floors-fine zero g ls h c = omega arith
+floors-fine (suc n) g ls h c =
+    let i = tail-at ls + g in
+    let u = content-fine n g (λ j. tail-check ls j) h in
+    let s = gap-says (k-of ls) (channel-before ls g) (supplied ls i) (u .0) in
+    let next : tail-at ls + suc g ≡ suc i = omega arith in
+    go (eqb (getD (supplied ls i .numbers) 0 0) c) (s .small) (rw next at (floors-fine n (suc g) ls (u .1) c))
+  where
+    go : (v : Bool) {x y : ℕ} → x ≤ 64 → y ≤ 64 → cond v x y ≤ 64
+    go true a b = a
+    go false a b = b
 
 -- STACK
 pub record Head-says (ls : List Line) : Type 0 where
@@ -107,42 +126,43 @@ head-says ls h =
     record { layout = u .0; within = only-fine (leb 1 (k-of ls) && leb (k-of ls) 8) 2 1 2 (u .1) }
 
 -- THE TEXT: what is refused of its lines, kind by kind
-pub checks-in-turn : (bs : List ℕ) → in-turn (checks (lines bs)) ≡ upto-end bs
+pub checks-in-turn : (bs : List ℕ) → in-turn (checks (lines bs)) ≡ upto-gaps bs
 unfolding checks in-turn
 checks-in-turn bs =
     let ls = lines bs in
     let parts = tabulate (suc (k-of ls)) 0 (λ j. part-check ls j) in
     let nets = tabulate (k-of ls) 0 (λ c. nets-check ls c) in
-    let tail = tabulate (length ls - tail-at ls) 0 (λ g. tail-check ls g) in
+    let tail = tabulate (tail-count ls) 0 (λ g. tail-check ls g) in
     ap (λ r. or-else (upto-head bs) r) (in-turn-append parts (nets ++ tail) ∙ ap (λ r. or-else (in-turn parts) r) (in-turn-append nets tail))
     ∙ (or-else-assoc (upto-head bs) (in-turn parts) (or-else (in-turn nets) (in-turn tail)) ∙ or-else-assoc (upto-parts bs) (in-turn nets) (in-turn tail))
 
--- a map of a list by a rule, which begins at another place
-map-tabulate : {A B : Type 0} (g : A → B) (f : ℕ → A) (h : ℕ → B) (s : ℕ) → ((j : ℕ) → g (f (s + j)) ≡ h j) → (n m i : ℕ) → m ≡ s + i →
-    map g (tabulate n m f) ≡ tabulate n i h
+-- a list by a rule, which begins at another place, and a map of it
+tabulate-from : {A : Type 0} (f h : ℕ → A) (s : ℕ) → ((j : ℕ) → f (s + j) ≡ h j) → (n m i : ℕ) → m ≡ s + i → tabulate n m f ≡ tabulate n i h
 unfolding tabulate
-map-tabulate g f h s same zero m i e = refl
-map-tabulate g f h s same (suc n) m i e =
+tabulate-from f h s same zero m i e = refl
+tabulate-from f h s same (suc n) m i e =
     let next : suc m ≡ s + suc i = omega arith in
-    rw (map-tabulate g f h s same n (suc m) (suc i) next, e, same i)
+    rw (tabulate-from f h s same n (suc m) (suc i) next, e, same i)
 
-strips-by-lines : (ls : List Line) (n : ℕ) → map (λ ns. getD ns 0 0) (tabulate n 1 (λ i. supplied ls i .numbers)) ≡ tabulate n 0 (λ j. length-at ls j)
-unfolding length-at first-of
-strips-by-lines ls n =
-    let numbers : ℕ → List ℕ = λ i. supplied ls i .numbers in
-    map-tabulate (λ ns. getD ns 0 0) numbers (λ j. length-at ls j) 1 (λ j. let e : 1 + j ≡ suc j = omega arith in rw e) n 1 0 (omega arith)
+map-tabulate : {A B : Type 0} (g : A → B) (f : ℕ → A) (n i : ℕ) → map g (tabulate n i f) ≡ tabulate n i (λ j. g (f j))
+unfolding tabulate
+map-tabulate g f zero i = refl
+map-tabulate g f (suc n) i = rw (map-tabulate g f n (suc i))
 
 -- the stack in a text, line by line
-pub stack-by-lines : (bs : List ℕ) →
-    let ls = lines bs in
-    stack-in bs ≡ stack (tabulate (suc (k-of ls)) 0 (λ j. length-at ls j)) (tabulate (k-of ls) 0 (λ c. pairs-of (supplied ls (k-of ls + 2 + c) .numbers)))
-unfolding stack-in stack-in-file file-in file
+pub stack-by-lines : (bs : List ℕ) → stack-in bs ≡ gaps-read (lines bs) (tail-count (lines bs))
+unfolding stack-in stack-in-file file-in file length-at first-of
 stack-by-lines bs =
     let ls = lines bs in
     let k = k-of ls in
     let numbers : ℕ → List ℕ = λ i. supplied ls i .numbers in
-    let channels = map-tabulate (λ ns. pairs-of ns) numbers (λ c. pairs-of (numbers (k + 2 + c))) (k + 2) (λ j. refl) k (k + 2) 0 (omega arith) in
-    rw (strips-by-lines ls (suc k), channels)
+    let floor : ℕ → ℕ = λ c. floor-in (gap-lines ls (tail-count ls)) (suc c) in
+    let strips = map-tabulate (λ ns. getD ns 0 0) numbers (suc k) 1 ∙ tabulate-from (λ i. getD (numbers i) 0 0) (λ j. length-at ls j) 1 (λ j. let e : 1 + j ≡ suc j = omega arith in rw e) (suc k) 1 0 (omega arith) in
+    let nets : tabulate k (k + 2) numbers ≡ tabulate k 0 (λ c. numbers (k + 2 + c)) = tabulate-from numbers (λ c. numbers (k + 2 + c)) (k + 2) (λ j. refl) k (k + 2) 0 (omega arith) in
+    rw (strips, nets, length-tabulate k 0 (λ c. numbers (k + 2 + c)))
+    (ap (λ (cs : List Channel). stack (tabulate (suc k) 0 (λ j. length-at ls j)) cs)
+    (tabulate-same k 0 (λ c. channel (pairs-of (getD (tabulate k 0 (λ c. numbers (k + 2 + c))) c [])) (floor c)) (λ c. channel (nets-pairs ls c) (floor c))
+    (λ c a b. rw (getD-tabulate k c (λ c. numbers (k + 2 + c)) [] (omega arith)))))
 
 pub accepted-within : (bs : List ℕ) → text-refusal bs .number ≡ 0 → within-limits (stack-in bs) ≡ true
 unfolding within-limits stack text-refusal head-check check
@@ -151,7 +171,9 @@ accepted-within bs h =
     let k = k-of ls in
     let a = when-fine (ltb 8192 (length bs)) 0 0 0 (in-turn (checks ls)) h .1 in
     let t = or-else-fine (upto-nets bs) _ (rw (checks-in-turn bs) at a) in
+    let floor : ℕ → ℕ = λ c. floor-in (gap-lines ls (tail-count ls)) (suc c) in
+    let small : (c : ℕ) → floor c ≤ 64 = λ c. rw add-zero at (floors-fine (tail-count ls) 0 ls (t .1) (suc c)) in
     let n = or-else-fine (upto-parts bs) _ (t .0) in
     let p = or-else-fine (upto-head bs) _ (n .0) in
     let few = head-says ls (or-else-fine (head-refusal ls) fine (p .0) .0) .within in
-    rw (stack-by-lines bs, length-tabulate k 0 (λ c. pairs-of (supplied ls (k + 2 + c) .numbers)), few, strips-fine (suc k) 0 ls (p .1)) (channels-fine k 0 ls (n .1))
+    rw (stack-by-lines bs, length-tabulate k 0 (λ c. channel (nets-pairs ls c) (floor c)), few, strips-fine (suc k) 0 ls (p .1)) (channels-fine k 0 ls floor (n .1) small)

@@ -2,19 +2,20 @@
 -- Assumes nothing: these are definitions.
 use mathlib.Core.Path.{_≡_}
 use mathlib.Core.Bool.{true, false}
-use mathlib.Core.List.{List, []}
+use mathlib.Core.List.{List}
 use Prim.Native.Nat.{ℕ, suc, _+_, _-_, _≤_}
 use lib.ListN.{length, drop, replicate}
 use Rattle.numbers.specs.Lists.{tabulate, filled}
 use Rattle.lines.specs.Lines.{Line, lines}
-use Rattle.stack.specs.Stack.{Stack, stack}
+use Rattle.stack.specs.Stack.{Pair, channel, no-channel, Stack, stack}
 use Rattle.stack.specs.Limits.{within-limits}
 use Rattle.stack.specs.Value.{stack-of}
 use Rattle.stack.specs.Made.{bare}
-use Rattle.text.specs.Text.{Refusal, fine, or-else, supplied, Check, k-of, head-check, part-check, length-at, nets-check, tail-at, tail-check, in-turn, text-refusal, pairs-of, stack-in}
+use Rattle.text.specs.Text.{Refusal, fine, or-else, supplied, Check, k-of, head-check, part-check, length-at, nets-check, tail-at, tail-count, channel-before, tail-check, in-turn, text-refusal, pairs-of, floor-in, stack-in}
 use Rattle.text.specs.Outcome.{refusal-of, is-accepted}
 use Rattle.text.specs.declared.Progress.{Progress}
 use Rattle.text.specs.declared.Reading.{Reading}
+use Rattle.text.specs.declared.GapTaken.{GapTaken}
 
 -- the first i lines are read, nothing is refused, and this stack stands
 pub record Going (bs : List ℕ) (i : ℕ) (k : Stack) (p : Progress) : Type 0 where
@@ -49,7 +50,7 @@ Head-taken bs r = Read-to bs (upto-head bs) 1 (bare (k-of (lines bs))) r
 
 -- PART lines: the first j strips stand
 abbrev pub parts-read : List Line → (j : ℕ) → Stack
-parts-read ls j = stack (filled (suc (k-of ls)) j (λ i. length-at ls i) 1) (replicate (k-of ls) [])
+parts-read ls j = stack (filled (suc (k-of ls)) j (λ i. length-at ls i) 1) (replicate (k-of ls) no-channel)
 
 abbrev pub Parting : List ℕ → (j : ℕ) → Progress → Type 0
 Parting bs j p = Reading-lines bs (λ i. part-check (lines bs) i) 1 (suc (k-of (lines bs))) j (parts-read (lines bs) j) p
@@ -60,9 +61,12 @@ Part-taken bs j r = Read-to bs (line-refusal (part-check (lines bs) j)) (suc (1 
 abbrev pub upto-parts : List ℕ → Refusal
 upto-parts bs = or-else (upto-head bs) (in-turn (tabulate (suc (k-of (lines bs))) 0 (λ i. part-check (lines bs) i)))
 
--- NETS lines: the first c channels stand
+-- NETS lines: the pairs of the first c channels stand
+abbrev pub nets-pairs : List Line → (channel : ℕ) → List Pair
+nets-pairs ls c = pairs-of (supplied ls (k-of ls + 2 + c) .numbers)
+
 abbrev pub nets-read : List Line → (c : ℕ) → Stack
-nets-read ls c = stack (tabulate (suc (k-of ls)) 0 (λ i. length-at ls i)) (filled (k-of ls) c (λ j. pairs-of (supplied ls (k-of ls + 2 + j) .numbers)) [])
+nets-read ls c = stack (tabulate (suc (k-of ls)) 0 (λ i. length-at ls i)) (filled (k-of ls) c (λ j. channel (nets-pairs ls j) 0) no-channel)
 
 abbrev pub Parts-taken : List ℕ → Progress → Type 0
 Parts-taken bs r = Read-to bs (upto-parts bs) (k-of (lines bs) + 2) (nets-read (lines bs) 0) r
@@ -76,15 +80,33 @@ Nets-taken bs c r = Read-to bs (line-refusal (nets-check (lines bs) c)) (suc (k-
 abbrev pub upto-nets : List ℕ → Refusal
 upto-nets bs = or-else (upto-parts bs) (in-turn (tabulate (k-of (lines bs)) 0 (λ i. nets-check (lines bs) i)))
 
+-- GAP lines: the floors that the first g name stand
+abbrev pub gap-lines : List Line → (g : ℕ) → List (List ℕ)
+gap-lines ls g = tabulate g (tail-at ls) (λ i. supplied ls i .numbers)
+
+abbrev pub gaps-read : List Line → (g : ℕ) → Stack
+gaps-read ls g = stack (tabulate (suc (k-of ls)) 0 (λ i. length-at ls i)) (tabulate (k-of ls) 0 (λ c. channel (nets-pairs ls c) (floor-in (gap-lines ls g) (suc c))))
+
 abbrev pub All-nets-taken : List ℕ → Progress → Type 0
-All-nets-taken bs r = Read-to bs (upto-nets bs) (k-of (lines bs) + 2 + k-of (lines bs)) (stack-in bs) r
+All-nets-taken bs r = Read-to bs (upto-nets bs) (tail-at (lines bs)) (gaps-read (lines bs) 0) r
 
--- the text's end is tested
-abbrev pub upto-end : List ℕ → Refusal
-upto-end bs = or-else (upto-nets bs) (in-turn (tabulate (length (lines bs) - tail-at (lines bs)) 0 (λ g. tail-check (lines bs) g)))
+-- the channels rise, so they are at least as many as their lines, and none is above the last
+pub record Gapping (bs : List ℕ) (g before : ℕ) (p : Progress) : Type 0 where
+  pub read : Reading-lines bs (λ i. tail-check (lines bs) i) (tail-at (lines bs)) (tail-count (lines bs)) g (gaps-read (lines bs) g) p
+  pub last : before ≡ channel-before (lines bs) g
+  pub rising : (j : ℕ) → j ≤ g → channel-before (lines bs) j ≤ before
+  pub many : g ≤ before
+  pub within : before ≤ k-of (lines bs)
 
-abbrev pub End-taken : List ℕ → Progress → Type 0
-End-taken bs r = Read-to bs (upto-end bs) (k-of (lines bs) + 2 + k-of (lines bs)) (stack-in bs) r
+pub record Gap-taken (bs : List ℕ) (g : ℕ) (r : GapTaken) : Type 0 where
+  pub read : Read-to bs (line-refusal (tail-check (lines bs) g)) (suc (tail-at (lines bs) + g)) (gaps-read (lines bs) (g + 1)) (r .read)
+  pub channel : line-refusal (tail-check (lines bs) g) .number ≡ 0 → r .channel ≡ channel-before (lines bs) (suc g)
+
+abbrev pub upto-gaps : List ℕ → Refusal
+upto-gaps bs = or-else (upto-nets bs) (in-turn (tabulate (tail-count (lines bs)) 0 (λ i. tail-check (lines bs) i)))
+
+abbrev pub Gaps-taken : List ℕ → Progress → Type 0
+Gaps-taken bs r = Read-to bs (upto-gaps bs) (tail-at (lines bs) + tail-count (lines bs)) (stack-in bs) r
 
 -- the reading that ends: the stack read, or that of one channel without pairs
 pub record Reading-of (p : Progress) (r : Reading) : Type 0 where

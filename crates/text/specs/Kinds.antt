@@ -10,11 +10,12 @@ use Rattle.stack.specs.Value.{channel-of, stack-of}
 use Rattle.stack.specs.Made.{bare}
 use Rattle.stack.specs.declared.TerminalsFound.{TerminalsFound}
 use Rattle.stack.specs.declared.TerminalsFound.the-variants.{Good, Crowd, Overhang, Crossing}
-use Rattle.text.specs.Text.{Refusal, refusal, fine, or-else, part-kind, nets-kind, layout, entry, part-content, nets-content, k-of, head-refusal, pairs-of}
+use Rattle.text.specs.Text.{Refusal, refusal, fine, or-else, part-kind, nets-kind, gap-kind, layout, entry, part-content, nets-content, gap-content, k-of, head-refusal, pairs-of}
 use Rattle.text.specs.Outcome.{refusal-of}
 use Rattle.text.specs.declared.Reading.{Reading}
 use Rattle.text.specs.declared.PartRead.{PartRead}
 use Rattle.text.specs.declared.NetsRead.{NetsRead}
+use Rattle.text.specs.declared.GapRead.{GapRead}
 
 -- the layout of line n: whether it has its word, the field at which its count of numbers is at fault, and the first that is no number
 unfoldable pub layout-found : (worded : Bool) → (fault ill n : ℕ) → Refusal
@@ -58,3 +59,12 @@ nets-refusal lo hi n l = or-else (layout nets-kind n l) (nets-content lo hi (ent
 pub record Nets-read (lower upper n : ℕ) (l : Line) (r : NetsRead) : Type 0 where
   pub outcome : refusal-of (r .outcome) ≡ nets-refusal lower upper n l
   pub pairs : refusal-of (r .outcome) .number ≡ 0 → channel-of (r .terminals) ≡ pairs-of (numbers-of l)
+
+-- GAP at line n in a stack of k channels, behind a GAP of a channel: its channel and floor
+unfoldable pub gap-refusal : (k before n : ℕ) → Line → Refusal
+gap-refusal k b n l = or-else (layout gap-kind n l) (gap-content k b (entry n 0 (numbers-of l)))
+
+pub record Gap-read (k before n : ℕ) (l : Line) (r : GapRead) : Type 0 where
+  pub outcome : refusal-of (r .outcome) ≡ gap-refusal k before n l
+  pub channel : refusal-of (r .outcome) .number ≡ 0 → r .channel ≡ getD (numbers-of l) 0 0
+  pub floor : refusal-of (r .outcome) .number ≡ 0 → r .floor ≡ getD (numbers-of l) 1 0

@@ -1,10 +1,11 @@
 // Reading a stack's text: its lines by their kinds, and document 01's refusals 1 to 6.
 ghost use mathlib.Core.Path.{_≡_};
+ghost use mathlib.Core.List.{[], _∷_};
 ghost use Prim.Native.Nat.{_+_, _*_, _^_, _≤_, _<_};
 ghost use Rattle.lines.specs.Lines.{line};
 ghost use Rattle.stack.specs.Value.{stack-of};
 ghost use Rattle.stack.specs.Made.{bare};
-ghost use Rattle.text.specs.Text.{exactly, in-pairs};
+ghost use Rattle.text.specs.Text.{exactly, in-pairs, entry, gap-content};
 ghost use Rattle.text.specs.Outcome.{number-of, refusal-of, is-accepted, refused};
 ghost use Rattle.text.specs.Kinds.{
   layout-found,
@@ -14,6 +15,7 @@ ghost use Rattle.text.specs.Kinds.{
   place,
   found-refusal,
   Nets-read,
+  Gap-read,
 };
 ghost use Rattle.text.specs.Driver.{
   Head-taken,
@@ -23,7 +25,9 @@ ghost use Rattle.text.specs.Driver.{
   Wiring,
   Nets-taken,
   All-nets-taken,
-  End-taken,
+  Gapping,
+  Gap-taken,
+  Gaps-taken,
   Reading-of,
   Stack-read,
 };
@@ -36,6 +40,7 @@ use stack::Strip;
 use stack::StripMade;
 use stack::Terminals;
 use stack::TerminalsFound;
+use stack::Tracks;
 
 // The refusals of documents 01 and 02, numbered from 1 in this order.
 pub enum Refusal {
@@ -252,6 +257,56 @@ fn read_nets(bytes: &[u8], ended: bool, n: u32, lower: Strip, upper: Strip) -> N
     NetsRead { outcome, terminals }
 }
 
+// GAP's channel and floor at line n, in a stack of k channels and behind a GAP of a channel, 0 for the first.
+fn gap_content(channel: u32, floor: u32, k: usize, before: u32, n: u32) -> Outcome
+    ensures { λ r. ⌜ refusal-of r ≡ gap-content k before (entry n 0 (channel ∷ floor ∷ [])) ⌝ }
+{
+    if channel < 1 {
+        return Outcome::refused(Refusal::Crowd, n, 2);
+    }
+    if k < channel as usize {
+        return Outcome::refused(Refusal::Crowd, n, 2);
+    }
+    if Stack::MAX_FLOOR < floor {
+        return Outcome::refused(Refusal::Crowd, n, 3);
+    }
+    if channel <= before {
+        return Outcome::refused(Refusal::Crossing, n, 2);
+    }
+    Outcome::Accepted
+}
+
+// What a GAP line is found to be, and its channel and floor where it is accepted.
+struct GapRead {
+    outcome: Outcome,
+    channel: u32,
+    floor: u32,
+}
+
+// GAP at line n, in a stack of k channels and behind a GAP of a channel: its channel and floor, or why not.
+fn read_gap(bytes: &[u8], ended: bool, n: u32, k: usize, before: u32) -> GapRead
+    ensures { λ r. ⌜ Gap-read k before n (line (now (bytes .entry)) ended) r ⌝ }
+{
+    let line = read_line(bytes, ended, b"GAP");
+    let layout = layout_outcome(line.worded, exactly(2, line.count), line.ill, n);
+    let values = line.values;
+    let channel = values[0];
+    let floor = values[1];
+    if !layout.is_accepted() {
+        return GapRead {
+            outcome: layout,
+            channel,
+            floor,
+        };
+    }
+    let outcome = gap_content(channel, floor, k, before, n);
+    GapRead {
+        outcome,
+        channel,
+        floor,
+    }
+}
+
 // How far a text has been read: what was found, where the next line begins, and the stack so far.
 struct Progress {
     outcome: Outcome,
@@ -360,7 +415,7 @@ fn take_all_nets(text: &[u8], parts: Progress) -> Progress
     p
 }
 
-// The number of the line behind the last one of a stack with k channels.
+// The number of the line behind the last NETS line of a stack with k channels.
 fn line_behind(k: usize) -> u32
     requires { ⌜ k ≤ 8 ⌝ }
     ensures { λ r. ⌜ r ≡ 2 * k + 3 ⌝ }
@@ -368,22 +423,65 @@ fn line_behind(k: usize) -> u32
     2 * k as u32 + 3
 }
 
-// The text's end: a further line is refused.
-fn take_end(text: &[u8], nets: Progress) -> Progress
+// How far a text has been read with a GAP line, and its channel where it is accepted.
+struct GapTaken {
+    read: Progress,
+    channel: u32,
+}
+
+// GAP line g, from 0, behind a GAP of a channel.
+fn take_gap(text: &[u8], p: Progress, g: u32, before: u32) -> GapTaken
+    requires { ⌜ Gapping (now text) g before p ⌝ }
+    ensures { λ r. ⌜ Gap-taken (now (text .entry)) g r ⌝ }
+{
+    let at = p.at;
+    let line = line_end(text, at);
+    let end = line.end;
+    let old = p.stack;
+    let n = line_behind(old.count) + g;
+    let gap = read_gap(&text[at..end], line.ended, n, old.count, before);
+    let outcome = gap.outcome;
+    let channel = gap.channel;
+    if !outcome.is_accepted() {
+        let read = Progress {
+            outcome,
+            at,
+            stack: old,
+        };
+        return GapTaken { read, channel };
+    }
+    let stack = old.with_floor(channel as usize - 1, Tracks(gap.floor));
+    let read = Progress {
+        outcome,
+        at: end + 1,
+        stack,
+    };
+    GapTaken { read, channel }
+}
+
+// The lines up to the text's end: each is a GAP.
+fn take_gaps(text: &[u8], nets: Progress) -> Progress
     requires { ⌜ All-nets-taken (now text) nets ⌝ }
-    ensures { λ r. ⌜ End-taken (now (text .entry)) r ⌝ }
+    ensures { λ r. ⌜ Gaps-taken (now (text .entry)) r ⌝ }
 {
     let found = nets.outcome;
     if !found.is_accepted() {
         return nets;
     }
-    let at = nets.at;
-    let stack = nets.stack;
-    if at < text.len() {
-        let outcome = Outcome::refused(Refusal::Layout, line_behind(stack.count), 0);
-        return Progress { outcome, at, stack };
+    let mut p = nets;
+    let mut g: u32 = 0;
+    let mut before: u32 = 0;
+    while p.at < text.len() {
+        let taken = take_gap(text, p, g, before);
+        p = taken.read;
+        before = taken.channel;
+        g += 1;
+        let outcome = p.outcome;
+        if !outcome.is_accepted() {
+            return p;
+        }
     }
-    nets
+    p
 }
 
 impl Progress {
@@ -413,7 +511,7 @@ impl Reading {
     }
 }
 
-// Document 01, "Lines and tabs" and "Sent back at the counter": the stack in a text, or the first refusal of 1 to 6 that applies.
+// Documents 01, "Lines and tabs" and "Sent back at the counter", and 02, P2: the stack in a text, or the first refusal of 1 to 6 that applies.
 pub fn read_stack(text: &[u8]) -> Reading
     ensures { λ r. ⌜ Stack-read (now (text .entry)) r ⌝ }
 {
@@ -423,6 +521,6 @@ pub fn read_stack(text: &[u8]) -> Reading
     let head = take_head(text);
     let parts = take_parts(text, head);
     let nets = take_all_nets(text, parts);
-    let end = take_end(text, nets);
-    end.reading()
+    let gaps = take_gaps(text, nets);
+    gaps.reading()
 }

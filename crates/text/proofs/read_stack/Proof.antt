@@ -27,8 +27,8 @@ take-parts-requires c κs = search needs
 take-all-nets-requires : tie.Need-take-all-nets-requires
 take-all-nets-requires c κs = search needs
 
-take-end-requires : tie.Need-take-end-requires
-take-end-requires c κs = search needs
+take-gaps-requires : tie.Need-take-gaps-requires
+take-gaps-requires c κs = search needs
 
 reading-requires : tie.Need-reading-requires
 reading-requires c κs = search needs
@@ -37,9 +37,9 @@ returns-2 : tie.Need-returns-2
 returns-2 c =
     let start = c .before .before .before .before .before .before .before in
     let if1 = c .before .before .before .before .before .if1 in
-    let take-end = c .before .take-end in
+    let take-gaps = c .before .take-gaps in
     let reading = c .reading in
-    whole-read (start .args .text .now) (take-end .result) (reading .result) (if1 .left) (take-end .ensures) (reading .ensures)
+    whole-read (start .args .text .now) (take-gaps .result) (reading .result) (if1 .left) (take-gaps .ensures) (reading .ensures)
 
 pub read-stack-spec : {M : Type 1} → statement M
 read-stack-spec =
@@ -51,6 +51,6 @@ read-stack-spec =
     take-head-requires
     take-parts-requires
     take-all-nets-requires
-    take-end-requires
+    take-gaps-requires
     reading-requires
     returns-2)
