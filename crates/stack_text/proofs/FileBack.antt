@@ -2,15 +2,15 @@
 -- Assumes nothing.
 use mathlib.Core.Path.{_≡_, refl, _∙_}
 use mathlib.Core.Bool.{true}
-use mathlib.Core.List.{List, [], _∷_, _++_, append-nil, map}
-use Prim.Native.Nat.{ℕ, zero, suc, _+_, _*_, _-_, _≤_, _<_}
+use mathlib.Core.List.{List, [], _∷_, _++_, append-assoc, append-nil, map}
+use Prim.Native.Nat.{ℕ, zero, suc, _+_, _*_, _≤_, _<_}
 use native.Mathlib.Omega.{arith}
 use lib.ListN.{length, getD, length-map, length-append, List·getD-append}
 use lib.Seq.{getD-append-add}
 use borrow.Author.Tests.{le-leb, lt-ltb, le-ltb}
 use Rattle.numbers.specs.Lists.{tabulate}
 use Rattle.lines.specs.Lines.{Line, lines, no-line, line-at}
-use Rattle.text.specs.Text.{refusal, fine, or-else, stack-word, part-word, nets-word, kind, exactly, in-pairs, stack-kind, part-kind, nets-kind, layout, entry, first-of, supplied, part-content, nets-content, Check, check, k-of, head-refusal, head-check, part-check, length-at, nets-check, tail-at, tail-check, checks, in-turn, text-refusal, File, file, file-in}
+use Rattle.text.specs.Text.{refusal, fine, or-else, stack-word, part-word, nets-word, gap-word, kind, exactly, in-pairs, stack-kind, part-kind, nets-kind, gap-kind, layout, entry, first-of, supplied, part-content, nets-content, gap-content, Check, check, k-of, head-refusal, head-check, part-check, length-at, nets-check, tail-at, tail-count, channel-before, tail-check, checks, in-turn, text-refusal, File, file, file-in}
 use Rattle.stack_text.specs.StackText.{lines-text, file-text}
 use Rattle.stack_text.proofs.Cuts.{without}
 use Rattle.stack_text.proofs.LineBack.{small, Small, line-made, numbers-back, layout-back, line-back, lines-back}
@@ -22,7 +22,7 @@ getD-map f (x ∷ xs) zero d e h = refl
 getD-map f (x ∷ xs) (suc i) d e h = getD-map f xs i d e (omega arith)
 
 -- a list by its elements
-tabulate-back {ℓ} : {A : Type ℓ} (d : A) (g : ℕ → A) (xs : List A) (i : ℕ) → ((j : ℕ) → j < length xs → g (i + j) ≡ getD xs j d) → tabulate (length xs) i g ≡ xs
+pub tabulate-back {ℓ} : {A : Type ℓ} (d : A) (g : ℕ → A) (xs : List A) (i : ℕ) → ((j : ℕ) → j < length xs → g (i + j) ≡ getD xs j d) → tabulate (length xs) i g ≡ xs
 unfolding tabulate
 tabulate-back d g [] i h = refl
 tabulate-back d g (x ∷ xs) i h =
@@ -36,12 +36,28 @@ pub record Shaped (f : File) : Type 0 where
   pub few : length (f .nets) < 10000
   pub parts : Small (f .parts)
   pub nets : Small (f .nets)
+  pub gaps : Small (f .gaps)
 
 abbrev lines-made : (word : List ℕ) → List (List ℕ) → List Line
 lines-made w nss = map (λ ns. line-made w ns) nss
 
+-- a line of a word behind others
+run-line : (before rest : List Line) (w : List ℕ) (nss : List (List ℕ)) (c : ℕ) → c < length nss →
+    line-at (before ++ (lines-made w nss ++ rest)) (length before + c) ≡ line-made w (getD nss c [])
+unfolding line-at
+run-line before rest w nss c h =
+    let within = rw (← length-map nss (λ ns. line-made w ns)) at h in
+    getD-append-add before (lines-made w nss ++ rest) c no-line
+    ∙ (List·getD-append (lines-made w nss) rest no-line c within ∙ getD-map (λ ns. line-made w ns) nss c no-line [] h)
+
+made-supplied : (ls : List Line) (i : ℕ) (w ns : List ℕ) → without 9 w ≡ true → small ns ≡ true → line-at ls i ≡ line-made w ns → supplied ls i ≡ entry (suc i) 0 ns
+unfolding supplied
+made-supplied ls i w ns h k e = rw (e, numbers-back w ns h k)
+
 unfoldable file-lines : File → List Line
-file-lines f = line-made stack-word (length (f .nets) ∷ []) ∷ (lines-made part-word (f .parts) ++ lines-made nets-word (f .nets))
+file-lines f =
+    line-made stack-word (length (f .nets) ∷ [])
+    ∷ (lines-made part-word (f .parts) ++ (lines-made nets-word (f .nets) ++ lines-made gap-word (f .gaps)))
 
 module _ (f : File) (s : Shaped f) where
   head-small : small (length (f .nets) ∷ []) ≡ true
@@ -49,12 +65,15 @@ module _ (f : File) (s : Shaped f) where
   head-small = rw (lt-ltb (length (f .nets)) 10000 (s .few))
 
   text-lines : lines (file-text f) ≡ file-lines f
-  unfolding file-text file-lines stack-word part-word nets-word without lines
+  unfolding file-text file-lines stack-word part-word nets-word gap-word without lines
   text-lines =
-      let nets = lines-back nets-word refl refl (f .nets) [] (s .nets) in
-      let parts = lines-back part-word refl refl (f .parts) (lines-text nets-word (f .nets)) (s .parts) in
-      line-back stack-word refl refl (length (f .nets) ∷ []) (lines-text part-word (f .parts) ++ lines-text nets-word (f .nets)) head-small
-      ∙ rw (parts, ← append-nil (lines-text nets-word (f .nets)), nets, append-nil)
+      let gap-text = lines-text gap-word (f .gaps) in
+      let net-text = lines-text nets-word (f .nets) in
+      let gaps : lines gap-text ≡ lines-made gap-word (f .gaps) = rw (← append-nil gap-text, lines-back gap-word refl refl (f .gaps) [] (s .gaps), append-nil) in
+      let nets = lines-back nets-word refl refl (f .nets) gap-text (s .nets) in
+      let parts = lines-back part-word refl refl (f .parts) (net-text ++ gap-text) (s .parts) in
+      line-back stack-word refl refl (length (f .nets) ∷ []) (lines-text part-word (f .parts) ++ (net-text ++ gap-text)) head-small
+      ∙ rw (parts, nets, gaps)
 
   k-back : k-of (file-lines f) ≡ length (f .nets)
   unfolding k-of line-at file-lines stack-word without
@@ -62,36 +81,55 @@ module _ (f : File) (s : Shaped f) where
 
   -- the lines at their places
   part-line : (j : ℕ) → j < length (f .parts) → line-at (file-lines f) (suc j) ≡ line-made part-word (getD (f .parts) j [])
-  unfolding line-at file-lines
+  unfolding file-lines
   part-line j h =
-      let within = rw (← length-map (f .parts) (λ ns. line-made part-word ns)) at h in
-      List·getD-append (lines-made part-word (f .parts)) (lines-made nets-word (f .nets)) no-line j within
-      ∙ getD-map (λ ns. line-made part-word ns) (f .parts) j no-line [] h
+      let head = line-made stack-word (length (f .nets) ∷ []) in
+      let place : suc j ≡ 1 + j = omega arith in
+      rw place (run-line (head ∷ []) (lines-made nets-word (f .nets) ++ lines-made gap-word (f .gaps)) part-word (f .parts) j h)
 
   nets-line : (c : ℕ) → c < length (f .nets) → line-at (file-lines f) (length (f .nets) + 2 + c) ≡ line-made nets-word (getD (f .nets) c [])
-  unfolding line-at file-lines
+  unfolding file-lines
   nets-line c h =
-      let ps = lines-made part-word (f .parts) in
-      let place : length (f .nets) + 2 + c ≡ suc (length ps + c) = omega (arith, s .strips, length-map (f .parts) (λ ns. line-made part-word ns)) in
-      rw place (getD-append-add ps (lines-made nets-word (f .nets)) c no-line) ∙ getD-map (λ ns. line-made nets-word ns) (f .nets) c no-line [] h
+      let before = line-made stack-word (length (f .nets) ∷ []) ∷ lines-made part-word (f .parts) in
+      let place : length (f .nets) + 2 + c ≡ length before + c = omega (arith, s .strips, length-map (f .parts) (λ ns. line-made part-word ns)) in
+      rw place (run-line before (lines-made gap-word (f .gaps)) nets-word (f .nets) c h)
 
-  no-tail : tabulate (length (file-lines f) - tail-at (file-lines f)) 0 (λ g. tail-check (file-lines f) g) ≡ []
-  unfolding tabulate tail-at file-lines
-  no-tail =
+  gap-line : (g : ℕ) → g < length (f .gaps) → line-at (file-lines f) (tail-at (file-lines f) + g) ≡ line-made gap-word (getD (f .gaps) g [])
+  unfolding tail-at file-lines
+  gap-line g h =
       let ps = lines-made part-word (f .parts) in
       let ns = lines-made nets-word (f .nets) in
+      let gs = lines-made gap-word (f .gaps) in
+      let before = line-made stack-word (length (f .nets) ∷ []) ∷ (ps ++ ns) in
       let parts = length-map (f .parts) (λ ns. line-made part-word ns) in
       let nets = length-map (f .nets) (λ ns. line-made nets-word ns) in
-      let none : suc (length (ps ++ ns)) - (2 * length (f .nets) + 2) ≡ 0 = omega (arith, s .strips, length-append ps ns, parts, nets) in
-      rw (k-back, none)
+      let place : 2 * length (f .nets) + 2 + g ≡ length before + g = omega (arith, s .strips, length-append ps ns, parts, nets) in
+      rw (k-back, place, ← append-assoc ps ns gs, ← append-nil gs) (run-line before [] gap-word (f .gaps) g h)
+
+  gaps-long : tail-count (file-lines f) ≡ length (f .gaps)
+  unfolding tail-count tail-at file-lines
+  gaps-long =
+      let ps = lines-made part-word (f .parts) in
+      let ns = lines-made nets-word (f .nets) in
+      let gs = lines-made gap-word (f .gaps) in
+      let parts = length-map (f .parts) (λ ns. line-made part-word ns) in
+      let nets = length-map (f .nets) (λ ns. line-made nets-word ns) in
+      let gaps = length-map (f .gaps) (λ ns. line-made gap-word ns) in
+      rw k-back (omega (arith, s .strips, length-append ps (ns ++ gs), length-append ns gs, parts, nets, gaps))
 
   part-supplied : (j : ℕ) → j < length (f .parts) → supplied (file-lines f) (suc j) ≡ entry (suc (suc j)) 0 (getD (f .parts) j [])
-  unfolding supplied part-word without
-  part-supplied j h = rw (part-line j h, numbers-back part-word (getD (f .parts) j []) refl (s .parts j h))
+  unfolding part-word without
+  part-supplied j h = made-supplied (file-lines f) (suc j) part-word (getD (f .parts) j []) refl (s .parts j h) (part-line j h)
 
   nets-supplied : (c : ℕ) → c < length (f .nets) → supplied (file-lines f) (length (f .nets) + 2 + c) ≡ entry (suc (length (f .nets) + 2 + c)) 0 (getD (f .nets) c [])
-  unfolding supplied nets-word without
-  nets-supplied c h = rw (nets-line c h, numbers-back nets-word (getD (f .nets) c []) refl (s .nets c h))
+  unfolding nets-word without
+  nets-supplied c h = made-supplied (file-lines f) (length (f .nets) + 2 + c) nets-word (getD (f .nets) c []) refl (s .nets c h) (nets-line c h)
+
+  gap-supplied : (g : ℕ) → g < length (f .gaps) →
+      let i = tail-at (file-lines f) + g in
+      supplied (file-lines f) i ≡ entry (suc i) 0 (getD (f .gaps) g [])
+  unfolding gap-word without
+  gap-supplied g h = made-supplied (file-lines f) (tail-at (file-lines f) + g) gap-word (getD (f .gaps) g []) refl (s .gaps g h) (gap-line g h)
 
   -- THE FILE IS READ BACK
   parts-back : tabulate (length (f .parts)) 1 (λ i. supplied (file-lines f) i .numbers) ≡ f .parts
@@ -103,9 +141,18 @@ module _ (f : File) (s : Shaped f) where
   unfolding entry
   nets-back = tabulate-back [] (λ i. supplied (file-lines f) i .numbers) (f .nets) (length (f .nets) + 2) (λ c h. rw (nets-supplied c h))
 
+  gaps-back : tabulate (length (f .gaps)) (tail-at (file-lines f)) (λ i. supplied (file-lines f) i .numbers) ≡ f .gaps
+  unfolding entry
+  gaps-back = tabulate-back [] (λ i. supplied (file-lines f) i .numbers) (f .gaps) (tail-at (file-lines f)) (λ g h. rw (gap-supplied g h))
+
   pub file-back : file-in (file-text f) ≡ f
   unfolding file-in file
-  file-back = rw (text-lines, k-back, ← s .strips, parts-back, nets-back)
+  file-back = rw (text-lines, gaps-long, gaps-back, k-back, ← s .strips, parts-back, nets-back)
+
+-- the channel of the GAP line before line g, b for the first
+unfoldable pub gap-before : (b : ℕ) → List (List ℕ) → (g : ℕ) → ℕ
+gap-before b gs zero = b
+gap-before b gs (suc g) = getD (getD gs g []) 0 0
 
 -- a file whose lines have their counts of numbers and nothing to refuse in their contents
 pub record Contents (f : File) : Type 0 where
@@ -116,6 +163,8 @@ pub record Contents (f : File) : Type 0 where
   pub nets-count : (c : ℕ) → c < length (f .nets) → in-pairs (length (getD (f .nets) c [])) ≡ 0
   pub nets-good : (c n : ℕ) → c < length (f .nets) →
       nets-content (getD (getD (f .parts) c []) 0 0) (getD (getD (f .parts) (suc c) []) 0 0) (entry n 0 (getD (f .nets) c [])) ≡ fine
+  pub gap-count : (g : ℕ) → g < length (f .gaps) → exactly 2 (length (getD (f .gaps) g [])) ≡ 0
+  pub gap-good : (g n : ℕ) → g < length (f .gaps) → gap-content (length (f .nets)) (gap-before 0 (f .gaps) g) (entry n 0 (getD (f .gaps) g [])) ≡ fine
   pub short : length (file-text f) ≤ 8192
 
 -- lines of which nothing is refused
@@ -148,14 +197,29 @@ module _ (f : File) (s : Shaped f) (o : Contents f) where
       let laid = layout-back nets-kind n (getD (f .nets) c []) refl (s .nets c h) (o .nets-count c h) in
       rw (k-back f s, lengths c (omega (arith, s .strips)), lengths (suc c) (omega (arith, s .strips)), nets-line f s c h, laid, nets-supplied f s c h, o .nets-good c n h)
 
+  before-back : (g : ℕ) → g < length (f .gaps) → channel-before (file-lines f) g ≡ gap-before 0 (f .gaps) g
+  unfolding channel-before gap-before first-of entry
+  before-back zero h = refl
+  before-back (suc g) h = rw (gap-supplied f s g (omega arith))
+
+  gap-fine : (g : ℕ) → g < length (f .gaps) → tail-check (file-lines f) g ≡ check fine fine
+  unfolding tail-check gap-kind kind gap-word without
+  gap-fine g h =
+      let n = suc (tail-at (file-lines f) + g) in
+      let laid = layout-back gap-kind n (getD (f .gaps) g []) refl (s .gaps g h) (o .gap-count g h) in
+      rw (gap-line f s g h, laid, gap-supplied f s g h, before-back g h, k-back f s, o .gap-good g n h)
+
   checks-fine : in-turn (checks (file-lines f)) ≡ fine
   unfolding checks in-turn head-check check or-else fine refusal
   checks-fine =
       let ls = file-lines f in
-      let nets = tabulate (length (f .nets)) 0 (λ c. nets-check ls c) in
-      let parts-turn = in-turn-fine (suc (length (f .nets))) 0 (λ j. part-check ls j) (nets ++ []) (λ j a b. part-fine j (omega (arith, s .strips))) in
-      let nets-turn = in-turn-fine (length (f .nets)) 0 (λ c. nets-check ls c) [] (λ c a b. nets-fine c (omega arith)) in
-      rw (head-fine, no-tail f s, k-back f s, parts-turn, nets-turn)
+      let k = length (f .nets) in
+      let gaps = tabulate (length (f .gaps)) 0 (λ g. tail-check ls g) in
+      let nets = tabulate k 0 (λ c. nets-check ls c) in
+      let parts-turn = in-turn-fine (suc k) 0 (λ j. part-check ls j) (nets ++ gaps) (λ j a b. part-fine j (omega (arith, s .strips))) in
+      let nets-turn = in-turn-fine k 0 (λ c. nets-check ls c) gaps (λ c a b. nets-fine c (omega arith)) in
+      let gaps-turn = in-turn-fine (length (f .gaps)) 0 (λ g. tail-check ls g) [] (λ g a b. gap-fine g (omega arith)) in
+      rw (head-fine, k-back f s, gaps-long f s, parts-turn, nets-turn, ← append-nil gaps, gaps-turn)
 
   -- THE TEXT IS ACCEPTED
   pub file-accepted : text-refusal (file-text f) ≡ fine
