@@ -79,6 +79,12 @@ module _ (f : File) (s : Shaped f) where
   unfolding k-of line-at file-lines stack-word without
   k-back = rw (numbers-back stack-word (length (f .nets) ∷ []) refl head-small)
 
+  parts-made : length (lines-made part-word (f .parts)) ≡ suc (length (f .nets))
+  parts-made = length-map (f .parts) (λ ns. line-made part-word ns) ∙ s .strips
+
+  nets-made : length (lines-made nets-word (f .nets)) ≡ length (f .nets)
+  nets-made = length-map (f .nets) (λ ns. line-made nets-word ns)
+
   -- the lines at their places
   part-line : (j : ℕ) → j < length (f .parts) → line-at (file-lines f) (suc j) ≡ line-made part-word (getD (f .parts) j [])
   unfolding file-lines
@@ -91,7 +97,7 @@ module _ (f : File) (s : Shaped f) where
   unfolding file-lines
   nets-line c h =
       let before = line-made stack-word (length (f .nets) ∷ []) ∷ lines-made part-word (f .parts) in
-      let place : length (f .nets) + 2 + c ≡ length before + c = omega (arith, s .strips, length-map (f .parts) (λ ns. line-made part-word ns)) in
+      let place : length (f .nets) + 2 + c ≡ length before + c = omega (arith, parts-made) in
       rw place (run-line before (lines-made gap-word (f .gaps)) nets-word (f .nets) c h)
 
   gap-line : (g : ℕ) → g < length (f .gaps) → line-at (file-lines f) (tail-at (file-lines f) + g) ≡ line-made gap-word (getD (f .gaps) g [])
@@ -101,9 +107,7 @@ module _ (f : File) (s : Shaped f) where
       let ns = lines-made nets-word (f .nets) in
       let gs = lines-made gap-word (f .gaps) in
       let before = line-made stack-word (length (f .nets) ∷ []) ∷ (ps ++ ns) in
-      let parts = length-map (f .parts) (λ ns. line-made part-word ns) in
-      let nets = length-map (f .nets) (λ ns. line-made nets-word ns) in
-      let place : 2 * length (f .nets) + 2 + g ≡ length before + g = omega (arith, s .strips, length-append ps ns, parts, nets) in
+      let place : 2 * length (f .nets) + 2 + g ≡ length before + g = omega (arith, length-append ps ns, parts-made, nets-made) in
       rw (k-back, place, ← append-assoc ps ns gs, ← append-nil gs) (run-line before [] gap-word (f .gaps) g h)
 
   gaps-long : tail-count (file-lines f) ≡ length (f .gaps)
@@ -112,10 +116,8 @@ module _ (f : File) (s : Shaped f) where
       let ps = lines-made part-word (f .parts) in
       let ns = lines-made nets-word (f .nets) in
       let gs = lines-made gap-word (f .gaps) in
-      let parts = length-map (f .parts) (λ ns. line-made part-word ns) in
-      let nets = length-map (f .nets) (λ ns. line-made nets-word ns) in
       let gaps = length-map (f .gaps) (λ ns. line-made gap-word ns) in
-      rw k-back (omega (arith, s .strips, length-append ps (ns ++ gs), length-append ns gs, parts, nets, gaps))
+      rw k-back (omega (arith, length-append ps (ns ++ gs), length-append ns gs, parts-made, nets-made, gaps))
 
   part-supplied : (j : ℕ) → j < length (f .parts) → supplied (file-lines f) (suc j) ≡ entry (suc (suc j)) 0 (getD (f .parts) j [])
   unfolding part-word without

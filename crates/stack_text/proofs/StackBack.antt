@@ -118,7 +118,7 @@ floor-good k b c f above within most low = record {
 
 -- line after line, the first behind a line of channel b
 unfoldable Gaps-good : (k b : ℕ) → List (List ℕ) → Type 0
-Gaps-good k b [] = 0 ≤ 0
+Gaps-good k b [] = Unit
 Gaps-good k b (ns ∷ gs) = Gap-good k b ns × Gaps-good k (getD ns 0 0) gs
 
 gap-at : (k b : ℕ) (gs : List (List ℕ)) (g : ℕ) → Gaps-good k b gs → g < length gs → Gap-good k (gap-before b gs g) (getD gs g [])
@@ -140,9 +140,10 @@ one-more n c cs P none line = go (eqb (c .floor) 0) refl
 
 floors-good : (k b n : ℕ) (cs : List Channel) → Low cs → b < n → n + length cs ≤ suc k → k ≤ 8 → Gaps-good k b (gaps-of n cs)
 unfolding Gaps-good gaps-of
-floors-good k b n [] low above within most = omega arith
+floors-good k b n [] low above within most = tt
 floors-good k b n (c ∷ cs) low above within most =
-    let rest : (a : ℕ) → a < suc n → Gaps-good k a (gaps-of (suc n) cs) = λ a h. floors-good k a (suc n) cs (λ j l. low (suc j) (omega arith)) h (omega arith) most in
+    let lower : Low cs = λ j l. low (suc j) (omega arith) in
+    let rest : (a : ℕ) → a < suc n → Gaps-good k a (gaps-of (suc n) cs) = λ a h. floors-good k a (suc n) cs lower h (omega arith) most in
     let first = floor-good k b n (c .floor) above (omega arith) most (low 0 (omega arith)) in
     one-more n c cs (λ gs. Gaps-good k b gs) (λ z. rest b (omega arith)) (first, rest n (omega arith))
 

@@ -2,7 +2,7 @@
 -- more at a time. Assumes nothing.
 use mathlib.Core.Path.{_≡_, refl, ap, sym, _∙_}
 use mathlib.Core.Bool.{Bool, true, false, _&&_, cond}
-use mathlib.Core.List.{List, [], _∷_, _++_}
+use mathlib.Core.List.{List, [], _∷_}
 use Prim.Native.Nat.{ℕ, zero, suc, _+_, _≤_, _<_}
 use native.Mathlib.Omega.{arith}
 use lib.Dec.{ltb, leb, eqb}
@@ -13,7 +13,7 @@ use Rattle.numbers.proofs.Bools.{ands}
 use Rattle.lines.specs.Lines.{Line, numbers-of}
 use Rattle.lines.specs.Numbers.{Line-read}
 use Rattle.lines.specs.declared.LineRead.{LineRead}
-use Rattle.text.specs.Text.{Refusal, refusal, fine, gap-word, kind, exactly, gap-kind, Entry, entry, first-of, second-of, fault-at, gap-content, floor-in}
+use Rattle.text.specs.Text.{refusal, fine, gap-word, kind, exactly, gap-kind, Entry, entry, first-of, second-of, fault-at, gap-content, floor-in}
 use Rattle.text.specs.Outcome.{refusal-of, is-accepted}
 use Rattle.text.specs.Kinds.{layout-found, gap-refusal, Gap-read}
 use Rattle.text.specs.declared.Outcome.{Outcome}

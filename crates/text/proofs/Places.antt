@@ -20,17 +20,16 @@ use Rattle.stack.specs.Stack.{Channel, channel, no-channel, channel-in, Stack, 
 use Rattle.stack.specs.Value.{strip, channel-of, length-at as struct-length, stack-of}
 use Rattle.stack.specs.Made.{bare, Strip-set, Channel-set, Floor-set}
 use Rattle.stack.specs.declared.Stack.{Stack as Stack-struct}
-use Rattle.text.specs.Text.{Refusal, refusal, fine, part-kind, nets-kind, gap-kind, layout, entry, first-of, second-of, supplied, part-content, nets-content, gap-content, check, k-of, head-refusal, head-check, part-check, length-at, nets-check, tail-at, channel-before, tail-check, floor-in}
+use Rattle.text.specs.Text.{Refusal, refusal, fine, part-kind, nets-kind, gap-kind, layout, entry, first-of, second-of, supplied, part-content, nets-content, gap-content, check, k-of, head-refusal, head-check, part-check, length-at, nets-check, tail-at, channel-before, tail-check}
 use Rattle.text.specs.Outcome.{refusal-of, is-accepted}
 use Rattle.text.specs.Kinds.{Head-read, part-refusal, Part-read, nets-refusal, Nets-read, gap-refusal, Gap-read}
-use Rattle.text.specs.Driver.{Going, Read-to, line-refusal, Head-taken, Parting, Part-taken, nets-pairs, Wiring, Nets-taken, gap-lines, gaps-read, Gapping, Gap-taken}
+use Rattle.text.specs.Driver.{Going, Read-to, line-refusal, Head-taken, Parting, Part-taken, nets-pairs, Wiring, Nets-taken, floor-read, gaps-read, Gapping, Gap-taken}
 use Rattle.text.specs.declared.Outcome.{Outcome}
 use Rattle.text.specs.declared.Progress.{Progress}
 use Rattle.text.specs.declared.Reading.{Reading}
 use Rattle.text.specs.declared.PartRead.{PartRead}
 use Rattle.text.specs.declared.NetsRead.{NetsRead}
 use Rattle.text.specs.declared.GapRead.{GapRead}
-use Rattle.text.specs.declared.GapTaken.{GapTaken}
 use Rattle.text.proofs.Refusals.{or-else-fine, refused-number, accepted-fine, number-fine, or-else-none}
 use Rattle.text.proofs.Layouts.{layout-ended}
 use Rattle.text.proofs.Within.{head-says}
@@ -157,13 +156,10 @@ nets-taken bs p c e r k m h f t s =
     let content = nets-content lo hi (entry (suc i) 0 (numbers-of l)) in
     let wired : ℕ → Channel = λ j. channel (nets-pairs ls j) 0 in
     let within : c < k-of ls = omega (arith, g .count) in
+    let bare = filled-rest (k-of ls) c c wired no-channel no-channel (omega arith) within in
     line-taken bs i _ p g e f (line-refusal (nets-check ls c)) (r .outcome) _ k says
     (λ z. layout-ended nets-kind (suc i) l (or-else-fine _ content (rw (check-nets ls c) at z) .0))
-    (λ z. (
-      s .count,
-      s .value
-          ∙ rw (g .stands, there .pairs (rw says z), filled-rest (k-of ls) c c wired no-channel no-channel (omega arith) within, ← filled-steps (k-of ls) c wired no-channel within),
-    ))
+    (λ z. (s .count, s .value ∙ rw (g .stands, there .pairs (rw says z), bare, ← filled-steps (k-of ls) c wired no-channel within)))
 
 -- GAP
 check-gap : (ls : List Line) (g : ℕ) →
@@ -172,17 +168,17 @@ unfolding tail-check gap-refusal check supplied
 check-gap ls g = refl
 
 -- one floor more: that of the line's channel
-floor-more : (ls : List Line) (g c f : ℕ) → channel-before ls (suc g) ≡ suc c → second-of (supplied ls (tail-at ls + g)) ≡ f → ((j : ℕ) → j ≤ g → channel-before ls j ≤ c) → c < k-of ls →
+floor-more : (ls : List Line) (g c f : ℕ) → channel-before ls (suc g) ≡ suc c → second-of (supplied ls (tail-at ls + g)) ≡ f →
+    ((j : ℕ) → j ≤ g → channel-before ls j ≤ c) → c < k-of ls →
     stack (gaps-read ls g .strips) (set (gaps-read ls g .channels) c (channel (channel-in (gaps-read ls g) c .pairs) f)) ≡ gaps-read ls (g + 1)
 unfolding stack channel-before first-of second-of
 floor-more ls g c f named floor below within =
     let numbers : ℕ → List ℕ = λ i. supplied ls i .numbers in
-    let at : ℕ → ℕ → Channel = λ g c. channel (nets-pairs ls c) (floor-in (gap-lines ls g) (suc c)) in
-    let here : at (suc g) c ≡ channel (nets-pairs ls c) f =
-    ap (λ v. channel (nets-pairs ls c) v) (floor-named numbers g (tail-at ls) (suc c) named (λ j l e. omega (arith, below (suc j) (omega arith))) ∙ floor) in
+    let at : ℕ → ℕ → Channel = λ g c. channel (nets-pairs ls c) (floor-read ls g c) in
+    let first : floor-read ls (suc g) c ≡ f = floor-named numbers g (tail-at ls) (suc c) named (λ j l e. omega (arith, below (suc j) (omega arith))) ∙ floor in
     rw (getD-tabulate (k-of ls) c (at g) no-channel within, add-one g)
     (ap (λ (cs : List Channel). stack (gaps-read ls g .strips) cs)
-    (sym (tabulate-set (k-of ls) c (at g) (at (suc g)) (channel (nets-pairs ls c) f) here
+    (sym (tabulate-set (k-of ls) c (at g) (at (suc g)) (channel (nets-pairs ls c) f) (rw first)
     (λ j d. ap (λ v. channel (nets-pairs ls j) v) (floor-unnamed numbers g (tail-at ls) (suc j) (λ e. d (omega arith)))))))
 
 -- a line that is accepted
@@ -208,7 +204,8 @@ module _ (bs : List ℕ) (p : Progress) (g b : ℕ) (e : LineEnd) (n : ℕ) (r :
   gap-refused : refusal-of (r .outcome) ≡ line-refusal (tail-check (lines bs) g)
   gap-refused = gap-there .outcome ∙ sym (check-gap (lines bs) g)
 
-  pub gap-stays : is-accepted (r .outcome) ≡ false → (c : ℕ) → Gap-taken bs g (record { read = record { outcome = r .outcome; at = p .at; stack = p .stack }; channel = c })
+  pub gap-stays : is-accepted (r .outcome) ≡ false → (c : ℕ) →
+      Gap-taken bs g (record { read = record { outcome = r .outcome; at = p .at; stack = p .stack }; channel = c })
   gap-stays a c =
       let none : line-refusal (tail-check (lines bs) g) .number ≡ 0 → ⊥ = rw gap-refused at (refused-number (r .outcome) a) in
       record { read = record { outcome = gap-refused; going = λ z. absurd (none z) }; channel = λ z. absurd (none z) }
@@ -239,15 +236,14 @@ module _ (bs : List ℕ) (p : Progress) (g b : ℕ) (e : LineEnd) (n : ℕ) (r :
         let c = r .channel - 1 in
         let above : b < r .channel = omega (arith, channel-read, gap-means bs g b p m line-fine .above) in
         let named : channel-before ls (suc g) ≡ suc c = sym channel-read ∙ omega (arith, above) in
+        let content = gap-content (k-of ls) (channel-before ls g) (entry (suc i) 0 (numbers-of l)) in
+        let below : (j : ℕ) → j ≤ g → channel-before ls j ≤ c = λ j h. omega (arith, m .rising j h, above) in
+        let inside : c < k-of ls = omega (arith, gap-channel .0, gap-channel .1, going .count) in
+        let floor = sym (gap-there .floor gap-fine) in
         record {
           read =
               line-taken bs i _ p going e f (line-refusal (tail-check ls g)) (r .outcome) _ k gap-refused
-              (λ z. layout-ended gap-kind (suc i) l (or-else-fine _ (gap-content (k-of ls) (channel-before ls g) (entry (suc i) 0 (numbers-of l))) (rw (check-gap ls g) at z) .0))
-              (λ z. (
-                u .count,
-                u .value
-                    ∙ rw (going .stands)
-                    (floor-more ls g c (r .floor) named (sym (gap-there .floor gap-fine)) (λ j h. omega (arith, m .rising j h, above)) (omega (arith, gap-channel .0, gap-channel .1, going .count))),
-              ));
+              (λ z. layout-ended gap-kind (suc i) l (or-else-fine _ content (rw (check-gap ls g) at z) .0))
+              (λ z. (u .count, u .value ∙ rw (going .stands) (floor-more ls g c (r .floor) named floor below inside)));
           channel = λ z. channel-read;
         }

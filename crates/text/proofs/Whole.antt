@@ -115,7 +115,8 @@ module _ (bs : List ℕ) (p : Progress) (t : Parts-taken bs p) where
           nets-then q (rw (last, ← channels) (rw e at (lines-end bs (λ i. nets-check (lines bs) i) (k + 2) k c _ q m all)))
 
 -- GAP LINES behind them, up to the text's end: with one line more its channel is the highest
-rises : (ls : List Line) (g b c : ℕ) → ((j : ℕ) → j ≤ g → channel-before ls j ≤ b) → b < c → c ≡ channel-before ls (suc g) → (j : ℕ) → j ≤ g + 1 → channel-before ls j ≤ c
+rises : (ls : List Line) (g b c : ℕ) → ((j : ℕ) → j ≤ g → channel-before ls j ≤ b) → b < c → c ≡ channel-before ls (suc g) →
+    (j : ℕ) → j ≤ g + 1 → channel-before ls j ≤ c
 rises ls g b c below above last j h = go (leb j g) refl
   where
     go : (v : Bool) → leb j g ≡ v → channel-before ls j ≤ c

@@ -1,9 +1,9 @@
--- A text that is not refused has a stack within document 01's limits: each test that refuses is a limit. By induction on the terminals of a line and on the
--- lines of a kind. Assumes nothing.
+-- A text that is not refused has a stack within the limits: each test that refuses is a limit. By induction on the terminals of a line and on the lines of a
+-- kind. Assumes nothing.
 use mathlib.Core.Path.{_≡_, refl, ap, _∙_}
 use mathlib.Core.Bool.{Bool, true, false, _&&_, not, cond}
 use mathlib.Core.List.{List, [], _∷_, _++_, map}
-use Prim.Native.Nat.{ℕ, zero, suc, _+_, _≤_}
+use Prim.Native.Nat.{ℕ, zero, suc, _+_, _≤_, _<_}
 use native.Mathlib.Nat.{add-zero}
 use native.Mathlib.Omega.{arith}
 use lib.Dec.{ltb, leb, eqb}
@@ -15,7 +15,7 @@ use Rattle.lines.specs.Lines.{Line, lines, line-at}
 use Rattle.stack.specs.Stack.{pair, Channel, channel, stack}
 use Rattle.stack.specs.Limits.{rises-above, rising, on-strips, pairs-within, channel-within, channels-within, strips-within, within-limits}
 use Rattle.text.specs.Text.{fine, or-else, stack-kind, layout, Entry, first-of, second-of, fault-at, supplied, part-content, terminals-refusal, nets-content, Check, check, k-of, head-refusal, head-check, part-check, length-at, nets-check, tail-at, tail-count, channel-before, tail-check, checks, in-turn, text-refusal, file, file-in, pairs-of, floor-in, stack-in-file, stack-in}
-use Rattle.text.specs.Driver.{line-refusal, upto-head, upto-parts, nets-pairs, upto-nets, gap-lines, gaps-read, upto-gaps}
+use Rattle.text.specs.Driver.{line-refusal, upto-head, upto-parts, nets-pairs, upto-nets, floor-read, gaps-read, upto-gaps}
 use Rattle.text.proofs.Refusals.{or-else-fine, when-fine, only-fine, or-else-assoc, in-turn-append}
 use Rattle.text.proofs.Nets.{pairs-length}
 use Rattle.text.proofs.Gaps.{gap-says}
@@ -150,19 +150,31 @@ map-tabulate g f zero i = refl
 map-tabulate g f (suc n) i = rw (map-tabulate g f n (suc i))
 
 -- the stack in a text, line by line
+module _ (ls : List Line) where
+  strips-by-lines : (n : ℕ) → map (λ ns. getD ns 0 0) (tabulate n 1 (λ i. supplied ls i .numbers)) ≡ tabulate n 0 (λ j. length-at ls j)
+  unfolding length-at first-of
+  strips-by-lines n =
+      let numbers : ℕ → List ℕ = λ i. supplied ls i .numbers in
+      let next : (j : ℕ) → 1 + j ≡ suc j = λ j. omega arith in
+      map-tabulate (λ ns. getD ns 0 0) numbers n 1
+      ∙ tabulate-from (λ i. getD (numbers i) 0 0) (λ j. length-at ls j) 1 (λ j. rw (next j)) n 1 0 (omega arith)
+
+  nets-by-lines : (s n c : ℕ) → c < n → getD (tabulate n s (λ i. supplied ls i .numbers)) c [] ≡ supplied ls (s + c) .numbers
+  nets-by-lines s n c h =
+      let numbers : ℕ → List ℕ = λ i. supplied ls i .numbers in
+      rw (tabulate-from numbers (λ c. numbers (s + c)) s (λ j. refl) n s 0 (omega arith)) (getD-tabulate n c (λ c. numbers (s + c)) [] h)
+
 pub stack-by-lines : (bs : List ℕ) → stack-in bs ≡ gaps-read (lines bs) (tail-count (lines bs))
-unfolding stack-in stack-in-file file-in file length-at first-of
+unfolding stack-in stack-in-file file-in file
 stack-by-lines bs =
     let ls = lines bs in
     let k = k-of ls in
-    let numbers : ℕ → List ℕ = λ i. supplied ls i .numbers in
-    let floor : ℕ → ℕ = λ c. floor-in (gap-lines ls (tail-count ls)) (suc c) in
-    let strips = map-tabulate (λ ns. getD ns 0 0) numbers (suc k) 1 ∙ tabulate-from (λ i. getD (numbers i) 0 0) (λ j. length-at ls j) 1 (λ j. let e : 1 + j ≡ suc j = omega arith in rw e) (suc k) 1 0 (omega arith) in
-    let nets : tabulate k (k + 2) numbers ≡ tabulate k 0 (λ c. numbers (k + 2 + c)) = tabulate-from numbers (λ c. numbers (k + 2 + c)) (k + 2) (λ j. refl) k (k + 2) 0 (omega arith) in
-    rw (strips, nets, length-tabulate k 0 (λ c. numbers (k + 2 + c)))
+    let nets : List (List ℕ) = tabulate k (k + 2) (λ i. supplied ls i .numbers) in
+    let floor : ℕ → ℕ = λ c. floor-read ls (tail-count ls) c in
+    rw (strips-by-lines ls (suc k), length-tabulate k (k + 2) (λ i. supplied ls i .numbers))
     (ap (λ (cs : List Channel). stack (tabulate (suc k) 0 (λ j. length-at ls j)) cs)
-    (tabulate-same k 0 (λ c. channel (pairs-of (getD (tabulate k 0 (λ c. numbers (k + 2 + c))) c [])) (floor c)) (λ c. channel (nets-pairs ls c) (floor c))
-    (λ c a b. rw (getD-tabulate k c (λ c. numbers (k + 2 + c)) [] (omega arith)))))
+    (tabulate-same k 0 (λ c. channel (pairs-of (getD nets c [])) (floor c)) (λ c. channel (nets-pairs ls c) (floor c))
+    (λ c a b. rw (nets-by-lines ls (k + 2) k c (omega arith)))))
 
 pub accepted-within : (bs : List ℕ) → text-refusal bs .number ≡ 0 → within-limits (stack-in bs) ≡ true
 unfolding within-limits stack text-refusal head-check check
@@ -171,9 +183,10 @@ accepted-within bs h =
     let k = k-of ls in
     let a = when-fine (ltb 8192 (length bs)) 0 0 0 (in-turn (checks ls)) h .1 in
     let t = or-else-fine (upto-nets bs) _ (rw (checks-in-turn bs) at a) in
-    let floor : ℕ → ℕ = λ c. floor-in (gap-lines ls (tail-count ls)) (suc c) in
+    let floor : ℕ → ℕ = λ c. floor-read ls (tail-count ls) c in
     let small : (c : ℕ) → floor c ≤ 64 = λ c. rw add-zero at (floors-fine (tail-count ls) 0 ls (t .1) (suc c)) in
     let n = or-else-fine (upto-parts bs) _ (t .0) in
     let p = or-else-fine (upto-head bs) _ (n .0) in
     let few = head-says ls (or-else-fine (head-refusal ls) fine (p .0) .0) .within in
-    rw (stack-by-lines bs, length-tabulate k 0 (λ c. channel (nets-pairs ls c) (floor c)), few, strips-fine (suc k) 0 ls (p .1)) (channels-fine k 0 ls floor (n .1) small)
+    let long = length-tabulate k 0 (λ c. channel (nets-pairs ls c) (floor c)) in
+    rw (stack-by-lines bs, long, few, strips-fine (suc k) 0 ls (p .1)) (channels-fine k 0 ls floor (n .1) small)

@@ -84,8 +84,11 @@ upto-nets bs = or-else (upto-parts bs) (in-turn (tabulate (k-of (lines bs)) 0 (�
 abbrev pub gap-lines : List Line → (g : ℕ) → List (List ℕ)
 gap-lines ls g = tabulate g (tail-at ls) (λ i. supplied ls i .numbers)
 
+abbrev pub floor-read : List Line → (g channel : ℕ) → ℕ
+floor-read ls g c = floor-in (gap-lines ls g) (suc c)
+
 abbrev pub gaps-read : List Line → (g : ℕ) → Stack
-gaps-read ls g = stack (tabulate (suc (k-of ls)) 0 (λ i. length-at ls i)) (tabulate (k-of ls) 0 (λ c. channel (nets-pairs ls c) (floor-in (gap-lines ls g) (suc c))))
+gaps-read ls g = stack (tabulate (suc (k-of ls)) 0 (λ i. length-at ls i)) (tabulate (k-of ls) 0 (λ c. channel (nets-pairs ls c) (floor-read ls g c)))
 
 abbrev pub All-nets-taken : List ℕ → Progress → Type 0
 All-nets-taken bs r = Read-to bs (upto-nets bs) (tail-at (lines bs)) (gaps-read (lines bs) 0) r
