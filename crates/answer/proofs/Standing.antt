@@ -249,7 +249,7 @@ module _ (k : Stack-struct) (limits : List (List (List ℕ))) (lasts : List ℕ)
   filled-lasts =
       record {
         channels = few-channels k e;
-        listed = λ i h. 
+        listed = λ i h.
             let last : entry lasts i ≡ max (getD (k .channels) i no-terminals .count) (floor-at k i) =
             rw (stack-channel k i h, channel-length (getD (k .channels) i no-terminals)) at (l .lasts-are i h) in
             omega (arith, few-pairs k e i h, small-floor k e i h);

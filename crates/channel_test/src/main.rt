@@ -57,7 +57,13 @@ fn print_feasible(terminals: Terminals, lower: u32, upper: u32)
 {
     for t in 0..34 {
         if t <= terminals.count as u32 + 1 {
-            print_bit(is_feasible(terminals, Tracks(0), Tracks(t), Columns(lower), Columns(upper)));
+            print_bit(is_feasible(
+                terminals,
+                Tracks(0),
+                Tracks(t),
+                Columns(lower),
+                Columns(upper),
+            ));
         }
     }
     end_line();

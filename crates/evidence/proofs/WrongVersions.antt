@@ -96,7 +96,7 @@ a-page-at-4 = specimen 43
 
 a-3-at-4 : Holds (spread-gives text-a-3 4 3 (3 ∷ []) (0 ∷ 0 ∷ []))
 unfolding specimens Entry-holds
-a-3-at-4 = specimen 75
+a-3-at-4 = specimen 71
 
 -- bytes that differ
 bytes-same : (a : List ℕ) → same-bytes a a ≡ true

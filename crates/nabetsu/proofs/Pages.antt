@@ -16,7 +16,7 @@ use Rattle.stack.specs.Stack.{Channel, channel-in, Stack, Answer, longest}
 use Rattle.stack.specs.Limits.{within-limits}
 use Rattle.stack.specs.Value.{tracks, columns, no-terminals, channel-of, stack-of}
 use Rattle.stack.specs.declared.Stack.{Stack as Stack-struct}
-use Rattle.stack.proofs.Values.{track-at, column-at}
+use Rattle.stack.proofs.Values.{track-at, column-at, stack-channel}
 use Rattle.stack.proofs.Within.{stack-channels, strips-count, few-channels}
 use Rattle.text.specs.Text.{Refusal, refusal, fine, or-else, text-refusal, stack-in}
 use Rattle.text.specs.Outcome.{refusal-of, is-accepted}

@@ -1,4 +1,5 @@
 -- channel is safe: terminals that are made are few and on the strips. Assumes nothing.
+use native.Mathlib.Omega.{arith}
 use Rattle.stack.proofs.Found.{made-few, made-on-strips}
 use Rattle.stack.proofs.OnStrips.{on-longer}
 use borrow.Author.Needs.{needs}
@@ -65,7 +66,7 @@ print-number-requires c κs = search needs
 channel-limits-requires : tie.Need-channel-limits-requires
 channel-limits-requires c κs =
     let made = c .before .before .before .before .before .before in (
-      made-few _ _ _ _ (made .new .result) (made .new .ensures),
+      (made-few _ _ _ _ (made .new .result) (made .new .ensures), omega arith),
       on-longer _ _ 1000 1000 _ (made .before .before .longest .ensures) (made .before .longest2 .ensures) (made-on-strips _ _ _ _ (made .new .result) (made .new .ensures)),
     )
 
