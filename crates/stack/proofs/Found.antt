@@ -1,6 +1,6 @@
 -- What the constructors find: the tests that the code makes are those of pair-found, and pairs in which no fault is found keep document 01's limits.
 -- Assumes nothing.
-use mathlib.Core.Path.{_≡_, refl, sym, _∙_}
+use mathlib.Core.Path.{_≡_, refl, ap, sym, _∙_}
 use mathlib.Core.Bool.{Bool, true, false, cond}
 use mathlib.Core.List.{List, [], _∷_, _++_}
 use Prim.Native.Nat.{ℕ, zero, suc, _+_, _*_, _-_, _≤_, _<_}
@@ -8,7 +8,7 @@ use native.Mathlib.Nat.{zero-add}
 use native.Mathlib.Numerals.{add-one}
 use native.Mathlib.Omega.{arith}
 use lib.Dec.{ltb, leb}
-use lib.ListN.{length, getD, drop, drop-of-length-le}
+use lib.ListN.{length, getD, set, drop, replicate, length-set, length-replicate, drop-of-length-le}
 use lib.Seq.{drop-cons}
 use borrow.Author.Tests.{leb-false, ltb-false, lt-ltb, le-ltb, le-leb}
 use Rattle.numbers.specs.Lists.{tabulate}
@@ -16,8 +16,7 @@ use Rattle.numbers.proofs.Lists.{length-tabulate, getD-tabulate, tabulate-snoc}
 use Rattle.stack.specs.Stack.{Pair, pair, p-at, q-at}
 use Rattle.stack.specs.Limits.{on-strips}
 use Rattle.stack.specs.Value.{columns, channel-of}
-use Rattle.stack.specs.Made.{not-above, is-good, pair-found, or-fault, pairs-found, terminals-found, kept, pairs-in, Pair-made, Making, Terminals-made, Stored}
-use Rattle.stack.specs.declared.Columns.{Columns}
+use Rattle.stack.specs.Made.{not-above, is-good, pair-found, or-fault, pairs-found, terminals-found, kept, pairs-in, Making, Terminals-made}
 use Rattle.stack.specs.declared.Terminals.{Terminals}
 use Rattle.stack.specs.declared.TerminalsMade.{TerminalsMade}
 use Rattle.stack.specs.declared.TerminalsFound.{TerminalsFound}
@@ -79,18 +78,6 @@ room t lo hi p q f e g = go (leb 32 (t .count)) refl
         let z : _≡_ {A = ℕ} 0 1 = cc in absurd (omega arith)
     go false h = leb-false 32 (t .count) h
 
-pub pair-refused : (t : Terminals) (lo hi p q : ℕ) (f : TerminalsFound) → f ≡ pair-found (channel-of t) lo hi p q → is-good f ≡ false →
-    Pair-made t lo hi p q (record { found = f; terminals = t })
-pair-refused t lo hi p q f e g = record { found = e; pairs = sym (fault-keeps f _ _ g) }
-
-pub pair-stored : (t : Terminals) (lo hi p q : ℕ) (f : TerminalsFound) (ps qs : List Columns) → f ≡ pair-found (channel-of t) lo hi p q → is-good f ≡ true →
-    Stored (t .lower) 32 (t .count) (columns p) ps → Stored (t .upper) 32 (t .count) (columns q) qs →
-    Pair-made t lo hi p q (record { found = f; terminals = record { lower = ps; upper = qs; count = t .count + 1 } })
-unfolding kept
-pair-stored t lo hi p q f ps qs e g a b =
-    let h : t .count < 32 = room t lo hi p q f e g in
-    record { found = e; pairs = rw (good-is f g, a .stored, b .stored) (channel-longer t p q (omega (arith, a .long)) (omega (arith, b .long))) }
-
 pairs-in-more : (xs : List ℕ) (j : ℕ) → pairs-in xs (j + 1) ≡ pairs-in xs j ++ (pair (getD xs (2 * j) 0) (getD xs (2 * j + 1) 0) ∷ [])
 unfolding pairs-in
 pairs-in-more xs j =
@@ -107,33 +94,51 @@ pairs-in-rest xs n j h =
     let f : ℕ → Pair = λ j. pair (getD xs (2 * j) 0) (getD xs (2 * j + 1) 0) in
     rw (drop-cons (tabulate n 0 f) j (pair 0 0) (omega (arith, length-tabulate n 0 f)), getD-tabulate n j f (pair 0 0) h, add-one j)
 
-pub making-starts : (xs : List ℕ) (n lo hi : ℕ) (t : Terminals) → channel-of t ≡ [] → Making xs n lo hi t 0
-unfolding pairs-in tabulate
-making-starts xs n lo hi t e = record { below = omega arith; stand = e; rest = rw e }
+pub making-starts : (xs : List ℕ) (n lo hi : ℕ) → Making xs n lo hi (record { lower = replicate 32 (columns 0); upper = replicate 32 (columns 0); count = 0 }) 0
+unfolding pairs-in tabulate channel-of
+making-starts xs n lo hi = record {
+  below = omega arith;
+  lower-long = length-replicate 32 (columns 0);
+  upper-long = length-replicate 32 (columns 0);
+  stand = refl;
+  rest = refl;
+}
 
 -- the pair at j, and what is found of the pairs from it on
-module _ (xs : List ℕ) (n lo hi : ℕ) (t : Terminals) (j : ℕ) (r : TerminalsMade) (less : j < n) (m : Making xs n lo hi t j)
-    (made : Pair-made t lo hi (getD xs (2 * j) 0) (getD xs (2 * j + 1) 0) r) where
-  from-here : pairs-found [] lo hi (pairs-in xs n) ≡ or-fault (r .found) (pairs-found (channel-of t ++ (pair (getD xs (2 * j) 0) (getD xs (2 * j + 1) 0) ∷ [])) lo hi (drop (j + 1) (pairs-in xs n)))
+module _ (xs : List ℕ) (n lo hi : ℕ) (t : Terminals) (j : ℕ) (f : TerminalsFound) (less : j < n) (m : Making xs n lo hi t j)
+    (found : f ≡ pair-found (channel-of t) lo hi (getD xs (2 * j) 0) (getD xs (2 * j + 1) 0)) where
+  from-here : pairs-found [] lo hi (pairs-in xs n) ≡ or-fault f (pairs-found (channel-of t ++ (pair (getD xs (2 * j) 0) (getD xs (2 * j + 1) 0) ∷ [])) lo hi (drop (j + 1) (pairs-in xs n)))
   unfolding pairs-found pair
-  from-here = rw (m .rest, pairs-in-rest xs n j less, made .found)
+  from-here = rw (m .rest, pairs-in-rest xs n j less, found)
 
-  pub making-steps : is-good (r .found) ≡ true → Making xs n lo hi (r .terminals) (j + 1)
-  unfolding kept or-fault
-  making-steps g =
-      let good : r .found ≡ Good = good-is (r .found) g in
-      let now : channel-of (r .terminals) ≡ channel-of t ++ (pair (getD xs (2 * j) 0) (getD xs (2 * j + 1) 0) ∷ []) = made .pairs ∙ rw good in
+  counted : t .count ≡ j
+  counted = sym (channel-length t) ∙ ap length (m .stand) ∙ pairs-in-length xs j
+
+  longer : Terminals
+  longer = record { lower = set (t .lower) j (columns (getD xs (2 * j) 0)); upper = set (t .upper) j (columns (getD xs (2 * j + 1) 0)); count = j + 1 }
+
+  now-longer : n ≤ 32 → channel-of longer ≡ channel-of t ++ (pair (getD xs (2 * j) 0) (getD xs (2 * j + 1) 0) ∷ [])
+  unfolding longer
+  now-longer few =
+      rw (← counted) (channel-longer t (getD xs (2 * t .count) 0) (getD xs (2 * t .count + 1) 0) (omega (arith, counted, m .lower-long)) (omega (arith, counted, m .upper-long)))
+
+  pub making-steps : n ≤ 32 → is-good f ≡ true →
+      Making xs n lo hi (record { lower = set (t .lower) j (columns (getD xs (2 * j) 0)); upper = set (t .upper) j (columns (getD xs (2 * j + 1) 0)); count = j + 1 }) (j + 1)
+  unfolding or-fault longer
+  making-steps few g =
       record {
         below = omega arith;
-        stand = now ∙ rw (m .stand, pairs-in-more xs j);
-        rest = from-here ∙ rw (now, good);
+        lower-long = length-set (t .lower) j _ ∙ m .lower-long;
+        upper-long = length-set (t .upper) j _ ∙ m .upper-long;
+        stand = now-longer few ∙ rw (m .stand, pairs-in-more xs j);
+        rest = from-here ∙ rw (now-longer few, good-is f g);
       }
 
-  pub making-refuses : (none : Terminals) → n ≤ 32 → channel-of none ≡ [] → is-good (r .found) ≡ false → Terminals-made xs n lo hi (record { found = r .found; terminals = none })
+  pub making-refuses : (none : Terminals) → n ≤ 32 → channel-of none ≡ [] → is-good f ≡ false → Terminals-made xs n lo hi (record { found = f; terminals = none })
   unfolding terminals-found
   making-refuses none few e g = record {
-    found = sym (rw (pairs-in-length xs n, le-ltb 32 n few, from-here) (fault-stays (r .found) _ g));
-    pairs = e ∙ sym (fault-keeps (r .found) _ _ g);
+    found = sym (rw (pairs-in-length xs n, le-ltb 32 n few, from-here) (fault-stays f _ g));
+    pairs = e ∙ sym (fault-keeps f _ _ g);
   }
 
 pub making-ends : (xs : List ℕ) (n lo hi : ℕ) (t : Terminals) (j : ℕ) → n ≤ 32 → n ≤ j → Making xs n lo hi t j → Terminals-made xs n lo hi (record { found = Good; terminals = t })

@@ -66,11 +66,6 @@ kept Crowd new old = old
 kept (Overhang n) new old = old
 kept (Crossing n) new old = old
 
--- one pair more, or the terminals as they were
-pub record Pair-made (t : Terminals) (lower upper p q : ℕ) (r : TerminalsMade) : Type 0 where
-  pub found : r .found ≡ pair-found (channel-of t) lower upper p q
-  pub pairs : channel-of (r .terminals) ≡ kept (r .found) (channel-of t ++ (pair p q ∷ [])) (channel-of t)
-
 -- the pairs whose terminals stand in the order p(0), q(0), p(1), q(1), ..
 unfoldable pub pairs-in : List ℕ → (pairs : ℕ) → List Pair
 pairs-in xs n = tabulate n 0 (λ j. pair (getD xs (2 * j) 0) (getD xs (2 * j + 1) 0))
@@ -78,6 +73,8 @@ pairs-in xs n = tabulate n 0 (λ j. pair (getD xs (2 * j) 0) (getD xs (2 * j + 1
 -- while terminals are made: the first j pairs stand, and the first fault, if there is one, is among the pairs behind them
 pub record Making (xs : List ℕ) (n lower upper : ℕ) (t : Terminals) (j : ℕ) : Type 0 where
   pub below : j ≤ n
+  pub lower-long : length (t .lower) ≡ 32
+  pub upper-long : length (t .upper) ≡ 32
   pub stand : channel-of t ≡ pairs-in xs j
   pub rest : pairs-found [] lower upper (pairs-in xs n) ≡ pairs-found (channel-of t) lower upper (drop j (pairs-in xs n))
 

@@ -12,7 +12,6 @@ ghost use Rattle.stack.specs.Made.{
   is-good,
   not-above,
   pair-found,
-  Pair-made,
   Terminals-made,
   bare,
   Stack-made,
@@ -131,33 +130,6 @@ impl Terminals {
         TerminalsFound::Good
     }
 
-    // The terminals with one pair more, or as they were where it does not keep the limits.
-    pub fn with_pair(self, p: u32, q: u32, lower: Strip, upper: Strip) -> TerminalsMade
-        ensures { λ r. ⌜ Pair-made self (lower .length .0) (upper .length .0) p q r ⌝ }
-    {
-        let found = self.found_with(p, q, lower, upper);
-        let at = self.count;
-        let ps = self.lower;
-        let qs = self.upper;
-        if !found.is_good() {
-            return TerminalsMade {
-                found,
-                terminals: self,
-            };
-        }
-        let longer_ps = columns_stored(ps, at, Columns(p));
-        let longer_qs = columns_stored(qs, at, Columns(q));
-        let longer = Terminals {
-            lower: longer_ps,
-            upper: longer_qs,
-            count: at + 1,
-        };
-        TerminalsMade {
-            found,
-            terminals: longer,
-        }
-    }
-
     // The pairs of terminals that stand in the order p(0), q(0), p(1), q(1) and so on.
     pub fn new(
         values: &[u32; 2 * Terminals::MAX_PAIRS],
@@ -174,17 +146,24 @@ impl Terminals {
                 terminals: none,
             };
         }
-        let mut terminals = none;
+        let mut terminals = Terminals {
+            lower: [Columns(0); Terminals::MAX_PAIRS],
+            upper: [Columns(0); Terminals::MAX_PAIRS],
+            count: 0,
+        };
         for j in 0..pairs {
-            let made = terminals.with_pair(values[2 * j], values[2 * j + 1], lower, upper);
-            let found = made.found;
+            let p = values[2 * j];
+            let q = values[2 * j + 1];
+            let found = terminals.found_with(p, q, lower, upper);
             if !found.is_good() {
                 return TerminalsMade {
                     found,
                     terminals: none,
                 };
             }
-            terminals = made.terminals;
+            terminals.lower[j] = Columns(p);
+            terminals.upper[j] = Columns(q);
+            terminals.count = j + 1;
         }
         TerminalsMade {
             found: TerminalsFound::Good,
@@ -205,18 +184,6 @@ fn is_not_above(before: [Columns; Terminals::MAX_PAIRS], n: usize, x: u32) -> bo
 }
 
 // The stores also say how long their arrays are, which is known of an array that is passed and not of a struct's field.
-fn columns_stored(
-    mut all: [Columns; Terminals::MAX_PAIRS],
-    i: usize,
-    x: Columns,
-) -> [Columns; Terminals::MAX_PAIRS]
-    requires { ⌜ i < 32 ⌝ }
-    ensures { λ r. ⌜ Stored all 32 i x r ⌝ }
-{
-    all[i] = x;
-    all
-}
-
 fn strip_stored(mut all: [Strip; Stack::STRIPS], i: usize, x: Strip) -> [Strip; Stack::STRIPS]
     requires { ⌜ i < 9 ⌝ }
     ensures { λ r. ⌜ Stored all 9 i x r ⌝ }

@@ -21,37 +21,56 @@ returns : tie.Need-returns Inv-loop μ-loop
 returns c = making-crowded (c .before .before .args .values .now) (c .before .before .args .pairs) (c .before .before .args .lower .length .0) (c .before .before .args .upper .length .0) (c .before .none .result) (c .if1 .taken) (c .before .none .ensures)
 
 loop-holds : tie.Need-loop-holds Inv-loop μ-loop
-loop-holds c = making-starts (c .before .before .args .values .now) (c .before .before .args .pairs) (c .before .before .args .lower .length .0) (c .before .before .args .upper .length .0) (c .before .none .result) (c .before .none .ensures)
+loop-holds c = making-starts (c .before .before .args .values .now) (c .before .before .args .pairs) (c .before .before .args .lower .length .0) (c .before .before .args .upper .length .0)
 
-mul-with-pair : tie.Need-mul-with-pair Inv-loop μ-loop
-mul-with-pair c = search needs
+mul-p : tie.Need-mul-p Inv-loop μ-loop
+mul-p c = search needs
 
-mul-with-pair-2 : tie.Need-mul-with-pair-2 Inv-loop μ-loop
-mul-with-pair-2 c = search needs
+mul-p-2 : tie.Need-mul-p-2 Inv-loop μ-loop
+mul-p-2 c = search needs
 
-element-copy-out-with-pair : tie.Need-element-copy-out-with-pair Inv-loop μ-loop
-element-copy-out-with-pair c = search needs
+element-copy-out-p : tie.Need-element-copy-out-p Inv-loop μ-loop
+element-copy-out-p c = search needs
 
-mul-with-pair-3 : tie.Need-mul-with-pair-3 Inv-loop μ-loop
-mul-with-pair-3 c = search needs
+mul-q : tie.Need-mul-q Inv-loop μ-loop
+mul-q c = search needs
 
-add-with-pair : tie.Need-add-with-pair Inv-loop μ-loop
-add-with-pair c = search needs
+add-q : tie.Need-add-q Inv-loop μ-loop
+add-q c = search needs
 
-mul-with-pair-4 : tie.Need-mul-with-pair-4 Inv-loop μ-loop
-mul-with-pair-4 c = search needs
+mul-q-2 : tie.Need-mul-q-2 Inv-loop μ-loop
+mul-q-2 c = search needs
 
-element-copy-out-with-pair-2 : tie.Need-element-copy-out-with-pair-2 Inv-loop μ-loop
-element-copy-out-with-pair-2 c = search needs
+element-copy-out-q : tie.Need-element-copy-out-q Inv-loop μ-loop
+element-copy-out-q c = search needs
 
-with-pair-requires : tie.Need-with-pair-requires Inv-loop μ-loop
-with-pair-requires c κs = search needs
+found-with-requires : tie.Need-found-with-requires Inv-loop μ-loop
+found-with-requires c κs = search needs
 
 is-good-requires : tie.Need-is-good-requires Inv-loop μ-loop
 is-good-requires c κs = search needs
 
 returns-2 : tie.Need-returns-2 Inv-loop μ-loop
-returns-2 c = making-refuses (c .before .before .before .before .before .before .before .before .before .args .values .now) (c .before .before .before .before .before .before .before .before .before .args .pairs) (c .before .before .before .before .before .before .before .before .before .args .lower .length .0) (c .before .before .before .before .before .before .before .before .before .args .upper .length .0) (c .before .before .before .before .before .before .loop .terminals) (c .before .before .before .before .before .before .loop .j) (c .before .before .with-pair .result) (c .before .before .before .before .before .loop-test .taken) (c .before .before .before .before .before .before .loop .inv) (c .before .before .with-pair .ensures) (c .before .before .before .before .before .before .before .before .none .result) (c .before .before .before .before .before .before .before .if1 .left) (c .before .before .before .before .before .before .before .before .none .ensures) (sym (c .before .is-good .ensures) ∙ not-true _ (c .if2 .taken))
+returns-2 c =
+    let a = c .before .before .before .before .before .before .before .before .before in
+    let loop = c .before .before .before .before .before .before .loop in
+    making-refuses (a .args .values .now) (a .args .pairs) (a .args .lower .length .0) (a .args .upper .length .0) (loop .terminals) (loop .j) (c .before .before .found-with .result) (c .before .before .before .before .before .loop-test .taken) (loop .inv) (c .before .before .found-with .ensures)
+    (c .before .before .before .before .before .before .before .before .none .result) (c .before .before .before .before .before .before .before .if1 .left) (c .before .before .before .before .before .before .before .before .none .ensures) (sym (c .before .is-good .ensures) ∙ not-true _ (c .if2 .taken))
+
+mul-terminals : tie.Need-mul-terminals Inv-loop μ-loop
+mul-terminals c = search needs
+
+element-set-from-terminals : tie.Need-element-set-from-terminals Inv-loop μ-loop
+element-set-from-terminals c = search needs
+
+mul-t19 : tie.Need-mul-t19 Inv-loop μ-loop
+mul-t19 c = search needs
+
+element-set-from-terminals-2 : tie.Need-element-set-from-terminals-2 Inv-loop μ-loop
+element-set-from-terminals-2 c = search needs
+
+add-terminals : tie.Need-add-terminals Inv-loop μ-loop
+add-terminals c = search needs
 
 add-j : tie.Need-add-j Inv-loop μ-loop
 add-j c = search needs
@@ -60,7 +79,11 @@ loop-less : tie.Need-loop-less Inv-loop μ-loop
 loop-less c = search needs
 
 loop-again : tie.Need-loop-again Inv-loop μ-loop
-loop-again c = making-steps (c .before .before .before .before .before .before .before .before .before .before .args .values .now) (c .before .before .before .before .before .before .before .before .before .before .args .pairs) (c .before .before .before .before .before .before .before .before .before .before .args .lower .length .0) (c .before .before .before .before .before .before .before .before .before .before .args .upper .length .0) (c .before .before .before .before .before .before .before .loop .terminals) (c .before .before .before .before .before .before .before .loop .j) (c .before .before .before .with-pair .result) (c .before .before .before .before .before .before .loop-test .taken) (c .before .before .before .before .before .before .before .loop .inv) (c .before .before .before .with-pair .ensures) (sym (c .before .before .is-good .ensures) ∙ not-false _ (c .before .if2 .left))
+loop-again c =
+    let a = c .before .before .before .before .before .before .before .before .before in
+    let loop = c .before .before .before .before .before .before .loop in
+    making-steps (a .args .values .now) (a .args .pairs) (a .args .lower .length .0) (a .args .upper .length .0) (loop .terminals) (loop .j) (c .before .before .found-with .result) (c .before .before .before .before .before .loop-test .taken) (loop .inv) (c .before .before .found-with .ensures)
+    (c .before .before .before .before .before .before .before .if1 .left) (sym (c .before .is-good .ensures) ∙ not-false _ (c .if2 .left))
 
 returns-3 : tie.Need-returns-3 Inv-loop μ-loop
 returns-3 c = making-ends (c .before .before .before .before .args .values .now) (c .before .before .before .before .args .pairs) (c .before .before .before .before .args .lower .length .0) (c .before .before .before .before .args .upper .length .0) (c .before .loop .terminals) (c .before .loop .j) (c .before .before .if1 .left) (c .loop-test .left) (c .before .loop .inv)
@@ -74,16 +97,21 @@ new-spec =
     none-requires
     returns
     loop-holds
-    mul-with-pair
-    mul-with-pair-2
-    element-copy-out-with-pair
-    mul-with-pair-3
-    add-with-pair
-    mul-with-pair-4
-    element-copy-out-with-pair-2
-    with-pair-requires
+    mul-p
+    mul-p-2
+    element-copy-out-p
+    mul-q
+    add-q
+    mul-q-2
+    element-copy-out-q
+    found-with-requires
     is-good-requires
     returns-2
+    mul-terminals
+    element-set-from-terminals
+    mul-t19
+    element-set-from-terminals-2
+    add-terminals
     add-j
     loop-less
     loop-again
