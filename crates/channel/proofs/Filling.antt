@@ -5,9 +5,9 @@ use mathlib.Core.List.{List, _++_}
 use Prim.Native.Nat.{ℕ, _+_, _*_, _-_, _≤_, _<_}
 use native.Mathlib.Omega.{arith}
 use native.Mathlib.Nat.{zero-add}
-use lib.ListN.{set, replicate}
+use lib.ListN.{length, set, replicate, length-append, length-replicate}
 use Rattle.numbers.specs.Lists.{tabulate, filled}
-use Rattle.numbers.proofs.Lists.{filled-starts, filled-steps, filled-ends, tabulate-same}
+use Rattle.numbers.proofs.Lists.{length-tabulate, filled-starts, filled-steps, filled-ends, tabulate-same}
 use Rattle.stack.specs.Limits.{on-strips}
 use Rattle.stack.specs.Sizes.{separations-held}
 use Rattle.stack.specs.Value.{channel-of}
@@ -28,6 +28,15 @@ filling-steps f g n t low high l u h few s a b =
       lows = rw (s .lows, a) (filled-steps separations-held t f 0 (omega arith));
       highs = rw (s .highs, b) (filled-steps separations-held t g (2 * bias) (omega arith));
     }
+
+-- both rows keep their lengths
+filled-long : (t : ℕ) (f : ℕ → ℕ) (d : ℕ) → t ≤ separations-held → length (filled separations-held t f d) ≡ separations-held
+unfolding filled
+filled-long t f d h = rw (length-append, length-tabulate t 0 f, length-replicate (separations-held - t) d) (omega arith)
+
+pub filling-long : (f g : ℕ → ℕ) (n t : ℕ) (low high : List ℕ) → n ≤ 32 → Filling f g n t low high → (length low ≡ separations-held) × (length high ≡ separations-held)
+filling-long f g n t low high few s =
+    (ap length (s .lows) ∙ filled-long t f 0 (omega (arith, s .below)), ap length (s .highs) ∙ filled-long t g (2 * bias) (omega (arith, s .below)))
 
 -- a rule that is another one up to n, and that one is d from n on
 filled-as : (n : ℕ) (f g : ℕ → ℕ) (d : ℕ) → n ≤ separations-held → ((s : ℕ) → s < n → f s ≡ g s) → ((s : ℕ) → n ≤ s → g s ≡ d) →

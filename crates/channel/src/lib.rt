@@ -2,7 +2,7 @@
 ghost use mathlib.Core.Path.{_≡_};
 ghost use mathlib.Core.Bool.{true};
 ghost use Prim.Native.Nat.{_≤_, min, max};
-ghost use lib.ListN.{getD};
+ghost use lib.ListN.{length, getD};
 ghost use Rattle.stack.specs.Stack.{channel, wirable, feasible};
 ghost use Rattle.stack.specs.Limits.{on-strips};
 ghost use Rattle.stack.specs.Sizes.{separations-held};
@@ -104,20 +104,15 @@ fn raised(term: u16) -> u64
     Stack::BIAS - TERM_BIAS as u64 + term as u64
 }
 
-// A row of limits with another value below a floor.
-fn closed_below(
-    mut row: [u64; Stack::SEPARATIONS],
-    floor: Tracks,
-    closed: u64,
-) -> [u64; Stack::SEPARATIONS]
-    requires { ⌜ floor .0 ≤ 64 ⌝ }
-    ensures { λ r. ⌜ r ≡ tabulate separations-held 0 (λ t. from-floor (floor .0) closed (λ s. getD row s 0) t) ⌝ }
+// Another value for a row of limits below a floor.
+fn close_below(row: &mut [u64; Stack::SEPARATIONS], floor: Tracks, closed: u64)
+    requires { ⌜ (floor .0 ≤ 64) × (length (now row) ≡ separations-held) ⌝ }
+    ensures { λ _. ⌜ now (row .exit) ≡ tabulate separations-held 0 (λ t. from-floor (floor .0) closed (λ s. getD (now (row .entry)) s 0) t) ⌝ }
 {
     let below = floor.0 as usize;
     for t in 0..below {
         row[t] = closed;
     }
-    row
 }
 
 // L(t) and R(t) for every t from a floor on, closed below it. Behind the last pair stand zeros, and TERM_BIAS where t is added to the index. So a term past the last is less than every term of L(t),
@@ -140,12 +135,9 @@ pub fn channel_limits(terminals: Terminals, floor: Tracks) -> Limits
         low[t] = raised(greatest_term(&p, &q_on, t));
         high[t] = raised(least_term(&p_on, &q, t));
     }
-    let lows = closed_below(low, floor, 2 * Stack::BIAS);
-    let highs = closed_below(high, floor, 0);
-    Limits {
-        low: lows,
-        high: highs,
-    }
+    close_below(&mut low, floor, 2 * Stack::BIAS);
+    close_below(&mut high, floor, 0);
+    Limits { low, high }
 }
 
 // Pair i joins p to q and pair i + t joins pt to qt: from p to qt, and from q to pt, it is at least t columns.

@@ -68,16 +68,6 @@ fault-stays (Overhang n) r h = refl
 fault-stays (Crossing n) r h = refl
 
 -- where a pair more is good there is a place for it
-pub room : (t : Terminals) (lo hi p q : ℕ) (f : TerminalsFound) → f ≡ pair-found (channel-of t) lo hi p q → is-good f ≡ true → t .count < 32
-room t lo hi p q f e g = go (leb 32 (t .count)) refl
-  where
-    go : (b : Bool) → leb 32 (t .count) ≡ b → t .count < 32
-    go true h =
-        let crowd : f ≡ Crowd = e ∙ (found-in-places t lo hi p q ∙ rw h) in
-        let good : f ≡ Good = good-is f g in
-        let z : _≡_ {A = ℕ} 0 1 = cc in absurd (omega arith)
-    go false h = leb-false 32 (t .count) h
-
 pairs-in-more : (xs : List ℕ) (j : ℕ) → pairs-in xs (j + 1) ≡ pairs-in xs j ++ (pair (getD xs (2 * j) 0) (getD xs (2 * j + 1) 0) ∷ [])
 unfolding pairs-in
 pairs-in-more xs j =

@@ -7,7 +7,7 @@ use Rattle.stack.specs.Stack.{channel}
 use Rattle.stack.specs.Value.{channel-of}
 use Rattle.channel.specs.Limits.{term-bias, raised, low-found, high-found, Filling}
 use Rattle.channel.proofs.Terms.{narrowed-held, terminals-at-most}
-use Rattle.channel.proofs.Filling.{filling-starts, filling-steps, filling-ends}
+use Rattle.channel.proofs.Filling.{filling-starts, filling-steps, filling-long, filling-ends}
 use Rattle.channel.proofs.Floors.{limits-closed}
 use borrow.Author.Needs.{needs}
 use Rattle.channel.proofs.channel_limits.Statement.{statement}
@@ -82,22 +82,29 @@ loop-again c = filling-steps _ _ _ (c .before .before .before .before .before .b
     (c .before .before .before .before .raised .ensures ∙ ap (λ x. raised x) (c .before .before .before .before .before .greatest-term .ensures))
     (c .raised2 .ensures ∙ ap (λ x. raised x) (c .before .least-term .ensures))
 
-mul-closed-below : tie.Need-mul-closed-below Inv-loop μ-loop
-mul-closed-below c = search needs
+mul-close-below : tie.Need-mul-close-below Inv-loop μ-loop
+mul-close-below c = search needs
 
-closed-below-requires : tie.Need-closed-below-requires Inv-loop μ-loop
-closed-below-requires c κs = search needs
+close-below-requires : tie.Need-close-below-requires Inv-loop μ-loop
+close-below-requires c κs =
+    let a = c .before .before .before .before .before .before .before .before .before in
+    let loop = c .before .before .loop in
+    (a .pre .0 .1, filling-long _ _ _ (loop .t) (loop .low) (loop .high) (a .pre .0 .0) (loop .inv) .0)
 
-closed-below-requires-2 : tie.Need-closed-below-requires-2 Inv-loop μ-loop
-closed-below-requires-2 c κs = search needs
+close-below-requires-2 : tie.Need-close-below-requires-2 Inv-loop μ-loop
+close-below-requires-2 c κs =
+    let a = c .before .before .before .before .before .before .before .before .before .before .before in
+    let loop = c .before .before .before .before .loop in
+    (a .pre .0 .1, filling-long _ _ _ (loop .t) (loop .low) (loop .high) (a .pre .0 .0) (loop .inv) .1)
 
 returns : tie.Need-returns Inv-loop μ-loop
 returns c =
-    let a = c .before .before .before .before .before .before .before .before .before .before in
-    limits-closed (channel (channel-of (a .args .terminals)) (a .args .floor .0)) (c .before .before .before .loop .low) (c .before .before .before .loop .high) _ _
-    (filling-ends (a .args .terminals) (c .before .before .before .loop .t) _ _ _ _ (c .before .before .before .loop .low) (c .before .before .before .loop .high) (a .pre .0 .0) (a .pre .1) (c .before .before .loop-test .left)
-    (c .before .before .before .before .before .before .before .narrowed .ensures) (c .before .before .before .before .before .before .narrowed2 .ensures) (c .before .before .before .before .before .narrowed3 .ensures) (c .before .before .before .before .narrowed4 .ensures) (c .before .before .before .loop .inv))
-    (c .before .closed-below .ensures) (c .closed-below2 .ensures)
+    let a = c .before .before .before .before .before .before .before .before .before .before .before .before in
+    let loop = c .before .before .before .before .before .loop in
+    limits-closed (channel (channel-of (a .args .terminals)) (a .args .floor .0)) (loop .low) (loop .high) _ _
+    (filling-ends (a .args .terminals) (loop .t) _ _ _ _ (loop .low) (loop .high) (a .pre .0 .0) (a .pre .1) (c .before .before .before .before .loop-test .left)
+    (c .before .before .before .before .before .before .before .before .before .narrowed .ensures) (c .before .before .before .before .before .before .before .before .narrowed2 .ensures) (c .before .before .before .before .before .before .before .narrowed3 .ensures) (c .before .before .before .before .before .before .narrowed4 .ensures) (loop .inv))
+    (c .before .before .close-below .ensures) (c .close-below2 .ensures)
 
 pub channel-limits-spec : {M : Type 1} → statement M
 channel-limits-spec =
@@ -122,7 +129,7 @@ channel-limits-spec =
     add-t
     loop-less
     loop-again
-    mul-closed-below
-    closed-below-requires
-    closed-below-requires-2
+    mul-close-below
+    close-below-requires
+    close-below-requires-2
     returns)
