@@ -185,6 +185,14 @@ module _ (bs : List ℕ) (n : Progress) (t : All-nets-taken bs n) where
           let e : g ≡ tail-count ls = omega (arith, m .read .below) in
           gaps-then p (rw (stack-by-lines bs) (rw e at (lines-end bs (λ i. tail-check ls i) (tail-at ls) (tail-count ls) g _ p (m .read) past)))
 
+-- a text that ends behind its NETS lines
+pub gaps-none : (bs : List ℕ) (n : Progress) → All-nets-taken bs n → length bs ≤ n .at → Gaps-taken bs n
+gaps-none bs n t all = go (is-accepted (n .outcome)) refl
+  where
+    go : (v : Bool) → is-accepted (n .outcome) ≡ v → Gaps-taken bs n
+    go false a = gaps-stay bs n t a
+    go true a = gaps-end bs n t a 0 0 n (gaps-start bs n t a) all
+
 -- THE READING: on a refusal a stack of one channel
 pub one-channel : (r : StackMade) → Stack-made 1 r → stack-of (r .stack) ≡ bare 1
 unfolding stack-found channels-made

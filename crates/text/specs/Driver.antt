@@ -93,7 +93,7 @@ gaps-read ls g = stack (tabulate (suc (k-of ls)) 0 (λ i. length-at ls i)) (tabu
 abbrev pub All-nets-taken : List ℕ → Progress → Type 0
 All-nets-taken bs r = Read-to bs (upto-nets bs) (tail-at (lines bs)) (gaps-read (lines bs) 0) r
 
--- the channels rise, so they are at least as many as their lines, and none is above the last
+-- the channels that they name rise: none is above the last, which is at least the count of the lines
 pub record Gapping (bs : List ℕ) (g before : ℕ) (p : Progress) : Type 0 where
   pub read : Reading-lines bs (λ i. tail-check (lines bs) i) (tail-at (lines bs)) (tail-count (lines bs)) g (gaps-read (lines bs) g) p
   pub last : before ≡ channel-before (lines bs) g

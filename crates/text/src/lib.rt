@@ -521,6 +521,9 @@ pub fn read_stack(text: &[u8]) -> Reading
     let head = take_head(text);
     let parts = take_parts(text, head);
     let nets = take_all_nets(text, parts);
-    let gaps = take_gaps(text, nets);
-    gaps.reading()
+    if nets.at < text.len() {
+        let gaps = take_gaps(text, nets);
+        return gaps.reading();
+    }
+    nets.reading()
 }

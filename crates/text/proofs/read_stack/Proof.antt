@@ -1,5 +1,5 @@
 -- read_stack meets its contract: each stage is what the next one requires. Assumes nothing.
-use Rattle.text.proofs.Whole.{overlong-read, whole-read}
+use Rattle.text.proofs.Whole.{gaps-none, overlong-read, whole-read}
 use borrow.Author.Needs.{needs}
 use Rattle.text.proofs.read_stack.Statement.{statement}
 use Rattle.text.proofs.read_stack.Tie as tie
@@ -35,11 +35,22 @@ reading-requires c κs = search needs
 
 returns-2 : tie.Need-returns-2
 returns-2 c =
-    let start = c .before .before .before .before .before .before .before in
-    let if1 = c .before .before .before .before .before .if1 in
+    let start = c .before .before .before .before .before .before .before .before .before in
+    let if1 = c .before .before .before .before .before .before .before .if1 in
     let take-gaps = c .before .take-gaps in
     let reading = c .reading in
     whole-read (start .args .text .now) (take-gaps .result) (reading .result) (if1 .left) (take-gaps .ensures) (reading .ensures)
+
+reading-requires-2 : tie.Need-reading-requires-2
+reading-requires-2 c κs = search needs
+
+returns-3 : tie.Need-returns-3
+returns-3 c =
+    let start = c .before .before .before .before .before .before .before .before in
+    let if1 = c .before .before .before .before .before .before .if1 in
+    let nets = c .before .before .before .take-all-nets in
+    let reading = c .reading2 in
+    whole-read (start .args .text .now) (nets .result) (reading .result) (if1 .left) (gaps-none (start .args .text .now) (nets .result) (nets .ensures) (c .before .if2 .left)) (reading .ensures)
 
 pub read-stack-spec : {M : Type 1} → statement M
 read-stack-spec =
@@ -53,4 +64,6 @@ read-stack-spec =
     take-all-nets-requires
     take-gaps-requires
     reading-requires
-    returns-2)
+    returns-2
+    reading-requires-2
+    returns-3)
