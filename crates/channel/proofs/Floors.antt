@@ -31,19 +31,19 @@ from-at f d g t h = rw (le-ltb t f h)
 module _ (b : ℕ) (c : Channel) where
   low-below : (t : ℕ) → t < c .floor → low-floored b c t ≡ 2 * b
   unfolding low-floored
-  low-below t h = from-below (c .floor) (2 * b) (λ s. low-limit b (c .pairs) s) t h
+  low-below t h = from-below (c .floor) (2 * b) _ t h
 
   high-below : (t : ℕ) → t < c .floor → high-floored b c t ≡ 0
   unfolding high-floored
-  high-below t h = from-below (c .floor) 0 (λ s. high-limit b (c .pairs) s) t h
+  high-below t h = from-below (c .floor) 0 _ t h
 
   low-from : (t : ℕ) → c .floor ≤ t → low-floored b c t ≡ low-limit b (c .pairs) t
   unfolding low-floored
-  low-from t h = from-at (c .floor) (2 * b) (λ s. low-limit b (c .pairs) s) t h
+  low-from t h = from-at (c .floor) (2 * b) _ t h
 
   high-from : (t : ℕ) → c .floor ≤ t → high-floored b c t ≡ high-limit b (c .pairs) t
   unfolding high-floored
-  high-from t h = from-at (c .floor) 0 (λ s. high-limit b (c .pairs) s) t h
+  high-from t h = from-at (c .floor) 0 _ t h
 
   module _ (t x y : ℕ) (biased : Biased b (c .pairs) x y) where
     pub feasible-between : feasible c t x y ≡ true → Floored-between b c t x y

@@ -26,7 +26,7 @@ use Rattle.nabetsu.specs.Best.{Spread-best}
 use Rattle.nabetsu.specs.Pages.{Page-says}
 use Rattle.nabetsu.specs.declared.SpreadAnswer.{SpreadAnswer}
 use Rattle.nabetsu.specs.declared.TableAnswer.{TableAnswer}
-use Rattle.evidence.specs.Specimens.{text-shown, Specimen, spread-gives, table-gives, table-refused, page-gives, page-shown, page-a, Holds, All-hold, text-a, table-a, text-b, text-c, table-c, text-d, table-d, text-e, text-between, text-a-3, text-512, specimens, Specimens-right}
+use Rattle.evidence.specs.Specimens.{text-shown, Specimen, spread-gives, table-gives, table-refused, page-gives, page-shown, page-a, Holds, All-hold, text-a, table-a, text-b, text-c, table-c, text-d, table-d, text-e, text-between, text-a-3, text-b-2-5, text-512, specimens, Specimens-right}
 use Rattle.evidence.proofs.Opened.{reading, replying, showing}
 use Rattle.evidence.proofs.Specimens.{specimens-right}
 
@@ -97,6 +97,10 @@ a-page-at-4 = specimen 43
 a-3-at-4 : Holds (spread-gives text-a-3 4 3 (3 ∷ []) (0 ∷ 0 ∷ []))
 unfolding specimens Entry-holds
 a-3-at-4 = specimen 71
+
+b-2-5-at-9 : Holds (spread-gives text-b-2-5 9 7 (2 ∷ 5 ∷ []) (0 ∷ 0 ∷ 0 ∷ []))
+unfolding specimens Entry-holds
+b-2-5-at-9 = specimen 77
 
 -- bytes that differ
 bytes-same : (a : List ℕ) → same-bytes a a ≡ true
@@ -235,6 +239,11 @@ not-drawn-with-floor d = omega (arith, d .drawn .0)
 pub floor-ignored-breaks : (r : SpreadAnswer) → tracks-of (r .separations) ≡ padded 8 (2 ∷ []) → Spread-says (text-shown text-a-3) 4 r → ⊥
 unfolding Holds placed-is padded same-bytes
 floor-ignored-breaks r w a = differ (padded 8 (2 ∷ [])) (padded 8 (3 ∷ [])) refl (sym w ∙ a-3-at-4 r .0 a .2)
+
+-- THE FLOOR IGNORED IN ONE CHANNEL, the second of B
+pub one-floor-ignored-breaks : (r : SpreadAnswer) → tracks-of (r .separations) ≡ padded 8 (2 ∷ 0 ∷ []) → Spread-says (text-shown text-b-2-5) 9 r → ⊥
+unfolding Holds placed-is padded same-bytes
+one-floor-ignored-breaks r w a = differ (padded 8 (2 ∷ 0 ∷ [])) (padded 8 (2 ∷ 5 ∷ [])) refl (sym w ∙ b-2-5-at-9 r .0 a .2)
 
 -- THE FLOOR ADDED to the separation that the pairs need: 2 and 3
 pub floor-added-breaks : (r : SpreadAnswer) → tracks-of (r .separations) ≡ padded 8 (5 ∷ []) → Spread-says (text-shown text-a-3) 4 r → ⊥

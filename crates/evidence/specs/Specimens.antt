@@ -192,6 +192,10 @@ text-b-1 = with-lines text-b ("GAP 1 1" ∷ [])
 abbrev pub table-b-1 : List String
 table-b-1 = "TABLE 2" ∷ "ROW 4 4 2 2 0 0 0" ∷ "ROW 5 3 1 2 1 0 0" ∷ "ROW 6 2 1 1 2 1 0" ∷ "ROW 7 1 1 0 3 2 0" ∷ []
 
+-- and with floors in both channels, which no spread lowers
+abbrev pub text-b-2-5 : List String
+text-b-2-5 = with-lines text-b ("GAP 1 2" ∷ "GAP 2 5" ∷ [])
+
 -- a channel without pairs
 abbrev pub text-c-3 : List String
 text-c-3 = with-lines text-c ("GAP 1 3" ∷ [])
@@ -298,7 +302,7 @@ specimens =
     ∷ table-gives (with-lines text-a ("GAP 1 0" ∷ [])) 50 table-a
     ∷ table-gives text-b-1 80 table-b-1
     ∷ spread-gives text-b-1 8 1 (1 ∷ 0 ∷ []) (3 ∷ 2 ∷ 0 ∷ [])
-    ∷ spread-gives (with-lines text-b ("GAP 1 2" ∷ "GAP 2 5" ∷ [])) 9 7 (2 ∷ 5 ∷ []) (0 ∷ 0 ∷ 0 ∷ [])
+    ∷ spread-gives text-b-2-5 9 7 (2 ∷ 5 ∷ []) (0 ∷ 0 ∷ 0 ∷ [])
     -- a channel without pairs, and the greatest floor
     ∷ table-gives text-c-3 22 ("TABLE 1" ∷ "ROW 5 3 3 0 0" ∷ [])
     ∷ spread-gives (with-lines text-a ("GAP 1 64" ∷ [])) 4 64 (64 ∷ []) (0 ∷ 0 ∷ [])
