@@ -28,6 +28,13 @@ from-at : (f d : ℕ) (g : ℕ → ℕ) (t : ℕ) → f ≤ t → from-floor f d
 unfolding from-floor
 from-at f d g t h = rw (le-ltb t f h)
 
+from-most : (f d : ℕ) (g : ℕ → ℕ) (t m : ℕ) → d ≤ m → g t ≤ m → from-floor f d g t ≤ m
+from-most f d g t m h k = go (le-or-lt f t)
+  where
+    go : (f ≤ t) ⊎ (t < f) → from-floor f d g t ≤ m
+    go (inl l) = omega (arith, from-at f d g t l)
+    go (inr l) = omega (arith, from-below f d g t l)
+
 module _ (b : ℕ) (c : Channel) where
   low-below : (t : ℕ) → t < c .floor → low-floored b c t ≡ 2 * b
   unfolding low-floored
@@ -89,18 +96,12 @@ module _ (b : ℕ) (c : Channel) where
 
   -- limits are at most twice the bias
   pub low-floored-bounded : (t : ℕ) → low-limit b (c .pairs) t ≤ 2 * b → low-floored b c t ≤ 2 * b
-  low-floored-bounded t bounded = go (le-or-lt (c .floor) t)
-    where
-      go : (c .floor ≤ t) ⊎ (t < c .floor) → low-floored b c t ≤ 2 * b
-      go (inl h) = omega (arith, low-from t h)
-      go (inr h) = omega (arith, low-below t h)
+  unfolding low-floored
+  low-floored-bounded t h = from-most (c .floor) (2 * b) (λ s. low-limit b (c .pairs) s) t (2 * b) (omega arith) h
 
   pub high-floored-bounded : (t : ℕ) → high-floored b c t ≤ 2 * b
-  high-floored-bounded t = go (le-or-lt (c .floor) t)
-    where
-      go : (c .floor ≤ t) ⊎ (t < c .floor) → high-floored b c t ≤ 2 * b
-      go (inl h) = omega (arith, high-from t h, high-bounded b (c .pairs) t)
-      go (inr h) = omega (arith, high-below t h)
+  unfolding high-floored
+  high-floored-bounded t = from-most (c .floor) 0 (λ s. high-limit b (c .pairs) s) t (2 * b) (omega arith) (high-bounded b (c .pairs) t)
 
 -- THE LOOP: one separation more
 closed-step : (t d : ℕ) (g : ℕ → ℕ) → t < separations-held →
