@@ -12,9 +12,10 @@ use borrow.Author.Tests.{eq-eqb}
 use Rattle.numbers.specs.Lists.{padded}
 use Rattle.stack.specs.Value.{tracks-of}
 use Rattle.numbers.proofs.Bools.{impossible}
-use Rattle.stack.specs.Stack.{Stack, in-spread, longest, sum}
+use Rattle.stack.specs.Stack.{Stack, in-spread, longest, sum, Answer}
 use Rattle.stack.specs.Limits.{rises-above, rising, all-rising}
-use Rattle.table.proofs.Space.{floors, answer-floors}
+use Rattle.answer.proofs.Answers.{answer-alone}
+use Rattle.rows.proofs.Floored.{floors-of, all-covered, zeros-of, floors-answer}
 use Rattle.routing.proofs.Drawable.{legal-drawable}
 use Rattle.routing.specs.Paths as paths
 use Rattle.routing.specs.Paths.{point, Drawable}
@@ -250,11 +251,17 @@ pub floor-added-breaks : (r : SpreadAnswer) → tracks-of (r .separations) ≡ p
 unfolding Holds placed-is padded same-bytes
 floor-added-breaks r w a = differ (padded 8 (5 ∷ [])) (padded 8 (3 ∷ [])) refl (sym w ∙ a-3-at-4 r .0 a .2)
 
--- THE GREATEST TOTAL: eight channels with floor 64
-pub greatest-total : (r : SpreadAnswer) → Spread-says (text-shown text-512) 1 r → r .total .0 ≡ 512
-unfolding reading replying Spread-says Answered placed-is floors
-greatest-total r a =
-    let k = stack-in (text-shown text-512) in
-    let least = a .2 .least (replicate 8 64) (replicate 9 0) refl in
-    let most = answer-floors k 1 (a .0) (a .1) (a .2) in
-    omega (arith, a .3 .1)
+-- THE GREATEST TOTAL: eight channels with floor 64. It is a specimen too, but one that takes too long to compute: the floors are the answer
+floors-answered : Answer (stack-in (text-shown text-512)) 1 (replicate 8 64) (replicate 9 0)
+unfolding reading replying floors-of all-covered zeros-of
+floors-answered = floors-answer (stack-in (text-shown text-512)) 1 refl (omega arith) refl
+
+pub greatest-total : Holds (spread-gives text-512 1 512 (replicate 8 64) (replicate 9 0))
+unfolding reading replying Holds Spread-says Answered sum
+greatest-total r =
+    let k = stack-in (text-shown text-512) in (
+      (λ a.
+          let same = answer-alone k 1 (a .0) (a .1) (replicate 8 64) (replicate 9 0) (a .2) floors-answered in
+          rw (same .0, same .1) at (a .3)),
+      (λ p. (replicate 8 64, replicate 9 0, floors-answered, p)),
+    )

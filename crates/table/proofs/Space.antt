@@ -18,7 +18,8 @@ use Rattle.stack.proofs.Within.{channel-in-limits, strips-count, channels-few}
 use Rattle.answer.specs.Solve.{last-use}
 use Rattle.answer.proofs.Answers.{legal-lengths}
 use Rattle.rows.specs.Walk.{widest, rows-of}
-use Rattle.rows.proofs.Settled.{feasible-says, feasible-open, settled, widest-small, longest-widest}
+use Rattle.rows.proofs.Floored.{floors-of, floors-first}
+use Rattle.rows.proofs.Settled.{feasible-open, settled, widest-small, longest-widest}
 use Rattle.rows.proofs.Rows.{rows-are}
 use Rattle.writing.specs.Output.{row-bytes, rows-most, table-bytes, Row-limited}
 use Rattle.writing.specs.TableText.{table-text}
@@ -59,22 +60,10 @@ lowered (c ∷ cs) (t ∷ ts) (x ∷ xs) g = go (lowered cs ts xs (search ands))
         each zero h l = omega (arith, r .below)
         each (suc i) h l = r .tight (omega arith) i (omega arith)
 
--- the sum of the floors: no legal total is below it, and no answer's more than 32 a channel above it
-unfoldable pub floors : List Channel → ℕ
-floors [] = 0
-floors (c ∷ cs) = c .floor + floors cs
-
-floors-below : (cs : List Channel) (ts xs : List ℕ) → channels-good cs ts xs ≡ true → floors cs ≤ sum ts
-unfolding channels-good sum floors
-floors-below [] [] xs g = omega arith
-floors-below [] (t ∷ ts) xs g = impossible g
-floors-below (c ∷ cs) [] xs g = impossible g
-floors-below (c ∷ cs) (t ∷ ts) [] g = impossible g
-floors-below (c ∷ cs) (t ∷ ts) (x ∷ xs) g = omega (arith, feasible-says c t x (getD xs 0 0) (search ands) .0, floors-below cs ts xs (search ands))
-
+-- an answer's total is at most 32 a channel above the sum of the floors
 sum-below : (cs : List Channel) (ts : List ℕ) → length ts ≡ length cs → ((i : ℕ) → i < length ts → getD ts i 0 ≤ getD cs i no-channel .floor + 32) →
-    sum ts ≤ floors cs + 32 * length ts
-unfolding sum floors
+    sum ts ≤ sum (floors-of cs) + 32 * length ts
+unfolding sum floors-of
 sum-below [] [] e h = omega arith
 sum-below [] (t ∷ ts) e h = absurd (omega arith)
 sum-below (c ∷ cs) [] e h = omega arith
@@ -94,11 +83,10 @@ position-below s (l ∷ ls) [] e i h = impossible e
 position-below s (l ∷ ls) (x ∷ xs) e zero h = omega (arith, leb-true (x + l) s (search ands))
 position-below s (l ∷ ls) (x ∷ xs) e (suc i) h = position-below s ls xs (search ands) i (omega arith)
 
-pub answer-floors : (k : Stack) (s : ℕ) (ts xs : List ℕ) → Answer k s ts xs → floors (k .channels) ≤ sum ts
+-- and no legal one is below that sum
+floors-below : (k : Stack) (s : ℕ) (ts xs : List ℕ) → legal k s ts xs ≡ true → sum (floors-of (k .channels)) ≤ sum ts
 unfolding legal
-answer-floors k s ts xs a =
-    let g : (in-spread s (k .strips) xs && channels-good (k .channels) ts xs) ≡ true = a .is-legal in
-    floors-below (k .channels) ts xs (search ands)
+floors-below k s ts xs e = floors-first (k .channels) ts xs (search ands) .1
 
 module _ (k : Stack) (good : within-limits k ≡ true) where
   channel-limited : (i : ℕ) → i < length (k .channels) → (length (channel-in k i .pairs) ≤ 32) × (channel-in k i .floor ≤ 64)
@@ -123,8 +111,7 @@ module _ (k : Stack) (good : within-limits k ≡ true) where
     pub separations-small : (i : ℕ) → i < length ts → getD ts i 0 ≤ 64
     separations-small i l = omega (arith, separations-of-use i l, channel-limited i (in-channels i l))
 
-    -- its total is at most 32 a channel above the sum of the floors
-    total-above : sum ts ≤ floors (k .channels) + 32 * length (k .channels)
+    total-above : sum ts ≤ sum (floors-of (k .channels)) + 32 * length (k .channels)
     total-above =
         let n = legal-lengths k s ts xs (a .is-legal) in
         rw (n .0) at (sum-below (k .channels) ts (n .0) (λ i l. omega (arith, separations-of-use i l, channel-limited i (in-channels i l))))
@@ -163,9 +150,9 @@ module _ (k : Stack) (good : within-limits k ≡ true) where
           absurd (omega (arith, st (sum (k .strips)) (q .separations) (z .0) h m (z .1)))
 
   -- each further row has a smaller total, and none is below the sum of the floors
-  rows-few : (r : Row) (qs : List Row) → Answer k (r .spread) (r .separations) (r .positions) → Rows-after k r qs → floors (k .channels) + length qs ≤ total r
+  rows-few : (r : Row) (qs : List Row) → Answer k (r .spread) (r .separations) (r .positions) → Rows-after k r qs → sum (floors-of (k .channels)) + length qs ≤ total r
   unfolding Rows-after total
-  rows-few r [] first a = omega (arith, answer-floors k (r .spread) (r .separations) (r .positions) first)
+  rows-few r [] first a = omega (arith, floors-below k (r .spread) (r .separations) (r .positions) (first .is-legal))
   rows-few r (q ∷ qs) first a = omega (arith, a .1, rows-few q qs (a .3) (a .4))
 
   rows-limited : (r : Row) (qs : List Row) → r .spread ≤ widest k → Rows-after k r qs → (i : ℕ) → i < length qs → Row-limited (getD qs i (row 0 [] []))
