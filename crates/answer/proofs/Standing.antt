@@ -13,7 +13,7 @@ use Rattle.numbers.proofs.Bools.{ands}
 use Rattle.numbers.proofs.Lists.{getD-tabulate}
 use Rattle.numbers.proofs.Orders.{lt-or-eq, eq-or-not}
 use Rattle.stack.specs.Stack.{no-channel, channel-in, Stack, longest}
-use Rattle.stack.specs.Limits.{pairs-within, channel-within, channels-within, within-limits}
+use Rattle.stack.specs.Limits.{pairs-within, channel-within, channels-within, strips-within, within-limits}
 use Rattle.stack.specs.Value.{strip, no-terminals, floor-at, channel-at, stack-of}
 use Rattle.stack.specs.declared.Stack.{Stack as Stack-struct}
 use Rattle.stack.specs.Sizes.{channels-held, strips-held, separations-held, totals-held}
@@ -176,6 +176,12 @@ longest-most [] i = omega arith
 longest-most (l ∷ ls) zero = longest-bounds l ls (longest (l ∷ ls)) (omega arith) .0
 longest-most (l ∷ ls) (suc i) = omega (arith, longest-most ls i, longest-bounds l ls (longest (l ∷ ls)) (omega arith) .1)
 
+strip-some : (ls : List ℕ) (i : ℕ) → strips-within ls ≡ true → i < length ls → 1 ≤ getD ls i 0
+unfolding strips-within
+strip-some [] i e h = absurd (omega arith)
+strip-some (l ∷ ls) zero e h = leb-true 1 l (search ands)
+strip-some (l ∷ ls) (suc i) e h = strip-some ls i (search ands) (omega arith)
+
 -- what the solver asks
 module _ (k : Stack) (s : ℕ) (g : Given) (st : Stands k s g) (fits : s < 4294967296) (wide : longest (k .strips) ≤ s) where
   abbrev n : ℕ
@@ -185,9 +191,12 @@ module _ (k : Stack) (s : ℕ) (g : Given) (st : Stands k s g) (fits : s < 42949
   last-right i h = st .limits .lasts-are i h
 
   -- windows lie within the spread
-  window-small : (i : ℕ) → i ≤ n → (window-of g i .from ≤ suc s) × (window-of g i .upto ≤ suc s)
-  unfolding window
-  window-small i h = rw (st .windows .windows-are i (omega arith)) (omega arith)
+  window-small : (i : ℕ) → i ≤ n → (window-of g i .from ≤ s) × (window-of g i .upto ≤ s)
+  unfolding window within-limits
+  window-small i h =
+      let e = st .good in
+      let some = strip-some (k .strips) i (search ands) (omega (arith, strips-length (k .strips) (k .channels) (within k s g st))) in
+      rw (st .windows .windows-are i (omega arith)) (omega arith)
 
   pub asks : Stack-asks g n
   unfolding within-limits

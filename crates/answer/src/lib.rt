@@ -80,7 +80,7 @@ pub fn answer(stack: Stack, spread: u32) -> Placement
     let plan = plan_for(&limits, lasts, k);
     let mut windows = [[0u64; 2]; Stack::STRIPS];
     fill_windows(stack, spread, &mut windows);
-    let mut table = [[[0u64; Stack::TOTALS]; 2]; Stack::STRIPS];
+    let mut table = [[[0u32; Stack::TOTALS]; 2]; Stack::STRIPS];
     let cap = plan[ABOVE][0];
     let scan = scan_totals(&limits, &plan, &windows, k, cap, &mut table);
     place_in(&limits, &plan, &windows, k, scan.total, &table)

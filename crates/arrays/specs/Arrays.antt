@@ -11,6 +11,10 @@ use Rattle.spans.specs.Solver.{Level, level, first-open, most, back}
 abbrev pub bias : ℕ
 bias = 8589934592
 
+-- the greatest end of a window, and of a span in it: 32 bits
+abbrev pub greatest-end : ℕ
+greatest-end = 4294967295
+
 abbrev pub entry : List ℕ → (q : ℕ) → ℕ
 entry xs q = getD xs q 0
 
@@ -131,8 +135,8 @@ pub record Stack-asks (g : Given) (k : ℕ) : Type 0 where
   pub channels : k ≤ channels-held
   pub planned : Plan-is (g .limits) k (g .plan)
   pub listed : (i : ℕ) → i < k → last-of g i < separations-held
-  pub starts : (i : ℕ) → i ≤ k → window-of g i .from ≤ bias
-  pub ends : (i : ℕ) → i ≤ k → window-of g i .upto ≤ bias
+  pub starts : (i : ℕ) → i ≤ k → window-of g i .from ≤ greatest-end
+  pub ends : (i : ℕ) → i ≤ k → window-of g i .upto ≤ greatest-end
   pub lows : (i q : ℕ) → i < k → q ≤ last-of g i → low-of g i q ≤ 2 * bias
   pub highs : (i q : ℕ) → i < k → q ≤ last-of g i → high-of g i q ≤ 2 * bias
 

@@ -20,7 +20,7 @@ pub const ABOVE: usize = 2;
 
 pub type Plan = [[usize; Stack::STRIPS]; 3];
 
-// The two ends of a window, and the two rows of a strip's spans, with a place for each total.
+// The two ends of a window, and the two rows of a strip's spans, with a place for each total. Positions fit 32 bits, and so do the ends of their spans.
 pub const FROM: usize = 0;
 
 pub const UPTO: usize = 1;
@@ -29,7 +29,7 @@ pub type Window = [u64; 2];
 
 pub type Windows = [Window; Stack::STRIPS];
 
-pub type StripSpans = [[u64; Stack::TOTALS]; 2];
+pub type StripSpans = [[u32; Stack::TOTALS]; 2];
 
 pub type SpanTable = [StripSpans; Stack::STRIPS];
 

@@ -44,7 +44,7 @@ module _ (g : Given) (k : ℕ) (ts : List ℕ) (a : Stack-asks g k) where
         starts-are = writes k _ starts l (omega arith) (λ n e. ap (λ (s : Span). s .from) (top n e)) (none-written starts l);
         here = top;
         from-small = omega (arith, a .starts k (omega arith));
-        upto-small = a .ends k (omega arith);
+        upto-small = omega (arith, a .ends k (omega arith));
       }
 
   pub fixing-asks : (i j : ℕ) (s : Span) (starts : List ℕ) → Fixing g k ts i s starts → j + 1 ≡ i → (last-of g j < separations-held) × (s .from ≤ strips-held * bias) × (s .upto ≤ bias)

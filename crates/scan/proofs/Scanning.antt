@@ -267,7 +267,7 @@ module _ (limits : List (List ℕ)) (c : Cell) (t : List (List (List ℕ))) (fir
       cell-tried : between bias w (r .near - bias) (r .reach) ≡ cell bias (low-in limits) (high-in limits) (c .least) (c .last) (c .above) above-spans w (c .v)
       cell-tried =
           f .span-is ∙ (ap₂ (between bias w) near-tried reach-tried
-          ∙ sym (cell-ends bias bias (low-in limits) (high-in limits) (c .least) (c .last) (c .above) above-spans w (c .v) (a .end)))
+          ∙ sym (cell-ends bias bias (low-in limits) (high-in limits) (c .least) (c .last) (c .above) above-spans w (c .v) (omega (arith, a .end))))
 
   -- no separation to try
   pub cell-none : end ≤ first →
@@ -282,7 +282,7 @@ module _ (limits : List (List ℕ)) (c : Cell) (t : List (List (List ℕ))) (fir
       let r : 0 ≡ reach-of bias (low-in limits) (c .least) (c .last) (c .above) above-spans (c .v) = g ∙ reach-tried in
       let x : 2 * bias + 1 ≡ shortfall bias w bias 0 = omega (arith, a .start) in
       let b : none-in w ≡ between bias w bias 0 = ap₂ span (omega (arith, a .end)) (omega arith) in (
-        sym (b ∙ (ap₂ (between bias w) n r ∙ sym (cell-ends bias bias (low-in limits) (high-in limits) (c .least) (c .last) (c .above) above-spans w (c .v) (a .end)))),
+        sym (b ∙ (ap₂ (between bias w) n r ∙ sym (cell-ends bias bias (low-in limits) (high-in limits) (c .least) (c .last) (c .above) above-spans w (c .v) (omega (arith, a .end))))),
         sym (x ∙ ap₂ (shortfall bias w) n r),
       )
 

@@ -292,7 +292,7 @@ module _ (g : Given) (k v i j : ℕ) (table : List (List (List ℕ))) (jump : �
 
         short-here : 0 < short → span-in table′ j v .upto ≤ span-in table′ j v .from
         short-here x =
-            let e = short-empty (low-of g j) (high-of g j) least (last-of g j) above f (window-of g j) v (a .ends j (omega arith)) (rw (d .short-is) at x) in
+            let e = short-empty (low-of g j) (high-of g j) least (last-of g j) above f (window-of g j) v (omega (arith, a .ends j (omega arith))) (rw (d .short-is) at x) in
             omega (arith, e, ap (λ (x : Span). x .from) cell-written, ap (λ (x : Span). x .upto) cell-written)
 
         pub empties-strip : (es : List ℕ) (x : ℕ) → Empties-are k v i table es → least + entry es (j + 1) ≤ v → Empty-on (max (entry es j) (least + entry es (j + 1))) v short x →

@@ -10,7 +10,7 @@ use Rattle.stack.specs.Sizes.{channels-held, strips-held, separations-held, tot
 use Rattle.spans.specs.Spans.{Span, span}
 use Rattle.spans.specs.Solver.{most, cell, back, first-total}
 use Rattle.spans.specs.Jump.{nearest, furthest, between, shortfall, cell-short, short-at}
-use Rattle.arrays.specs.Arrays.{bias, entry, row, sides, low-in, high-in, span-at, window-at, Given, window-of, level-of, levels, Two-rows, Sized, span-in, Stack-asks, Filled}
+use Rattle.arrays.specs.Arrays.{bias, greatest-end, entry, row, sides, low-in, high-in, span-at, window-at, Given, window-of, level-of, levels, Two-rows, Sized, span-in, Stack-asks, Filled}
 use Rattle.scan.specs.declared.Cell.{Cell}
 use Rattle.scan.specs.declared.Ends.{Ends}
 use Rattle.scan.specs.declared.Scan.{Scan}
@@ -70,8 +70,8 @@ pub record Strip-asks (limits : List (List ℕ)) (c : Cell) (t : List (List (Lis
   pub total : c .v < totals-held
   pub listed : c .last < separations-held
   pub of-use : c .v ≤ c .last + c .above
-  pub start : c .from ≤ bias
-  pub end : c .upto ≤ bias
+  pub start : c .from ≤ greatest-end
+  pub end : c .upto ≤ greatest-end
   pub lows-small : (q : ℕ) → q ≤ c .last → low-in limits q ≤ 2 * bias
   pub highs-small : (q : ℕ) → q ≤ c .last → high-in limits q ≤ 2 * bias
   pub starts : (u : ℕ) → u ≤ c .v → u ≤ c .above → span-in t (c .i + 1) u .from ≤ bias
@@ -101,6 +101,11 @@ none-in w = span (max (w .from) (w .upto)) 0
 pub record Row-is (w : Span) (n : ℕ) (r : List (List ℕ)) : Type 0 where
   pub sized : Two-rows r
   pub written : (u : ℕ) → u < n → span-at r u ≡ w
+
+-- the windows of the first n strips fit the table's numbers
+pub record Ends-fit (windows : List (List ℕ)) (n : ℕ) : Type 0 where
+  pub starts : (i : ℕ) → i < n → window-at (row windows i) .from ≤ greatest-end
+  pub ends : (i : ℕ) → i < n → window-at (row windows i) .upto ≤ greatest-end
 
 -- each strip below strip i has that span for the totals from v to cap
 pub record Cleared (windows : List (List ℕ)) (i v cap : ℕ) (t : List (List (List ℕ))) : Type 0 where

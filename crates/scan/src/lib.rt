@@ -10,7 +10,7 @@ ghost use Rattle.stack.specs.Sizes.{channels-held, separations-held, totals-hel
 ghost use Rattle.spans.specs.Spans.{span};
 ghost use Rattle.spans.specs.Jump.{min-if, max-if};
 ghost use Rattle.arrays.specs.Arrays.{bias, given, Two-rows, Sized};
-ghost use Rattle.scan.specs.Scan.{Ends-ask, Ends-are, Ends-serve, window-in, Strip-asks, Strip-done, jump-if, Empty-on, Empties-are, Row-is, Cleared, Only-at, Total-asks, Scanning, Scan-asks, Scan-is};
+ghost use Rattle.scan.specs.Scan.{Ends-ask, Ends-are, Ends-serve, window-in, Strip-asks, Strip-done, jump-if, Empty-on, Empties-are, Row-is, Ends-fit, Cleared, Only-at, Total-asks, Scanning, Scan-asks, Scan-is};
 use arrays::ABOVE;
 use arrays::ChannelLimits;
 use arrays::FROM;
@@ -90,8 +90,8 @@ fn reach_back(
         let u = v - q;
         let wider = stretch(
             e,
-            spans[FROM][u],
-            spans[UPTO][u],
+            spans[FROM][u] as u64,
+            spans[UPTO][u] as u64,
             limits[LOW][q],
             limits[HIGH][q],
         );
@@ -121,8 +121,8 @@ fn ends_in(
     let u = v - q;
     let e = stretch(
         none,
-        spans[FROM][u],
-        spans[UPTO][u],
+        spans[FROM][u] as u64,
+        spans[UPTO][u] as u64,
         limits[LOW][q],
         limits[HIGH][q],
     );
@@ -159,14 +159,14 @@ fn scan_strip(limits: &ChannelLimits, cell: Cell, table: &mut SpanTable) -> u64
     let first = start_above(cell.least, cell.above, v);
     let end = stop_above(cell.last, v, cell.empty);
     if end <= first {
-        table[i][FROM][v] = greater(cell.from, cell.upto);
+        table[i][FROM][v] = greater(cell.from, cell.upto) as u32;
         table[i][UPTO][v] = 0;
         return 2 * Stack::BIAS + 1;
     }
     let e = ends_in(limits, &table[i + 1], cell, first, end);
     let near = difference(e.near, Stack::BIAS);
-    table[i][FROM][v] = greater(cell.from, lesser(cell.upto, near));
-    table[i][UPTO][v] = lesser(cell.upto, difference(e.reach, Stack::BIAS));
+    table[i][FROM][v] = greater(cell.from, lesser(cell.upto, near)) as u32;
+    table[i][UPTO][v] = lesser(cell.upto, difference(e.reach, Stack::BIAS)) as u32;
     difference(
         greater(cell.from, near) + 1 + Stack::BIAS,
         lesser(cell.upto + Stack::BIAS, e.reach),
@@ -240,7 +240,7 @@ fn scan_total(
 }
 
 // Writes the span (from, 0) for the totals up to cap.
-fn clear_row(spans: &mut StripSpans, from: u64, cap: usize)
+fn clear_row(spans: &mut StripSpans, from: u32, cap: usize)
     requires { ⌜ (cap < totals-held) × Two-rows (now spans) ⌝ }
     ensures { λ _. ⌜ Row-is (span from 0) (cap + 1) (now (spans .exit)) ⌝ }
 {
@@ -252,13 +252,13 @@ fn clear_row(spans: &mut StripSpans, from: u64, cap: usize)
 
 // Gives each strip below strip k an empty span for the totals up to cap.
 fn clear(windows: &Windows, k: usize, cap: usize, table: &mut SpanTable)
-    requires { ⌜ (k ≤ channels-held) × (cap < totals-held) × Sized (now table) ⌝ }
+    requires { ⌜ (k ≤ channels-held) × (cap < totals-held) × Sized (now table) × Ends-fit (now windows) k ⌝ }
     ensures { λ _. ⌜ Cleared (now (windows .entry)) k 0 cap (now (table .exit)) ⌝ }
 {
     for i in 0..k {
         clear_row(
             &mut table[i],
-            greater(windows[i][FROM], windows[i][UPTO]),
+            greater(windows[i][FROM], windows[i][UPTO]) as u32,
             cap,
         );
     }
@@ -277,8 +277,8 @@ pub fn scan_totals(
     ensures { λ r. ⌜ Scan-is (given (now (limits .entry)) (now (plan .entry)) (now (windows .entry))) k cap (now (table .exit)) r ⌝ }
 {
     clear(windows, k, cap, table);
-    table[k][FROM][0] = windows[k][FROM];
-    table[k][UPTO][0] = windows[k][UPTO];
+    table[k][FROM][0] = windows[k][FROM] as u32;
+    table[k][UPTO][0] = windows[k][UPTO] as u32;
     let mut empties = [0usize; Stack::STRIPS];
     let mut jump = Stack::BIAS;
     let mut v = 0;

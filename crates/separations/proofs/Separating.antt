@@ -43,7 +43,7 @@ module _ (g : Given) (k total : ℕ) where
         left = λ n e. let z : n ≡ k = omega arith in rw z;
         at-most = omega arith;
         starts = omega (arith, a .stack .starts 0 (omega arith));
-        ends = a .stack .ends 0 (omega arith);
+        ends = omega (arith, a .stack .ends 0 (omega arith));
       }
 
   module _ (i v : ℕ) (s : Span) (ts : List ℕ) (table : List (List (List ℕ))) (a : Separate-asks g k total table) (h : Separating g k total i v s ts) (next : i + 1 < k) where

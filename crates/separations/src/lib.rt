@@ -48,6 +48,12 @@ fn forward(s: Span, low: u64, high: u64, from: u64, upto: u64) -> Span
     }
 }
 
+fn wide(x: u32) -> u64
+    ensures { λ r. ⌜ r ≡ x ⌝ }
+{
+    x as u64
+}
+
 // The least separation of a channel, from least on, that serves with total v, for the strip below in s; one past the last of use if none does.
 fn serving(
     limits: &ChannelLimits,
@@ -65,13 +71,9 @@ fn serving(
     let mut q = least;
     while q < end {
         let u = lesser((v - q) as u64, above as u64) as usize;
-        let t = forward(
-            s,
-            limits[LOW][q],
-            limits[HIGH][q],
-            spans[FROM][u],
-            spans[UPTO][u],
-        );
+        let from = wide(spans[FROM][u]);
+        let upto = wide(spans[UPTO][u]);
+        let t = forward(s, limits[LOW][q], limits[HIGH][q], from, upto);
         if t.from < t.upto {
             return q;
         }

@@ -115,7 +115,7 @@ pub fn put_table(stack: Stack, out: &mut [u8]) -> usize
     fill_limits(stack, &mut limits, &mut lasts);
     let plan = plan_for(&limits, lasts, stack.count);
     let mut windows = [[0u64; 2]; Stack::STRIPS];
-    let mut table = [[[0u64; Stack::TOTALS]; 2]; Stack::STRIPS];
+    let mut table = [[[0u32; Stack::TOTALS]; 2]; Stack::STRIPS];
     let widest = stack.lengths_sum();
     let mut w = begin(stack, &limits, &plan, &mut windows, &mut table, out);
     while 0 < w.total {

@@ -44,6 +44,12 @@ index-2-greater-2 c = search needs
 greater-requires : tie.Need-greater-requires Inv-loop μ-loop
 greater-requires c κs = search needs
 
+cast-clear-row : tie.Need-cast-clear-row Inv-loop μ-loop
+cast-clear-row c =
+    let b = c .before .before .before .before .before in
+    let fit = b .before .pre .3 in
+    omega (arith, c .greater .ensures, fit .starts (b .loop .i) (omega arith), fit .ends (b .loop .i) (omega arith))
+
 clear-row-requires : tie.Need-clear-row-requires Inv-loop μ-loop
 clear-row-requires c κs =
     let b = c .before .before .before .before .before in
@@ -79,6 +85,7 @@ clear-spec =
     index-1-greater-2
     index-2-greater-2
     greater-requires
+    cast-clear-row
     clear-row-requires
     add-i
     loop-less

@@ -25,6 +25,11 @@ index-1-stretch c = search needs
 index-2-stretch : tie.Need-index-2-stretch
 index-2-stretch c = search needs
 
+cast-stretch : tie.Need-cast-stretch
+cast-stretch c =
+    let a = c .before in
+    omega (arith, a .pre .0 .starts (a .args .cell .v - (a .args .stop - 1)) (omega arith))
+
 mul-stretch-3 : tie.Need-mul-stretch-3
 mul-stretch-3 c = search needs
 
@@ -33,6 +38,11 @@ index-1-stretch-2 c = search needs
 
 index-2-stretch-2 : tie.Need-index-2-stretch-2
 index-2-stretch-2 c = search needs
+
+cast-stretch-2 : tie.Need-cast-stretch-2
+cast-stretch-2 c =
+    let a = c .before .before in
+    omega (arith, a .pre .0 .ends (a .args .cell .v - (a .args .stop - 1)) (omega arith))
 
 mul-stretch-4 : tie.Need-mul-stretch-4
 mul-stretch-4 c = search needs
@@ -95,9 +105,11 @@ ends-in-spec =
     mul-stretch-2
     index-1-stretch
     index-2-stretch
+    cast-stretch
     mul-stretch-3
     index-1-stretch-2
     index-2-stretch-2
+    cast-stretch-2
     mul-stretch-4
     index-1-stretch-3
     index-2-stretch-3

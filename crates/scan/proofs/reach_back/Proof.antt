@@ -33,6 +33,11 @@ index-1-stretch c = search needs
 index-2-stretch : tie.Need-index-2-stretch Inv-loop μ-loop
 index-2-stretch c = search needs
 
+cast-stretch : tie.Need-cast-stretch Inv-loop μ-loop
+cast-stretch c =
+    let b = c .before .before in
+    omega (arith, b .before .pre .0 .starts (b .before .args .v - b .loop .q) (omega arith))
+
 mul-stretch-2 : tie.Need-mul-stretch-2 Inv-loop μ-loop
 mul-stretch-2 c = search needs
 
@@ -41,6 +46,11 @@ index-1-stretch-2 c = search needs
 
 index-2-stretch-2 : tie.Need-index-2-stretch-2 Inv-loop μ-loop
 index-2-stretch-2 c = search needs
+
+cast-stretch-2 : tie.Need-cast-stretch-2 Inv-loop μ-loop
+cast-stretch-2 c =
+    let b = c .before .before .before in
+    omega (arith, b .before .pre .0 .ends (b .before .args .v - b .loop .q) (omega arith))
 
 mul-stretch-3 : tie.Need-mul-stretch-3 Inv-loop μ-loop
 mul-stretch-3 c = search needs
@@ -97,9 +107,11 @@ reach-back-spec =
     mul-stretch
     index-1-stretch
     index-2-stretch
+    cast-stretch
     mul-stretch-2
     index-1-stretch-2
     index-2-stretch-2
+    cast-stretch-2
     mul-stretch-3
     index-1-stretch-3
     index-2-stretch-3

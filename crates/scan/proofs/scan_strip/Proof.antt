@@ -16,6 +16,9 @@ stop-above-requires c κs = search needs
 greater-requires : tie.Need-greater-requires
 greater-requires c κs = search needs
 
+cast-table : tie.Need-cast-table
+cast-table c = let a = c .before .before .before .before in omega (arith, c .greater .ensures, a .pre .start, a .pre .end)
+
 mul-table : tie.Need-mul-table
 mul-table c = search needs
 
@@ -69,7 +72,7 @@ index-1-ends-in c = search needs
 ends-in-requires : tie.Need-ends-in-requires
 ends-in-requires c κs =
     let a = c .before .before .before .before in
-    (strip-ends-ask (a .args .limits .now) (a .args .cell) (a .args .table .now) _ _ (a .pre) (c .before .before .before .start-above .ensures) (c .before .before .stop-above .ensures), c .before .if1 .left, a .pre .start, a .pre .end)
+    (strip-ends-ask (a .args .limits .now) (a .args .cell) (a .args .table .now) _ _ (a .pre) (c .before .before .before .start-above .ensures) (c .before .before .stop-above .ensures), c .before .if1 .left, omega (arith, a .pre .start), omega (arith, a .pre .end))
 
 difference-requires : tie.Need-difference-requires
 difference-requires c κs = search needs
@@ -79,6 +82,9 @@ lesser-requires c κs = search needs
 
 greater-requires-2 : tie.Need-greater-requires-2
 greater-requires-2 c κs = search needs
+
+cast-table-2 : tie.Need-cast-table-2
+cast-table-2 c = let a = c .before .before .before .before .before .before .before .before in omega (arith, c .greater2 .ensures, c .before .lesser .ensures, a .pre .start, a .pre .end)
 
 mul-table-5 : tie.Need-mul-table-5
 mul-table-5 c = search needs
@@ -100,6 +106,9 @@ difference-requires-2 c κs = search needs
 
 lesser-requires-2 : tie.Need-lesser-requires-2
 lesser-requires-2 c κs = search needs
+
+cast-table-3 : tie.Need-cast-table-3
+cast-table-3 c = let a = c .before .before .before .before .before .before .before .before .before .before in omega (arith, c .lesser2 .ensures, a .pre .end)
 
 mul-table-7 : tie.Need-mul-table-7
 mul-table-7 c = search needs
@@ -151,6 +160,7 @@ scan-strip-spec =
     start-above-requires
     stop-above-requires
     greater-requires
+    cast-table
     mul-table
     mul-table-2
     index-1-table
@@ -171,6 +181,7 @@ scan-strip-spec =
     difference-requires
     lesser-requires
     greater-requires-2
+    cast-table-2
     mul-table-5
     mul-table-6
     index-1-table-3
@@ -178,6 +189,7 @@ scan-strip-spec =
     index-3-table-3
     difference-requires-2
     lesser-requires-2
+    cast-table-3
     mul-table-7
     mul-table-8
     index-1-table-4

@@ -20,7 +20,13 @@ abbrev μ-loop : tie.MeasureT-loop
 μ-loop limits plan windows k cap table₀ empties₀ jump₀ v₀ table empties jump v = suc cap - v
 
 clear-requires : tie.Need-clear-requires Inv-loop μ-loop
-clear-requires c κs = (c .before .pre .stack .channels, c .before .pre .total, c .before .pre .sized)
+clear-requires c κs =
+    let a = c .before .pre in (
+      a .stack .channels,
+      a .total,
+      a .sized,
+      record { starts = λ i h. a .stack .starts i (omega arith); ends = λ i h. a .stack .ends i (omega arith) },
+    )
 
 mul-table : tie.Need-mul-table Inv-loop μ-loop
 mul-table c = search needs
@@ -30,6 +36,9 @@ index-1-table c = search needs
 
 index-2-table : tie.Need-index-2-table Inv-loop μ-loop
 index-2-table c = search needs
+
+cast-table : tie.Need-cast-table Inv-loop μ-loop
+cast-table c = let a = c .before .before .before in omega (arith, a .pre .stack .starts (a .args .k) (omega arith))
 
 mul-table-2 : tie.Need-mul-table-2 Inv-loop μ-loop
 mul-table-2 c = search needs
@@ -51,6 +60,9 @@ index-1-table-3 c = search needs
 
 index-2-table-3 : tie.Need-index-2-table-3 Inv-loop μ-loop
 index-2-table-3 c = search needs
+
+cast-table-2 : tie.Need-cast-table-2 Inv-loop μ-loop
+cast-table-2 c = let a = c .before .before .before .before in omega (arith, a .pre .stack .ends (a .args .k) (omega arith))
 
 mul-table-4 : tie.Need-mul-table-4 Inv-loop μ-loop
 mul-table-4 c = search needs
@@ -148,6 +160,7 @@ scan-totals-spec =
     mul-table
     index-1-table
     index-2-table
+    cast-table
     mul-table-2
     index-1-table-2
     index-2-table-2
@@ -155,6 +168,7 @@ scan-totals-spec =
     mul-table-3
     index-1-table-3
     index-2-table-3
+    cast-table-2
     mul-table-4
     index-1-table-4
     index-2-table-4

@@ -30,6 +30,30 @@ sub-lesser c = omega (arith, c .before .before .stop .ensures)
 lesser-requires : tie.Need-lesser-requires Inv-loop μ-loop
 lesser-requires c κs = search needs
 
+mul-wide : tie.Need-mul-wide Inv-loop μ-loop
+mul-wide c = search needs
+
+index-1-wide : tie.Need-index-1-wide Inv-loop μ-loop
+index-1-wide c = search needs
+
+index-2-wide : tie.Need-index-2-wide Inv-loop μ-loop
+index-2-wide c = search needs
+
+wide-requires : tie.Need-wide-requires Inv-loop μ-loop
+wide-requires c κs = search needs
+
+mul-wide-2 : tie.Need-mul-wide-2 Inv-loop μ-loop
+mul-wide-2 c = search needs
+
+index-1-wide-2 : tie.Need-index-1-wide-2 Inv-loop μ-loop
+index-1-wide-2 c = search needs
+
+index-2-wide-2 : tie.Need-index-2-wide-2 Inv-loop μ-loop
+index-2-wide-2 c = search needs
+
+wide-requires-2 : tie.Need-wide-requires-2 Inv-loop μ-loop
+wide-requires-2 c κs = search needs
+
 mul-forward : tie.Need-mul-forward Inv-loop μ-loop
 mul-forward c = search needs
 
@@ -48,27 +72,9 @@ index-1-forward-2 c = search needs
 index-2-forward-2 : tie.Need-index-2-forward-2 Inv-loop μ-loop
 index-2-forward-2 c = search needs
 
-mul-forward-3 : tie.Need-mul-forward-3 Inv-loop μ-loop
-mul-forward-3 c = search needs
-
-index-1-forward-3 : tie.Need-index-1-forward-3 Inv-loop μ-loop
-index-1-forward-3 c = search needs
-
-index-2-forward-3 : tie.Need-index-2-forward-3 Inv-loop μ-loop
-index-2-forward-3 c = search needs
-
-mul-forward-4 : tie.Need-mul-forward-4 Inv-loop μ-loop
-mul-forward-4 c = search needs
-
-index-1-forward-4 : tie.Need-index-1-forward-4 Inv-loop μ-loop
-index-1-forward-4 c = search needs
-
-index-2-forward-4 : tie.Need-index-2-forward-4 Inv-loop μ-loop
-index-2-forward-4 c = search needs
-
 forward-requires : tie.Need-forward-requires Inv-loop μ-loop
 forward-requires c κs =
-    let a = c .before .before .before .before .before .before in
+    let a = c .before .before .before .before .before .before .before .before in
     let p = a .before .before .pre in
     let q = a .loop .q in
     let m : q ≤ a .before .before .args .last = omega (arith, a .before .stop .ensures) in
@@ -76,9 +82,9 @@ forward-requires c κs =
 
 returns : tie.Need-returns Inv-loop μ-loop
 returns c =
-    let a = c .before .before .before .before .before .before .before .before .before in
+    let a = c .before .before .before .before .before .before .before .before .before .before .before in
     searching-hit _ _ _ _ (a .loop .inv) (omega (arith, a .before .stop .ensures))
-    (serves-full _ _ _ _ _ _ _ _ _ _ _ (c .before .before .before .before .before .before .before .lesser .ensures) (c .before .before .forward .ensures) (c .if1 .taken))
+    (serves-full _ _ _ _ _ _ _ _ _ _ _ (c .before .before .before .before .before .before .before .before .before .lesser .ensures) (rw (c .before .before .before .before .before .before .before .wide .ensures, c .before .before .before .before .before .wide2 .ensures) at (c .before .before .forward .ensures)) (c .if1 .taken))
 
 add-q : tie.Need-add-q Inv-loop μ-loop
 add-q c = search needs
@@ -88,9 +94,9 @@ loop-less c = search needs
 
 loop-again : tie.Need-loop-again Inv-loop μ-loop
 loop-again c =
-    let a = c .before .before .before .before .before .before .before .before .before in
+    let a = c .before .before .before .before .before .before .before .before .before .before .before in
     searching-miss _ _ _ _ (a .loop .inv) (omega (arith, a .before .stop .ensures))
-    (serves-empty _ _ _ _ _ _ _ _ _ _ _ (c .before .before .before .before .before .before .before .lesser .ensures) (c .before .before .forward .ensures) (c .if1 .left))
+    (serves-empty _ _ _ _ _ _ _ _ _ _ _ (c .before .before .before .before .before .before .before .before .before .lesser .ensures) (rw (c .before .before .before .before .before .before .before .wide .ensures, c .before .before .before .before .before .wide2 .ensures) at (c .before .before .forward .ensures)) (c .if1 .left))
 
 returns-2 : tie.Need-returns-2 Inv-loop μ-loop
 returns-2 c = searching-end _ _ _ _ (c .before .loop .inv) (omega arith)
@@ -105,18 +111,20 @@ serving-spec =
     loop-holds
     sub-lesser
     lesser-requires
+    mul-wide
+    index-1-wide
+    index-2-wide
+    wide-requires
+    mul-wide-2
+    index-1-wide-2
+    index-2-wide-2
+    wide-requires-2
     mul-forward
     index-1-forward
     index-2-forward
     mul-forward-2
     index-1-forward-2
     index-2-forward-2
-    mul-forward-3
-    index-1-forward-3
-    index-2-forward-3
-    mul-forward-4
-    index-1-forward-4
-    index-2-forward-4
     forward-requires
     returns
     add-q
