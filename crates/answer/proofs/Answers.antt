@@ -18,11 +18,11 @@ use Rattle.answer.specs.Solve.{last-use, window, stack-levels, bottom, l
 use Rattle.answer.proofs.Legal.{longest-bounds, in-window, legal-placed, placed-legal, stack-widening, channel-fits-open}
 
 -- every strip at 0 and every separation the last of use
-pub lasts-of : List Channel → List ℕ
+unfoldable pub lasts-of : List Channel → List ℕ
 lasts-of [] = []
 lasts-of (c ∷ cs) = last-use c ∷ lasts-of cs
 
-pub zeros-of : List Channel → List ℕ
+unfoldable pub zeros-of : List Channel → List ℕ
 zeros-of [] = []
 zeros-of (c ∷ cs) = 0 ∷ zeros-of cs
 

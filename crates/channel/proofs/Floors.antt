@@ -1,22 +1,21 @@
 -- A channel is feasible exactly if the offset is between its limits, which are those of its pairs from its floor on and closed below it; they widen, and from the
 -- floor and m tracks on every offset is between them. Then the laws of the loop that closes them. Assumes nothing.
 use mathlib.Core.Path.{_≡_, sym, _∙_}
-use mathlib.Core.Bool.{true, _&&_}
+use mathlib.Core.Bool.{true}
 use mathlib.Core.List.{List}
 use mathlib.Core.Logic.{_⊎_, inl, inr}
 use Prim.Native.Nat.{ℕ, _+_, _*_, _≤_, _<_}
 use native.Mathlib.Omega.{arith}
-use lib.Dec.{leb}
 use lib.ListN.{length, getD, set}
 use lib.Seq.{ext-getD}
-use borrow.Author.Tests.{leb-true, le-leb, lt-ltb, le-ltb}
+use borrow.Author.Tests.{lt-ltb, le-ltb}
 use Rattle.numbers.specs.Lists.{tabulate}
-use Rattle.numbers.proofs.Bools.{ands}
 use Rattle.numbers.proofs.Orders.{le-or-lt}
 use Rattle.numbers.proofs.Lists.{length-tabulate, getD-tabulate, tabulate-same, tabulate-set}
-use Rattle.stack.specs.Stack.{Channel, wirable, feasible}
+use Rattle.stack.specs.Stack.{Channel, feasible}
 use Rattle.stack.specs.Limits.{rising}
 use Rattle.stack.specs.Sizes.{separations-held}
+use Rattle.stack.proofs.Feasible.{feasible-says, says-feasible}
 use Rattle.channel.specs.Limits.{low-limit, high-limit, Between, from-floor, low-floored, high-floored, Floored-between, bias, Pairs-limits, Closing, Limits-of}
 use Rattle.channel.proofs.Between.{Biased, wirable-between, between-wirable, low-widens, high-widens, low-open, high-open, high-bounded}
 
@@ -54,20 +53,18 @@ module _ (b : ℕ) (c : Channel) where
 
   module _ (t x y : ℕ) (biased : Biased b (c .pairs) x y) where
     pub feasible-between : feasible c t x y ≡ true → Floored-between b c t x y
-    unfolding feasible
     feasible-between e =
-        let above : c .floor ≤ t = leb-true (c .floor) t (search ands) in
-        let w : Between b (c .pairs) t x y = wirable-between b (c .pairs) t x y biased (search ands) in
-        record { left = rw (low-from t above) (w .left); right = rw (high-from t above) (w .right) }
+        let both = feasible-says c t x y e in
+        let w : Between b (c .pairs) t x y = wirable-between b (c .pairs) t x y biased (both .1) in
+        record { left = rw (low-from t (both .0)) (w .left); right = rw (high-from t (both .0)) (w .right) }
 
     -- below the floor the limits are closed, so an offset between them is at the floor or above it
     pub between-feasible : 0 < b → Floored-between b c t x y → feasible c t x y ≡ true
-    unfolding feasible
     between-feasible some w = go (le-or-lt (c .floor) t)
       where
-        go : (c .floor ≤ t) ⊎ (t < c .floor) → (leb (c .floor) t && wirable (c .pairs) t x y) ≡ true
+        go : (c .floor ≤ t) ⊎ (t < c .floor) → feasible c t x y ≡ true
         go (inl h) =
-            rw (le-leb (c .floor) t h)
+            says-feasible c t x y h
             (between-wirable b (c .pairs) t x y biased (record { left = rw (low-from t h) at (w .left); right = rw (high-from t h) at (w .right) }))
         go (inr h) = absurd (omega (arith, low-below t h, high-below t h, w .left, w .right, biased .lower, biased .upper))
 

@@ -14,8 +14,9 @@ use Rattle.stack.specs.Value.{tracks-of}
 use Rattle.numbers.proofs.Bools.{impossible}
 use Rattle.stack.specs.Stack.{Stack, in-spread, longest, sum, Answer}
 use Rattle.stack.specs.Limits.{rises-above, rising, all-rising}
-use Rattle.answer.proofs.Answers.{answer-alone}
-use Rattle.rows.proofs.Floored.{floors-of, all-covered, zeros-of, floors-answer}
+use Rattle.answer.proofs.Answers.{zeros-of, answer-alone}
+use Rattle.rows.proofs.Floored.{floors-of, all-covered, floors-answer}
+use Rattle.text.proofs.Within.{accepted-within}
 use Rattle.routing.proofs.Drawable.{legal-drawable}
 use Rattle.routing.specs.Paths as paths
 use Rattle.routing.specs.Paths.{point, Drawable}
@@ -254,7 +255,7 @@ floor-added-breaks r w a = differ (padded 8 (5 ∷ [])) (padded 8 (3 ∷ [])) re
 -- THE GREATEST TOTAL: eight channels with floor 64. It is a specimen too, but one that takes too long to compute: the floors are the answer
 floors-answered : Answer (stack-in (text-shown text-512)) 1 (replicate 8 64) (replicate 9 0)
 unfolding reading replying floors-of all-covered zeros-of
-floors-answered = floors-answer (stack-in (text-shown text-512)) 1 refl (omega arith) refl
+floors-answered = floors-answer (stack-in (text-shown text-512)) 1 (accepted-within (text-shown text-512) refl) (omega arith) refl
 
 pub greatest-total : Holds (spread-gives text-512 1 512 (replicate 8 64) (replicate 9 0))
 unfolding reading replying Holds Spread-says Answered sum

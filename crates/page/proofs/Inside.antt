@@ -9,9 +9,10 @@ use lib.Dec.{leb}
 use lib.IntN.{pos}
 use lib.ListN.{length, getD}
 use Rattle.numbers.proofs.Bools.{ands, and-both, or-left, or-right, impossible}
-use Rattle.stack.specs.Stack.{Pair, Channel, no-channel, channel-in, Stack, p-at, q-at, wirable, feasible, in-spread, channels-good, legal}
+use Rattle.stack.specs.Stack.{Pair, Channel, no-channel, channel-in, Stack, p-at, q-at, wirable, in-spread, channels-good, legal}
 use Rattle.stack.specs.Limits.{on-strips, pairs-within, channel-within, channels-within, within-limits}
 use Rattle.stack.proofs.Within.{channel-in-limits, strips-count}
+use Rattle.stack.proofs.Feasible.{feasible-says}
 use Rattle.stack.proofs.OnStrips.{terminals-on}
 use Rattle.routing.specs.Paths.{Point, same-point, on-path}
 use Rattle.routing.specs.Wiring.{wiring, path, listed}
@@ -23,11 +24,11 @@ use Rattle.page.specs.Arrivals.{Channel-placed}
 
 wirable-at : (cs : List Channel) (ts xs : List ℕ) (i : ℕ) → channels-good cs ts xs ≡ true → i < length cs
     → wirable (getD cs i no-channel .pairs) (getD ts i 0) (getD xs i 0) (getD xs (suc i) 0) ≡ true
-unfolding channels-good feasible
+unfolding channels-good
 wirable-at [] ts xs i g l = absurd (omega arith)
 wirable-at (c ∷ cs) [] xs i g l = impossible g
 wirable-at (c ∷ cs) (t ∷ ts) [] i g l = impossible g
-wirable-at (c ∷ cs) (t ∷ ts) (x ∷ xs) zero g l = search ands
+wirable-at (c ∷ cs) (t ∷ ts) (x ∷ xs) zero g l = feasible-says c t x (getD xs 0 0) (search ands) .1
 wirable-at (c ∷ cs) (t ∷ ts) (x ∷ xs) (suc i) g l = wirable-at cs ts xs i (search ands) (omega arith)
 
 fits-at : (s : ℕ) (ls xs : List ℕ) (i : ℕ) → in-spread s ls xs ≡ true → i < length ls → getD xs i 0 + getD ls i 0 ≤ s

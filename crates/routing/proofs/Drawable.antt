@@ -7,33 +7,34 @@ use mathlib.Core.Logic.{_↔_}
 use Prim.Native.Nat.{ℕ}
 use lib.ListN.{getD}
 use native.Mathlib.Omega.{arith}
-use borrow.Author.Tests.{leb-true, le-leb}
 use Rattle.numbers.proofs.Bools.{ands, and-both}
-use Rattle.stack.specs.Stack.{Stack, Channel, wirable, feasible, in-spread, channels-good, legal}
+use Rattle.stack.specs.Stack.{Stack, Channel, feasible, in-spread, channels-good, legal}
 use Rattle.stack.specs.Limits.{all-rising}
+use Rattle.stack.proofs.Feasible.{feasible-says, says-feasible}
 use Rattle.routing.specs.Paths.{Channels-drawn, Drawable}
 use Rattle.routing.proofs.Necessity.{drawn-wirable}
 use Rattle.routing.proofs.Sufficiency.{wirable-drawn}
 
 drawn-good : (cs : List Channel) (ts xs : List ℕ) → all-rising cs ≡ true → Channels-drawn cs ts xs → channels-good cs ts xs ≡ true
-unfolding all-rising Channels-drawn channels-good feasible
+unfolding all-rising Channels-drawn channels-good
 drawn-good [] [] xs r d = refl
 drawn-good [] (t ∷ ts) xs r d = absurd d
 drawn-good (c ∷ cs) [] xs r d = absurd d
 drawn-good (c ∷ cs) (t ∷ ts) [] r d = absurd d
 drawn-good (c ∷ cs) (t ∷ ts) (x ∷ xs) r d =
     and-both (feasible c t x (getD xs 0 0)) (channels-good cs ts xs)
-    (rw (le-leb (c .floor) t (d .0)) (drawn-wirable (c .pairs) t x (getD xs 0 0) (search ands) (d .1)))
+    (says-feasible c t x (getD xs 0 0) (d .0) (drawn-wirable (c .pairs) t x (getD xs 0 0) (search ands) (d .1)))
     (drawn-good cs ts xs (search ands) (d .2))
 
 good-drawn : (cs : List Channel) (ts xs : List ℕ) → all-rising cs ≡ true → channels-good cs ts xs ≡ true → Channels-drawn cs ts xs
-unfolding all-rising Channels-drawn channels-good feasible
+unfolding all-rising Channels-drawn channels-good
 good-drawn [] [] xs r g = refl
 good-drawn [] (t ∷ ts) xs r g = let z : _≡_ {A = ℕ} 0 1 = cc in absurd (omega arith)
 good-drawn (c ∷ cs) [] xs r g = let z : _≡_ {A = ℕ} 0 1 = cc in absurd (omega arith)
 good-drawn (c ∷ cs) (t ∷ ts) [] r g = let z : _≡_ {A = ℕ} 0 1 = cc in absurd (omega arith)
 good-drawn (c ∷ cs) (t ∷ ts) (x ∷ xs) r g =
-    (leb-true (c .floor) t (search ands), wirable-drawn (c .pairs) t x (getD xs 0 0) (search ands) (search ands), good-drawn cs ts xs (search ands) (search ands))
+    let both = feasible-says c t x (getD xs 0 0) (search ands) in
+    (both .0, wirable-drawn (c .pairs) t x (getD xs 0 0) (search ands) (both .1), good-drawn cs ts xs (search ands) (search ands))
 
 pub drawable-legal : (k : Stack) (s : ℕ) (ts xs : List ℕ) → all-rising (k .channels) ≡ true → Drawable k s ts xs → legal k s ts xs ≡ true
 unfolding legal

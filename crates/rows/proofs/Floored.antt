@@ -1,22 +1,24 @@
 -- Where each channel's floor is at least its count of pairs, the floors themselves are the answer in every spread, and every strip stands at the left: no
--- separation is below its floor, and from the floor on every offset is feasible. Assumes nothing.
-use mathlib.Core.Path.{_≡_, refl}
+-- separation is below its floor, and the last separations of use, which are the floors then, serve every offset. Assumes nothing.
+use mathlib.Core.Path.{_≡_, refl, ap₂}
 use mathlib.Core.Bool.{Bool, true, _&&_}
 use mathlib.Core.Logic.{_⊎_, inl, inr}
 use mathlib.Core.List.{List, [], _∷_}
-use Prim.Native.Nat.{ℕ, suc, _+_, _≤_, _<_}
+use Prim.Native.Nat.{ℕ, _+_, _≤_, _<_, max}
 use native.Mathlib.Omega.{arith}
 use lib.Dec.{leb}
 use lib.ListN.{length, getD}
-use borrow.Author.Tests.{leb-true, le-leb, lt-ltb, le-ltb, eq-eqb}
-use Rattle.numbers.proofs.Bools.{ands, and-both, impossible}
+use borrow.Author.Tests.{leb-true, lt-ltb, le-ltb, eq-eqb}
+use Rattle.numbers.proofs.Bools.{ands, impossible}
 use Rattle.numbers.proofs.Orders.{lt-or-eq}
-use Rattle.stack.specs.Stack.{Channel, Stack, stack, feasible, in-spread, channels-good, legal, sum, longest, not-later, Answer}
-use Rattle.answer.proofs.Legal.{longest-bounds}
-use Rattle.answer.proofs.Answers.{legal-lengths}
-use Rattle.rows.proofs.Settled.{feasible-says, feasible-open}
+use Rattle.stack.specs.Stack.{Channel, Stack, stack, channels-good, legal, sum, longest, not-later, Answer}
+use Rattle.stack.specs.Limits.{channels-within, within-limits}
+use Rattle.stack.proofs.Feasible.{feasible-says}
+use Rattle.stack.proofs.Within.{strips-count}
+use Rattle.answer.proofs.Legal.{longest-bounds, placed-legal}
+use Rattle.answer.proofs.Answers.{lasts-of, zeros-of, some-placed, legal-lengths}
 
--- the floors of channels, their counts of pairs within them, and as many zeros as strips
+-- the floors of channels, and whether their counts of pairs are within them
 unfoldable pub floors-of : List Channel → List ℕ
 floors-of [] = []
 floors-of (c ∷ cs) = c .floor ∷ floors-of cs
@@ -24,10 +26,6 @@ floors-of (c ∷ cs) = c .floor ∷ floors-of cs
 unfoldable pub all-covered : List Channel → Bool
 all-covered [] = true
 all-covered (c ∷ cs) = leb (length (c .pairs)) (c .floor) && all-covered cs
-
-unfoldable pub zeros-of : List ℕ → List ℕ
-zeros-of [] = []
-zeros-of (l ∷ ls) = 0 ∷ zeros-of ls
 
 -- one not above the other, then the rest: not later
 first-not-later : (a b : ℕ) (xs ys : List ℕ) → a ≤ b → not-later xs ys ≡ true → not-later (a ∷ xs) (b ∷ ys) ≡ true
@@ -50,43 +48,41 @@ floors-first (c ∷ cs) (u ∷ us) (x ∷ xs) g =
     let rest = floors-first cs us xs (search ands) in
     (first-not-later (c .floor) u (floors-of cs) us here (rest .0), omega (arith, rest .1))
 
-zeros-first : (ls ys : List ℕ) → length ys ≡ length ls → not-later (zeros-of ls) ys ≡ true
+-- and no positions before zeros
+zeros-first : (cs : List Channel) (ys : List ℕ) → length ys ≡ length cs → not-later (zeros-of cs) ys ≡ true
 unfolding zeros-of not-later
 zeros-first [] ys e = refl
-zeros-first (l ∷ ls) [] e = absurd (omega arith)
-zeros-first (l ∷ ls) (y ∷ ys) e = first-not-later 0 y (zeros-of ls) ys (omega arith) (zeros-first ls ys (omega arith))
+zeros-first (c ∷ cs) [] e = absurd (omega arith)
+zeros-first (c ∷ cs) (y ∷ ys) e = first-not-later 0 y (zeros-of cs) ys (omega arith) (zeros-first cs ys (omega arith))
 
-zeros-within : (s : ℕ) (ls : List ℕ) → longest ls ≤ s → in-spread s ls (zeros-of ls) ≡ true
-unfolding in-spread zeros-of
-zeros-within s [] h = refl
-zeros-within s (l ∷ ls) h =
-    let n = longest-bounds l ls s h in
-    and-both (leb (0 + l) s) (in-spread s ls (zeros-of ls)) (le-leb (0 + l) s (omega arith)) (zeros-within s ls (n .1))
+lasts-are-floors : (cs : List Channel) → all-covered cs ≡ true → lasts-of cs ≡ floors-of cs
+unfolding lasts-of floors-of all-covered
+lasts-are-floors [] h = refl
+lasts-are-floors (c ∷ cs) h =
+    let most : max (length (c .pairs)) (c .floor) ≡ c .floor = omega (arith, leb-true (length (c .pairs)) (c .floor) (search ands)) in
+    ap₂ _∷_ most (lasts-are-floors cs (search ands))
 
-floors-good : (l : ℕ) (ls : List ℕ) (cs : List Channel) → length ls ≡ length cs → all-covered cs ≡ true → channels-good cs (floors-of cs) (zeros-of (l ∷ ls)) ≡ true
-unfolding channels-good floors-of zeros-of all-covered
-floors-good l [] [] e h = refl
-floors-good l [] (c ∷ cs) e h = absurd (omega arith)
-floors-good l (u ∷ ls) [] e h = absurd (omega arith)
-floors-good l (u ∷ ls) (c ∷ cs) e h =
-    and-both (feasible c (c .floor) 0 0) (channels-good cs (floors-of cs) (zeros-of (u ∷ ls)))
-    (feasible-open c (c .floor) 0 0 (omega arith) (leb-true (length (c .pairs)) (c .floor) (search ands)))
-    (floors-good u ls cs (omega arith) (search ands))
-
-floors-legal : (ls : List ℕ) (cs : List Channel) (s : ℕ) → length ls ≡ suc (length cs) → longest ls ≤ s → all-covered cs ≡ true →
-    legal (stack ls cs) s (floors-of cs) (zeros-of ls) ≡ true
-unfolding legal stack
-floors-legal [] cs s e h c = absurd (omega arith)
+floors-legal : (ls : List ℕ) (cs : List Channel) (s : ℕ) → channels-within ls cs ≡ true → longest ls ≤ s → all-covered cs ≡ true →
+    legal (stack ls cs) s (floors-of cs) (0 ∷ zeros-of cs) ≡ true
+unfolding legal stack channels-within
+floors-legal [] cs s e h c = impossible e
 floors-legal (l ∷ ls) cs s e h c =
-    and-both (in-spread s (l ∷ ls) (zeros-of (l ∷ ls))) (channels-good cs (floors-of cs) (zeros-of (l ∷ ls))) (zeros-within s (l ∷ ls) h) (floors-good l ls cs (omega arith) c)
+    let n = longest-bounds l ls s h in
+    let b = s + 32 in
+    rw (← lasts-are-floors cs c)
+    (placed-legal b s (omega arith) l ls cs (lasts-of cs) 0 (zeros-of cs) e (some-placed b s (omega arith) l ls cs e (n .0) (n .1)))
 
-pub floors-answer : (k : Stack) (s : ℕ) → length (k .strips) ≡ suc (length (k .channels)) → longest (k .strips) ≤ s → all-covered (k .channels) ≡ true →
-    Answer k s (floors-of (k .channels)) (zeros-of (k .strips))
-unfolding legal stack
+pub floors-answer : (k : Stack) (s : ℕ) → within-limits k ≡ true → longest (k .strips) ≤ s → all-covered (k .channels) ≡ true →
+    Answer k s (floors-of (k .channels)) (0 ∷ zeros-of (k .channels))
+unfolding legal stack within-limits
 floors-answer k s e h c =
     record {
-      is-legal = floors-legal (k .strips) (k .channels) s e h c;
+      is-legal = floors-legal (k .strips) (k .channels) s (search ands) h c;
       least = λ us ys g. floors-first (k .channels) us ys (search ands) .1;
       first = λ us ys g q. floors-first (k .channels) us ys (search ands) .0;
-      first-places = λ ys g. zeros-first (k .strips) ys (legal-lengths k s (floors-of (k .channels)) ys g .1);
+      first-places = λ ys g. places ys (legal-lengths k s (floors-of (k .channels)) ys g .1);
     }
+  where
+    places : (ys : List ℕ) → length ys ≡ length (k .strips) → not-later (0 ∷ zeros-of (k .channels)) ys ≡ true
+    places [] q = absurd (omega (arith, strips-count k e))
+    places (y ∷ ys) q = first-not-later 0 y (zeros-of (k .channels)) ys (omega arith) (zeros-first (k .channels) ys (omega (arith, strips-count k e)))

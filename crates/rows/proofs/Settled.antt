@@ -14,24 +14,14 @@ use Rattle.numbers.proofs.Bools.{ands, and-right, and-both, or-left, impossible
 use Rattle.numbers.proofs.Orders.{le-or-lt}
 use Rattle.stack.specs.Stack.{Channel, Stack, stack, wirable, feasible, in-spread, channels-good, legal, sum, longest}
 use Rattle.stack.specs.Limits.{pairs-within, channel-within, channels-within, strips-within, within-limits}
-use Rattle.stack.proofs.Feasible.{By-pairs, by-pairs-wirable, wirable-by-pairs}
+use Rattle.stack.proofs.Feasible.{By-pairs, by-pairs-wirable, wirable-by-pairs, feasible-says, says-feasible}
 use Rattle.stack.proofs.OnStrips.{terminals-on}
 use Rattle.stack.proofs.Within.{strips-count, channels-few}
 use Rattle.rows.specs.Walk.{widest}
 
--- feasible, by its two tests
-module _ (c : Channel) (t x y : ℕ) where
-  pub feasible-says : feasible c t x y ≡ true → (c .floor ≤ t) × (wirable (c .pairs) t x y ≡ true)
-  unfolding feasible
-  feasible-says e = (leb-true (c .floor) t (search ands), search ands)
-
-  says-feasible : c .floor ≤ t → wirable (c .pairs) t x y ≡ true → feasible c t x y ≡ true
-  unfolding feasible
-  says-feasible h e = rw (le-leb (c .floor) t h) e
-
-  pub feasible-open : c .floor ≤ t → length (c .pairs) ≤ t → feasible c t x y ≡ true
-  unfolding wirable
-  feasible-open h k = says-feasible h (or-left _ _ (le-leb (length (c .pairs)) t k))
+pub feasible-open : (c : Channel) (t x y : ℕ) → c .floor ≤ t → length (c .pairs) ≤ t → feasible c t x y ≡ true
+unfolding wirable
+feasible-open c t x y h k = says-feasible c t x y h (or-left _ _ (le-leb (length (c .pairs)) t k))
 
 -- feasibility goes by the offset alone
 feasible-moved : (c : Channel) (t x y x′ y′ : ℕ) → y + x′ ≡ y′ + x → feasible c t x y ≡ true → feasible c t x′ y′ ≡ true

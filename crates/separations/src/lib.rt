@@ -48,6 +48,7 @@ fn forward(s: Span, low: u64, high: u64, from: u64, upto: u64) -> Span
     }
 }
 
+// A number of the table of spans: that it fits 32 bits is known of an argument, and not of an array's element.
 fn wide(x: u32) -> u64
     ensures { λ r. ⌜ r ≡ x ⌝ }
 {

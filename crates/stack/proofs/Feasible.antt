@@ -10,7 +10,7 @@ use native.Mathlib.Decide.{ℕ-discrete}
 use native.Mathlib.Omega.{arith}
 use borrow.Author.Tests.{leb-true, leb-false, le-leb, lt-leb}
 use Rattle.numbers.proofs.Bools.{ands, and-left, and-right, and-both}
-use Rattle.stack.specs.Stack.{Pair, p-at, q-at, every, left-good, right-good, wirable}
+use Rattle.stack.specs.Stack.{Pair, p-at, q-at, every, left-good, right-good, wirable, Channel, feasible}
 
 pub record By-pairs (c : List Pair) (t a b : ℕ) : Type 0 where
   pub left : (j i : ℕ) → j + t ≡ i → i < length c → a + p-at c j + t ≤ b + q-at c i
@@ -66,3 +66,13 @@ wirable-by-pairs c t a b e = record { left = lefts; right = rights }
         let k : t < length c = omega arith in
         let g : right-good c t a b j ≡ true = every-elim (length c - t) 0 (λ j. right-good c t a b j) (search (ands, both)) j (omega arith) (omega arith) in
         omega (arith, leb-true, rw s at g)
+
+-- feasible, by its two tests
+module _ (c : Channel) (t a b : ℕ) where
+  pub feasible-says : feasible c t a b ≡ true → (c .floor ≤ t) × (wirable (c .pairs) t a b ≡ true)
+  unfolding feasible
+  feasible-says e = (leb-true (c .floor) t (search ands), search ands)
+
+  pub says-feasible : c .floor ≤ t → wirable (c .pairs) t a b ≡ true → feasible c t a b ≡ true
+  unfolding feasible
+  says-feasible h e = rw (le-leb (c .floor) t h) e

@@ -10,7 +10,7 @@ use native.Mathlib.Omega.{arith}
 use lib.Dec.{ltb, leb}
 use lib.ListN.{length, getD, set, drop, replicate, length-set, length-replicate, drop-of-length-le}
 use lib.Seq.{drop-cons}
-use borrow.Author.Tests.{leb-false, ltb-false, lt-ltb, le-ltb, le-leb}
+use borrow.Author.Tests.{ltb-false, lt-ltb, le-ltb, le-leb}
 use Rattle.numbers.specs.Lists.{tabulate}
 use Rattle.numbers.proofs.Lists.{length-tabulate, getD-tabulate, tabulate-snoc}
 use Rattle.stack.specs.Stack.{Pair, pair, p-at, q-at}

@@ -1,5 +1,4 @@
 -- is_feasible meets its contract: its test is that of the floor. Assumes nothing.
-use mathlib.Core.Path.{sym, _∙_}
 use borrow.Author.Tests.{le-leb, lt-leb}
 use Rattle.stack.specs.Stack.{feasible}
 use borrow.Author.Needs.{needs}
