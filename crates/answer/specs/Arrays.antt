@@ -1,4 +1,4 @@
--- When the solver's arrays stand for a stack: the limits of its channels, and the windows of its strips in a spread; the answer as the code gives it. Assumes nothing: these are definitions.
+-- When the solver's arrays stand for a stack: the limits of its channels, and the windows of its strips in a spread; what the code gives. Assumes nothing: these are definitions.
 use mathlib.Core.Path.{_≡_}
 use mathlib.Core.Bool.{true}
 use mathlib.Core.List.{List, [], _∷_}
@@ -12,9 +12,11 @@ use Rattle.stack.specs.declared.Stack.{Stack as Stack-struct}
 use Rattle.stack.specs.Sizes.{channels-held, strips-held, separations-held}
 use Rattle.spans.specs.Spans.{Span}
 use Rattle.channel.specs.Limits.{low-floored, high-floored}
-use Rattle.arrays.specs.Arrays.{bias, entry, row, sides, lasts-in, Plan-is}
+use Rattle.arrays.specs.Arrays.{bias, entry, row, sides, lasts-in, sums-in, given, Plan-is, Sized}
+use Rattle.scan.specs.Scan.{Scan-is}
 use Rattle.solver.specs.declared.Placement.{Placement}
-use Rattle.answer.specs.Solve.{last-use, window, answer-total, answer-separations, answer-positions}
+use Rattle.answer.specs.Solve.{last-use, window, answer-total, separations-for, positions-for}
+use Rattle.answer.specs.declared.Scanned.{Scanned}
 
 abbrev pub strip-in : Stack → (i : ℕ) → ℕ
 strip-in k i = getD (k .strips) i 0
@@ -46,8 +48,25 @@ pub record Windows-in (k : Stack) (n s : ℕ) (windows : List (List ℕ)) : Type
   pub sized : length windows ≡ strips-held
   pub windows-are : (i : ℕ) → i < n → row windows i ≡ window-ends (window s (strip-in k i))
 
--- THE ANSWER as the code gives it, with zeros in unused places
-pub record Answer-is (k : Stack) (s : ℕ) (r : Placement) : Type 0 where
-  pub total-is : r .total .0 ≡ answer-total k s
-  pub separations-are : tracks-of (r .separations) ≡ padded channels-held (answer-separations k s)
-  pub positions-are : columns-of (r .positions) ≡ padded strips-held (answer-positions k s)
+-- the arrays as they are at first
+pub record Empty-arrays (limits : List (List (List ℕ))) (windows : List (List ℕ)) (t : List (List (List ℕ))) : Type 0 where
+  pub sized-limits : length limits ≡ channels-held
+  pub two : (i : ℕ) → i < channels-held → length (sides limits i) ≡ 2
+  pub sized-windows : length windows ≡ strips-held
+  pub sized : Sized t
+
+-- the arrays of a stack and a spread, and what the scan of all totals of use found
+pub record Scanned-in (k : Stack-struct) (s : ℕ) (limits : List (List (List ℕ))) (windows : List (List ℕ)) (t : List (List (List ℕ))) (r : Scanned) : Type 0 where
+  pub held : Held k limits (r .plan)
+  pub windows-in : Windows-in (stack-of k) (suc (k .count)) s windows
+  pub scanned : Scan-is (given limits (r .plan) windows) (k .count) (entry (sums-in (r .plan)) 0) t (r .scan)
+
+-- THE PLACEMENT for a total as the code gives it, with zeros in unused places
+pub record Placed-is (k : Stack) (s v : ℕ) (r : Placement) : Type 0 where
+  pub total-is : r .total .0 ≡ v
+  pub separations-are : tracks-of (r .separations) ≡ padded channels-held (separations-for k s v)
+  pub positions-are : columns-of (r .positions) ≡ padded strips-held (positions-for k s v)
+
+-- THE ANSWER: the placement for the least total
+abbrev pub Answer-is : Stack → (s : ℕ) → Placement → Type 0
+Answer-is k s r = Placed-is k s (answer-total k s) r

@@ -1,5 +1,5 @@
--- The answer for a stack and a spread as executable definitions: the stack's windows and limits handed to the solver. Assumes nothing: these are definitions.
--- They are proved to be Stack.antt's Answer; nobody has to believe them.
+-- The least total of a stack in a spread and the placement for a total as executable definitions: the stack's windows and limits handed to the solver. Assumes
+-- nothing: these are definitions. They are proved to be Stack.antt's Least-total and Placement; nobody has to believe them.
 use mathlib.Core.List.{List, [], _∷_}
 use Prim.Native.Nat.{ℕ, suc, _+_, _-_, max}
 use lib.ListN.{length, getD, drop}
@@ -33,7 +33,7 @@ bottom k s = window s (getD (k .strips) 0 0)
 unfoldable pub levels-of : (b : ℕ) → Stack → (s : ℕ) → List Level
 levels-of b k s = stack-levels b s (drop 1 (k .strips)) (k .channels)
 
--- the answer with a given bias: any that is at least s + 32 serves
+-- total, separations and positions with a given bias: any that is at least s + 32 serves
 unfoldable pub total-with : (b : ℕ) → Stack → (s : ℕ) → ℕ
 total-with b k s = least-total b (bottom k s) (levels-of b k s)
 
@@ -43,12 +43,20 @@ separations-with b k s v = separations b (bottom k s) (levels-of b k s) v
 unfoldable pub positions-with : (b : ℕ) → Stack → (s : ℕ) → (ts : List ℕ) → List ℕ
 positions-with b k s ts = positions b (bottom k s) (levels-of b k s) ts
 
--- THE ANSWER: least total, separations, positions
+-- THE LEAST TOTAL
 unfoldable pub answer-total : Stack → (s : ℕ) → ℕ
 answer-total k s = total-with (s + 32) k s
 
-unfoldable pub answer-separations : Stack → (s : ℕ) → List ℕ
-answer-separations k s = separations-with (s + 32) k s (answer-total k s)
+-- THE PLACEMENT FOR A TOTAL: separations, positions
+unfoldable pub separations-for : Stack → (s v : ℕ) → List ℕ
+separations-for k s v = separations-with (s + 32) k s v
 
-unfoldable pub answer-positions : Stack → (s : ℕ) → List ℕ
-answer-positions k s = positions-with (s + 32) k s (answer-separations k s)
+unfoldable pub positions-for : Stack → (s v : ℕ) → List ℕ
+positions-for k s v = positions-with (s + 32) k s (separations-for k s v)
+
+-- THE ANSWER: the placement for the least total
+abbrev pub answer-separations : Stack → (s : ℕ) → List ℕ
+answer-separations k s = separations-for k s (answer-total k s)
+
+abbrev pub answer-positions : Stack → (s : ℕ) → List ℕ
+answer-positions k s = positions-for k s (answer-total k s)

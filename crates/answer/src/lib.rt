@@ -1,19 +1,27 @@
-// The answer for a stack and a spread.
+// The least total of a stack in a spread, and the placement for a total.
 ghost use mathlib.Core.Path.{_≡_};
 ghost use mathlib.Core.Bool.{true};
 ghost use Prim.Native.Nat.{suc, _≤_, max};
+ghost use lib.Dec.{leb};
 ghost use Rattle.stack.specs.Limits.{within-limits};
 ghost use Rattle.stack.specs.Value.{stack-of};
 ghost use Rattle.stack.specs.Stack.{longest};
-ghost use Rattle.answer.specs.Arrays.{Limits-in, Windows-in, Answer-is};
+ghost use Rattle.answer.specs.Arrays.{Limits-in, Windows-in, Empty-arrays, Scanned-in, Placed-is};
+ghost use Rattle.answer.specs.Solve.{answer-total};
 use arrays::ABOVE;
 use arrays::HIGH;
 use arrays::LOW;
+use arrays::Plan;
+use arrays::SpanTable;
 use arrays::StackLimits;
 use arrays::Windows;
 use channel::channel_limits;
 use numbers::difference;
+use numbers::greater;
+use numbers::lesser;
 use plan::plan_for;
+use scan::Scan;
+use scan::fill_totals;
 use scan::scan_totals;
 use solver::Placement;
 use solver::place_in;
@@ -67,21 +75,78 @@ pub fn fill_windows(stack: Stack, spread: u32, windows: &mut Windows)
     }
 }
 
-// The answer for a spread from the longest strip upward.
-pub fn answer(stack: Stack, spread: u32) -> Placement
+// The plan of a stack, and what the scan of its totals in a spread found.
+struct Scanned {
+    plan: Plan,
+    scan: Scan,
+}
+
+// Fills the arrays for a stack and a spread from the longest strip upward, and looks for its least total.
+fn scan_stack(
+    stack: Stack,
+    spread: u32,
+    limits: &mut StackLimits,
+    windows: &mut Windows,
+    table: &mut SpanTable,
+) -> Scanned
+    requires { ⌜ (within-limits (stack-of stack) ≡ true) × (longest (stack-of stack .strips) ≤ spread) × Empty-arrays (now limits) (now windows) (now table) ⌝ }
+    ensures { λ r. ⌜ Scanned-in stack spread (now (limits .exit)) (now (windows .exit)) (now (table .exit)) r ⌝ }
+{
+    let k = stack.count;
+    let mut lasts = [0usize; Stack::STRIPS];
+    fill_limits(stack, limits, &mut lasts);
+    let plan = plan_for(limits, lasts, k);
+    fill_windows(stack, spread, windows);
+    let cap = plan[ABOVE][0];
+    let scan = scan_totals(limits, &plan, windows, k, cap, table);
+    Scanned { plan, scan }
+}
+
+// The least total in a spread from the longest strip upward.
+pub fn total_in(stack: Stack, spread: u32) -> Tracks
     requires { ⌜ within-limits (stack-of stack) ≡ true ⌝ }
     requires { ⌜ longest (stack-of stack .strips) ≤ spread ⌝ }
-    ensures { λ r. ⌜ Answer-is (stack-of stack) spread r ⌝ }
+    ensures { λ r. ⌜ r .0 ≡ answer-total (stack-of stack) spread ⌝ }
+{
+    let mut limits = [[[0u64; Stack::SEPARATIONS]; 2]; Stack::MAX_CHANNELS];
+    let mut windows = [[0u64; 2]; Stack::STRIPS];
+    let mut table = [[[0u32; Stack::TOTALS]; 2]; Stack::STRIPS];
+    let scanned = scan_stack(stack, spread, &mut limits, &mut windows, &mut table);
+    Tracks(scanned.scan.total as u32)
+}
+
+// Whether a stated total is met where this is the least.
+fn is_met(least: usize, total: Tracks) -> bool
+    ensures { λ r. ⌜ r ≡ leb least (total .0) ⌝ }
+{
+    least <= total.0 as usize
+}
+
+// A placement, and whether it is the one for the stated total.
+pub struct StatedPlacement {
+    pub met: bool,
+    pub placement: Placement,
+}
+
+// The placement for a stated total in a spread from the longest strip upward; where the least total is greater, the placement for that one.
+pub fn placement_in(stack: Stack, spread: u32, total: Tracks) -> StatedPlacement
+    requires { ⌜ within-limits (stack-of stack) ≡ true ⌝ }
+    requires { ⌜ longest (stack-of stack .strips) ≤ spread ⌝ }
+    ensures { λ r. ⌜ (r .met ≡ leb (answer-total (stack-of stack) spread) (total .0)) × Placed-is (stack-of stack) spread (max (total .0) (answer-total (stack-of stack) spread)) (r .placement) ⌝ }
 {
     let k = stack.count;
     let mut limits = [[[0u64; Stack::SEPARATIONS]; 2]; Stack::MAX_CHANNELS];
-    let mut lasts = [0usize; Stack::STRIPS];
-    fill_limits(stack, &mut limits, &mut lasts);
-    let plan = plan_for(&limits, lasts, k);
     let mut windows = [[0u64; 2]; Stack::STRIPS];
-    fill_windows(stack, spread, &mut windows);
     let mut table = [[[0u32; Stack::TOTALS]; 2]; Stack::STRIPS];
-    let cap = plan[ABOVE][0];
-    let scan = scan_totals(&limits, &plan, &windows, k, cap, &mut table);
-    place_in(&limits, &plan, &windows, k, scan.total, &table)
+    let scanned = scan_stack(stack, spread, &mut limits, &mut windows, &mut table);
+    let plan = scanned.plan;
+    let least = scanned.scan.total;
+    let placed = greater(total.0 as u64, least as u64) as usize;
+    let upto = lesser(placed as u64, plan[ABOVE][1] as u64) as usize;
+    fill_totals(&limits, &plan, &windows, k, least, upto, &mut table);
+    let placement = place_in(&limits, &plan, &windows, k, placed, &table);
+    StatedPlacement {
+        met: is_met(least, total),
+        placement,
+    }
 }

@@ -1,4 +1,4 @@
--- TRUSTED. What the entries answer and leave behind. Document 01, "Choosing among equals", "Lines and tabs" and "Sent back at the counter".
+-- TRUSTED. What the entries answer and leave behind. Document 01, "Choosing among equals", "Lines and tabs" and "Sent back at the counter"; document 02, P3.
 -- Assumes nothing: these are definitions.
 use mathlib.Core.Path.{_≡_}
 use mathlib.Core.Bool.{Bool, true, false, cond, _&&_}
@@ -8,33 +8,49 @@ use lib.Dec.{ltb, leb, eqb}
 use lib.ListN.{length, getD, take, drop, replicate}
 use Rattle.stack.specs.Value.{tracks-of, columns-of}
 use Rattle.numbers.specs.Lists.{tabulate, padded}
-use Rattle.stack.specs.Stack.{Stack, Answer, Row, Rows-are, sum, longest}
+use Rattle.stack.specs.Stack.{Stack, Total-met, Least-total, Placement, Row, Rows-are, longest}
 use Rattle.text.specs.Text.{Refusal, refusal, fine, or-else, text-refusal, stack-in}
 use Rattle.text.specs.Outcome.{refusal-of}
 use Rattle.writing.specs.TableText.{table-text}
 use Rattle.trial.specs.Legal.{is-legal}
-use Rattle.nabetsu.specs.declared.SpreadAnswer.{SpreadAnswer}
+use Rattle.nabetsu.specs.declared.PlacementAnswer.{PlacementAnswer}
 use Rattle.nabetsu.specs.declared.TableAnswer.{TableAnswer}
+use Rattle.nabetsu.specs.declared.TotalAnswer.{TotalAnswer}
 use Rattle.nabetsu.specs.declared.TrialAnswer.{TrialAnswer}
 
--- ONE SPREAD: 1 to 6, then 7
+-- A SPREAD: 1 to 6, then 7
 unfoldable pub narrow-refusal : Stack → (s : ℕ) → Refusal
 narrow-refusal k s = cond (ltb s (longest (k .strips))) (refusal 7 0 0) fine
 
 unfoldable pub spread-refusal : List ℕ → (s : ℕ) → Refusal
 spread-refusal bs s = or-else (text-refusal bs) (narrow-refusal (stack-in bs) s)
 
-unfoldable pub placed-is : Refusal → (total : ℕ) → (ts xs : List ℕ) → SpreadAnswer → Type 0
+-- THE LEAST TOTAL, or a refusal with 0
+unfoldable pub total-told : Refusal → (total : ℕ) → TotalAnswer → Type 0
+total-told f v r = (refusal-of (r .outcome) ≡ f) × (r .total .0 ≡ v)
+
+unfoldable pub Totalled : (number : ℕ) → Refusal → Stack → (s : ℕ) → TotalAnswer → Type 0
+Totalled zero f k s r = (v : ℕ) × Least-total k s v × total-told f v r
+Totalled (suc n) f k s r = total-told f 0 r
+
+unfoldable pub Total-says : List ℕ → (s : ℕ) → TotalAnswer → Type 0
+Total-says bs s r = Totalled (spread-refusal bs s .number) (spread-refusal bs s) (stack-in bs) s r
+
+-- THE PLACEMENT FOR A TOTAL with that total; or a refusal with zeros elsewhere, after 7 at last 10, exactly if no legal placement in the spread has that total
+unfoldable pub placed-is : Refusal → (total : ℕ) → (ts xs : List ℕ) → PlacementAnswer → Type 0
 placed-is f v ts xs r =
     (refusal-of (r .outcome) ≡ f) × (r .total .0 ≡ v) × (tracks-of (r .separations) ≡ padded 8 ts) × (columns-of (r .positions) ≡ padded 9 xs)
 
--- the answer with its total, or a refusal with zeros elsewhere
-unfoldable pub Answered : (number : ℕ) → Refusal → Stack → (s : ℕ) → SpreadAnswer → Type 0
-Answered zero f k s r = (ts : List ℕ) × (xs : List ℕ) × Answer k s ts xs × placed-is f (sum ts) ts xs r
-Answered (suc n) f k s r = placed-is f 0 [] [] r
+pub data Placed-for (k : Stack) (s v : ℕ) (r : PlacementAnswer) : Type 0 where
+  placed : (ts xs : List ℕ) → Placement k s v ts xs → placed-is fine v ts xs r → Placed-for k s v r
+  unmet : (Total-met k s v → ⊥) → placed-is (refusal 10 0 0) 0 [] [] r → Placed-for k s v r
 
-unfoldable pub Spread-says : List ℕ → (s : ℕ) → SpreadAnswer → Type 0
-Spread-says bs s r = Answered (spread-refusal bs s .number) (spread-refusal bs s) (stack-in bs) s r
+unfoldable pub Placed-or : (number : ℕ) → Refusal → Stack → (s v : ℕ) → PlacementAnswer → Type 0
+Placed-or zero f k s v r = Placed-for k s v r
+Placed-or (suc n) f k s v r = placed-is f 0 [] [] r
+
+unfoldable pub Placement-says : List ℕ → (s v : ℕ) → PlacementAnswer → Type 0
+Placement-says bs s v r = Placed-or (spread-refusal bs s .number) (spread-refusal bs s) (stack-in bs) s v r
 
 -- THE TABLE: its whole text and zeros behind it; or 1 to 6, then 8, with zeros everywhere
 unfoldable pub zeros : List ℕ → List ℕ
@@ -63,26 +79,31 @@ Trial-says bs s ts xs r = (refusal-of (r .outcome) ≡ text-refusal bs) × (r .l
 unfoldable pub code : Refusal → (value : ℕ) → ℕ
 code f v = cond (eqb (f .number) 0) v (f .number * 1099511627776 + f .line * 1048576 + f .field)
 
+pub record Total-coded (bs : List ℕ) (s r : ℕ) : Type 0 where
+  pub answer : TotalAnswer
+  pub says : Total-says bs s answer
+  pub coded : r ≡ code (refusal-of (answer .outcome)) (answer .total .0)
+
 pub record Table-coded (bs : List ℕ) (r : ℕ) (o o-now : List ℕ) : Type 0 where
   pub answer : TableAnswer
   pub says : Table-says bs answer o o-now
   pub coded : r ≡ code (refusal-of (answer .outcome)) (answer .written)
 
--- THE EIGHTEEN NUMBERS of an answer: total, separations, positions; over so many places, zeros behind them
-unfoldable pub numbers : SpreadAnswer → List ℕ
+-- THE EIGHTEEN NUMBERS of a placement: total, separations, positions; over so many places, zeros behind them
+unfoldable pub numbers : PlacementAnswer → List ℕ
 numbers a = a .total .0 ∷ (tracks-of (a .separations) ++ columns-of (a .positions))
 
-unfoldable pub numbers-in : (places : ℕ) → SpreadAnswer → List ℕ
+unfoldable pub numbers-in : (places : ℕ) → PlacementAnswer → List ℕ
 numbers-in n a = tabulate n 0 (λ i. getD (numbers a) i 0)
 
 -- an output of fewer than eighteen places is short space, after every other refusal
-unfoldable pub Numbers-put : (fits : Bool) → SpreadAnswer → (r : ℕ) → (o o-now : List ℕ) → Type 0
+unfoldable pub Numbers-put : (fits : Bool) → PlacementAnswer → (r : ℕ) → (o o-now : List ℕ) → Type 0
 Numbers-put true a r o x = (r ≡ code (refusal-of (a .outcome)) 0) × (x ≡ numbers-in (length o) a)
 Numbers-put false a r o x = (r ≡ code (or-else (refusal-of (a .outcome)) (refusal 8 0 0)) 0) × (x ≡ zeros o)
 
-pub record Spread-coded (bs : List ℕ) (s r : ℕ) (o o-now : List ℕ) : Type 0 where
-  pub answer : SpreadAnswer
-  pub says : Spread-says bs s answer
+pub record Placement-coded (bs : List ℕ) (s v r : ℕ) (o o-now : List ℕ) : Type 0 where
+  pub answer : PlacementAnswer
+  pub says : Placement-says bs s v answer
   pub put : Numbers-put (leb 18 (length o)) answer r o o-now
 
 -- a verdict's number is document 03's: 1 legal, 2 not

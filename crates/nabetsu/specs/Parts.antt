@@ -12,13 +12,13 @@ use Rattle.text.specs.declared.Outcome.{Outcome}
 use Rattle.answer.specs.Solve.{answer-separations, answer-positions}
 use Rattle.writing.specs.Output.{Written, cleared}
 use Rattle.page.specs.Page.{channel-page}
-use Rattle.nabetsu.specs.declared.SpreadAnswer.{SpreadAnswer}
+use Rattle.nabetsu.specs.declared.PlacementAnswer.{PlacementAnswer}
 use Rattle.nabetsu.specs.declared.TableAnswer.{TableAnswer}
 use Rattle.nabetsu.specs.declared.TrialAnswer.{TrialAnswer}
 use Rattle.nabetsu.specs.Entry.{zeros, table-told, is-legal-numbers}
 
 -- an outcome with zeros in every other place
-pub record Refused-answer (o : Outcome) (r : SpreadAnswer) : Type 0 where
+pub record Refused-placement (o : Outcome) (r : PlacementAnswer) : Type 0 where
   pub outcome-is : r .outcome ≡ o
   pub total-zero : r .total .0 ≡ 0
   pub separations-zero : tracks-of (r .separations) ≡ replicate 8 0

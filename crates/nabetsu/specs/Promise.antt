@@ -1,13 +1,18 @@
--- TRUSTED. What is promised of accepted texts. Each statement is a type; proofs/Promises.antt proves it. Document 01, "When a channel can be wired" and
--- "Choosing among equals". Assumes nothing.
+-- TRUSTED. What is promised of accepted texts, and of total and placement together. Each statement is a type; proofs/Promises.antt proves it. Document 01,
+-- "When a channel can be wired" and "Choosing among equals"; document 02, P3. Assumes nothing.
 use mathlib.Core.Path.{_≡_}
 use mathlib.Core.Bool.{Bool, true, _&&_}
 use mathlib.Core.List.{List, [], _∷_}
+use mathlib.Core.Logic.{_↔_}
 use Prim.Native.Nat.{ℕ, _≤_}
 use lib.Dec.{ltb, eqb}
-use Rattle.stack.specs.Stack.{Answer, Row, Rows-are, sum, longest}
+use Rattle.stack.specs.Stack.{Total-met, Least-total, Placement, Answer, Row, Rows-are, sum, longest}
 use Rattle.routing.specs.Paths.{Drawable}
 use Rattle.text.specs.Text.{text-refusal, stack-in}
+use Rattle.nabetsu.specs.declared.PlacementAnswer.{PlacementAnswer}
+use Rattle.nabetsu.specs.declared.TotalAnswer.{TotalAnswer}
+use Rattle.nabetsu.specs.Entry.{Total-says, Placement-says}
+use Rattle.nabetsu.specs.Best.{Spread-says}
 
 unfoldable pub all-bytes : List ℕ → Bool
 all-bytes [] = true
@@ -38,6 +43,41 @@ unfoldable pub Answer-alone : Type 0
 Answer-alone =
     (bs : List ℕ) (s : ℕ) (ts xs us ys : List ℕ) → accepted bs ≡ true → Answer (stack-in bs) s ts xs → Answer (stack-in bs) s us ys →
     (ts ≡ us) × (xs ≡ ys)
+
+-- every spread from the longest strip upward has a least total, and but one; the totals that are met there are that one and all above it
+unfoldable pub Total-there : Type 0
+Total-there = (bs : List ℕ) (s : ℕ) → accepted bs ≡ true → longest (stack-in bs .strips) ≤ s → (v : ℕ) × Least-total (stack-in bs) s v
+
+unfoldable pub Total-alone : Type 0
+Total-alone = (bs : List ℕ) (s v w : ℕ) → accepted bs ≡ true → Least-total (stack-in bs) s v → Least-total (stack-in bs) s w → v ≡ w
+
+unfoldable pub Totals-met : Type 0
+Totals-met = (bs : List ℕ) (s v w : ℕ) → accepted bs ≡ true → Least-total (stack-in bs) s v → Total-met (stack-in bs) s w ↔ (v ≤ w)
+
+-- every total that is met has a placement, and but one; it can be drawn
+unfoldable pub Placement-there : Type 0
+Placement-there =
+    (bs : List ℕ) (s v : ℕ) → accepted bs ≡ true → Total-met (stack-in bs) s v →
+    (ts : List ℕ) × (xs : List ℕ) × Placement (stack-in bs) s v ts xs
+
+unfoldable pub Placement-alone : Type 0
+Placement-alone =
+    (bs : List ℕ) (s v : ℕ) (ts xs us ys : List ℕ) → accepted bs ≡ true → Placement (stack-in bs) s v ts xs → Placement (stack-in bs) s v us ys →
+    (ts ≡ us) × (xs ≡ ys)
+
+unfoldable pub Placement-drawable : Type 0
+Placement-drawable =
+    (bs : List ℕ) (s v : ℕ) (ts xs : List ℕ) → accepted bs ≡ true → Placement (stack-in bs) s v ts xs → Drawable (stack-in bs) s ts xs
+
+-- THE ANSWER IS BOTH TOGETHER, the least total and the placement for it; so are the entries' results
+unfoldable pub Answer-is-both : Type 0
+Answer-is-both =
+    (bs : List ℕ) (s : ℕ) (ts xs : List ℕ) →
+    Answer (stack-in bs) s ts xs ↔ (Least-total (stack-in bs) s (sum ts) × Placement (stack-in bs) s (sum ts) ts xs)
+
+unfoldable pub Both-together : Type 0
+Both-together =
+    (bs : List ℕ) (s : ℕ) (t : TotalAnswer) (r : PlacementAnswer) → Total-says bs s t → Placement-says bs s (t .total .0) r → Spread-says bs s r
 
 unfoldable pub Rows-there : Type 0
 Rows-there = (bs : List ℕ) → accepted bs ≡ true → (rs : List Row) × Rows-are (stack-in bs) rs × ((qs : List Row) → Rows-are (stack-in bs) qs → qs ≡ rs)

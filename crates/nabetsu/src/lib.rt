@@ -1,19 +1,21 @@
-// The public entries: the table of a text, the answer for one spread, a channel's page, the verdict on a placement. Each answers whatever comes in, or refuses.
+// The public entries: the table of a text, the least total and the placement for a total in one spread, a channel's page, the verdict on a placement. Each answers
+// whatever comes in, or refuses.
 ghost use Rattle.stack.specs.Value.{tracks-of, columns-of, stack-of};
 ghost use Rattle.stack.specs.Limits.{within-limits};
 ghost use mathlib.Core.Bool.{true};
-ghost use Rattle.nabetsu.specs.Entry.{Spread-says, Table-says, Trial-says, Table-coded, Spread-coded, code, numbers-in, verdict, is-legal-numbers};
+ghost use Rattle.nabetsu.specs.Entry.{narrow-refusal, Total-says, Placement-says, Table-says, Trial-says, Table-coded, Total-coded, Placement-coded, code, numbers-in, verdict, is-legal-numbers};
 ghost use Rattle.text.specs.Text.{refusal, or-else, text-refusal, stack-in};
 ghost use lib.Dec.{leb};
 ghost use lib.ListN.{length, getD, take, drop};
 ghost use mathlib.Core.List.{_∷_, _++_};
 ghost use Rattle.text.specs.Outcome.{refusal-of};
 ghost use mathlib.Core.Path.{_≡_};
-ghost use Rattle.nabetsu.specs.Best.{Spread-best};
+ghost use Rattle.nabetsu.specs.Best.{Total-best, Placement-best};
 ghost use Rattle.nabetsu.specs.Pages.{asked-refusal, Page-says, Page-enough, Page-shows, Page-coded};
-ghost use Rattle.nabetsu.specs.Parts.{Refused-answer, Refused-table, Finished, Channel-put, Numbers-tried};
+ghost use Rattle.nabetsu.specs.Parts.{Refused-placement, Refused-table, Finished, Channel-put, Numbers-tried};
 ghost use Rattle.nabetsu.specs.Space.{Space-enough};
-use answer::answer;
+use answer::placement_in;
+use answer::total_in;
 use plot::put_page;
 use stack::Columns;
 use stack::Stack;
@@ -25,22 +27,28 @@ use text::read_stack;
 use trial::is_placement_legal;
 use writing::clear_from;
 
-// How many numbers an answer has: total, separations, positions.
+// How many numbers a placement has with its total: total, separations, positions.
 const NUMBERS: usize = 2 * Stack::MAX_CHANNELS + 2;
 
-// The answer for one spread: total, separations and positions with zeros in unused places; a refused answer has zeros in all of them.
-pub struct SpreadAnswer {
+// The least total in one spread; 0 where it is refused.
+pub struct TotalAnswer {
+    pub outcome: Outcome,
+    pub total: Tracks,
+}
+
+// The placement for a total in one spread: total, separations and positions with zeros in unused places; a refused one has zeros in all of them.
+pub struct PlacementAnswer {
     pub outcome: Outcome,
     pub total: Tracks,
     pub separations: [Tracks; Stack::MAX_CHANNELS],
     pub positions: [Columns; Stack::STRIPS],
 }
 
-// A refused answer: zeros in every other place.
-fn refused_answer(outcome: Outcome) -> SpreadAnswer
-    ensures { λ r. ⌜ Refused-answer outcome r ⌝ }
+// A refused placement: zeros in every other place.
+fn refused_placement(outcome: Outcome) -> PlacementAnswer
+    ensures { λ r. ⌜ Refused-placement outcome r ⌝ }
 {
-    SpreadAnswer {
+    PlacementAnswer {
         outcome,
         total: Tracks(0),
         separations: [Tracks(0); Stack::MAX_CHANNELS],
@@ -48,25 +56,58 @@ fn refused_answer(outcome: Outcome) -> SpreadAnswer
     }
 }
 
-// The answer for one spread of the stack in a text, or the first refusal that applies: 1 to 6, then 7.
-pub fn answer_spread(text: &[u8], spread: u32) -> SpreadAnswer
-    ensures { λ r. ⌜ Spread-says (now (text .entry)) spread r ⌝ }
-    ensures { λ r. ⌜ Spread-best (now (text .entry)) spread r ⌝ }
+// What a spread adds to the outcome of a text that has this stack: 7 behind 1 to 6.
+fn spread_outcome(outcome: Outcome, stack: Stack, spread: u32) -> Outcome
+    requires { ⌜ within-limits (stack-of stack) ≡ true ⌝ }
+    ensures { λ r. ⌜ refusal-of r ≡ or-else (refusal-of outcome) (narrow-refusal (stack-of stack) spread) ⌝ }
+{
+    if !outcome.is_accepted() {
+        return outcome;
+    }
+    let longest = stack.longest();
+    if spread < longest {
+        return Outcome::refused(Refusal::Narrow, 0, 0);
+    }
+    outcome
+}
+
+// Document 02, P3: the least total in one spread of the stack in a text, or the first refusal that applies: 1 to 6, then 7. Nothing is placed.
+pub fn least_total(text: &[u8], spread: u32) -> TotalAnswer
+    ensures { λ r. ⌜ Total-says (now (text .entry)) spread r ⌝ }
+    ensures { λ r. ⌜ Total-best (now (text .entry)) spread r ⌝ }
 {
     let reading = read_stack(text);
-    let outcome = reading.outcome;
-    if !outcome.is_accepted() {
-        return refused_answer(outcome);
-    }
     let stack = reading.stack;
-    if spread < stack.longest() {
-        return refused_answer(Outcome::refused(Refusal::Narrow, 0, 0));
+    let outcome = spread_outcome(reading.outcome, stack, spread);
+    if !outcome.is_accepted() {
+        return TotalAnswer {
+            outcome,
+            total: Tracks(0),
+        };
     }
-    let placement = answer(stack, spread);
-    let total = placement.total;
+    let total = total_in(stack, spread);
+    TotalAnswer { outcome, total }
+}
+
+// Document 02, P3: the placement in one spread for a stated total of the stack in a text, or the first refusal that applies: 1 to 6, then 7, then 10.
+pub fn place_total(text: &[u8], spread: u32, total: Tracks) -> PlacementAnswer
+    ensures { λ r. ⌜ Placement-says (now (text .entry)) spread (total .0) r ⌝ }
+    ensures { λ r. ⌜ Placement-best (now (text .entry)) spread (total .0) r ⌝ }
+{
+    let reading = read_stack(text);
+    let stack = reading.stack;
+    let outcome = spread_outcome(reading.outcome, stack, spread);
+    if !outcome.is_accepted() {
+        return refused_placement(outcome);
+    }
+    let stated = placement_in(stack, spread, total);
+    if !stated.met {
+        return refused_placement(Outcome::refused(Refusal::Unmet, 0, 0));
+    }
+    let placement = stated.placement;
     let separations = placement.separations;
     let positions = placement.positions;
-    SpreadAnswer {
+    PlacementAnswer {
         outcome,
         total,
         separations,
@@ -152,7 +193,8 @@ fn put_channel(stack: Stack, spread: u32, channel: u32, output: &mut [u8]) -> us
     requires { ⌜ (within-limits (stack-of stack) ≡ true) × (asked-refusal (stack-of stack) spread channel .number ≡ 0) ⌝ }
     ensures { λ r. ⌜ Channel-put (stack-of stack) spread channel (now (output .entry)) (now (output .exit)) r ⌝ }
 {
-    let placement = answer(stack, spread);
+    let least = placement_in(stack, spread, Tracks(0));
+    let placement = least.placement;
     let separations = placement.separations;
     let positions = placement.positions;
     let i = channel as usize - 1;
@@ -262,7 +304,7 @@ fn or_short(outcome: Outcome) -> Outcome
     }
 }
 
-// Number i of an answer's eighteen: the total, the separations, the positions; zero behind them.
+// Number i of a placement's eighteen: the total, the separations, the positions; zero behind them.
 fn number_at(
     total: Tracks,
     separations: [Tracks; Stack::MAX_CHANNELS],
@@ -283,8 +325,8 @@ fn number_at(
     0
 }
 
-// The numbers of an answer, and zeros behind them.
-fn put_numbers(answer: SpreadAnswer, output: &mut [u32])
+// The numbers of a placement, and zeros behind them.
+fn put_numbers(answer: PlacementAnswer, output: &mut [u32])
     ensures { λ r. ⌜ now (output .exit) ≡ numbers-in (length (now (output .entry))) answer ⌝ }
 {
     let total = answer.total;
@@ -295,17 +337,33 @@ fn put_numbers(answer: SpreadAnswer, output: &mut [u32])
     }
 }
 
-// answer_spread for callers in other languages: 0 with the total, eight separations and nine positions in the output and zeros behind them, or the refusal in
+// least_total for callers in other languages: the total, or the refusal in one number.
+#[no_mangle]
+pub extern "C" fn nabetsu_least_total(text: &[u8], spread: u32) -> u64
+    ensures { λ r. ⌜ Total-coded (now (text .entry)) spread r ⌝ }
+{
+    let answer = least_total(text, spread);
+    let outcome = answer.outcome;
+    let total = answer.total;
+    code(outcome, total.0 as u64)
+}
+
+// place_total for callers in other languages: 0 with the total, eight separations and nine positions in the output and zeros behind them, or the refusal in
 // one number and zeros in the whole output. An output of fewer than eighteen numbers is short space.
 #[no_mangle]
-pub extern "C" fn nabetsu_answer_spread(text: &[u8], spread: u32, output: &mut [u32]) -> u64
-    ensures { λ r. ⌜ Spread-coded (now (text .entry)) spread r (now (output .entry)) (now (output .exit)) ⌝ }
+pub extern "C" fn nabetsu_place_total(
+    text: &[u8],
+    spread: u32,
+    total: u32,
+    output: &mut [u32],
+) -> u64
+    ensures { λ r. ⌜ Placement-coded (now (text .entry)) spread total r (now (output .entry)) (now (output .exit)) ⌝ }
 {
-    let answer = answer_spread(text, spread);
+    let answer = place_total(text, spread, Tracks(total));
     let outcome = answer.outcome;
     if output.len() < NUMBERS {
         let short = or_short(outcome);
-        put_numbers(refused_answer(short), output);
+        put_numbers(refused_placement(short), output);
         return code(short, 0);
     }
     put_numbers(answer, output);

@@ -9,8 +9,8 @@ ghost use lib.Dec.{ltb, eqb};
 ghost use Rattle.stack.specs.Sizes.{channels-held, separations-held, totals-held};
 ghost use Rattle.spans.specs.Spans.{span};
 ghost use Rattle.spans.specs.Jump.{min-if, max-if};
-ghost use Rattle.arrays.specs.Arrays.{bias, given, Two-rows, Sized};
-ghost use Rattle.scan.specs.Scan.{Ends-ask, Ends-are, Ends-serve, window-in, Strip-asks, Strip-done, jump-if, Empty-on, Empties-are, Row-is, Ends-fit, Cleared, Only-at, Total-asks, Scanning, Scan-asks, Scan-is};
+ghost use Rattle.arrays.specs.Arrays.{bias, given, Two-rows, Sized, Filled};
+ghost use Rattle.scan.specs.Scan.{Ends-ask, Ends-are, Ends-serve, window-in, Strip-asks, Strip-done, jump-if, Empty-on, Empties-are, Row-is, Ends-fit, Cleared, Only-at, Total-asks, Scanning, Scan-asks, Scan-is, Fill-asks};
 use arrays::ABOVE;
 use arrays::ChannelLimits;
 use arrays::FROM;
@@ -261,6 +261,28 @@ fn clear(windows: &Windows, k: usize, cap: usize, table: &mut SpanTable)
             greater(windows[i][FROM], windows[i][UPTO]) as u32,
             cap,
         );
+    }
+}
+
+// Carries a table that is filled for the totals up to from on to the totals up to upto.
+pub fn fill_totals(
+    limits: &StackLimits,
+    plan: &Plan,
+    windows: &Windows,
+    k: usize,
+    from: usize,
+    upto: usize,
+    table: &mut SpanTable,
+)
+    requires { ⌜ Fill-asks (given (now limits) (now plan) (now windows)) k from upto (now table) ⌝ }
+    ensures { λ _. ⌜ Filled (given (now (limits .entry)) (now (plan .entry)) (now (windows .entry))) k (max from upto) 0 (now (table .exit)) ⌝ }
+{
+    let mut empties = [0usize; Stack::STRIPS];
+    let mut v = from + 1;
+    while v <= upto {
+        let turn = Turn { k, v, jump: 1 };
+        scan_total(limits, plan, windows, turn, &mut empties, table);
+        v += 1;
     }
 }
 

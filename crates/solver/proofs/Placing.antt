@@ -15,7 +15,7 @@ use Rattle.positions.specs.Positions.{Position-asks}
 use Rattle.solver.specs.Placing.{separations-of, Place-asks, Placement-is}
 use Rattle.solver.specs.declared.Placement.{Placement}
 use Rattle.solver.proofs.Stored.{store-padded, taken-padded}
-use Rattle.spans.proofs.Best.{chosen}
+use Rattle.spans.proofs.Chosen.{chosen}
 
 -- a separation for each channel, a position for each strip
 levels-length : (g : Given) (i n : ℕ) → length (levels g i n) ≡ n

@@ -7,6 +7,6 @@ pub mod Total
 pub mod Order
 pub mod Separations
 pub mod Positions
-pub mod Best
+pub mod Chosen
 pub mod Jump
 pub mod TwoSpans

@@ -63,3 +63,10 @@ module _ (b : ℕ) (w : Span) (cs : List Level) (wide : Widening cs) where
             placed = k .placed;
             total = omega (arith, k .within, no-smaller-total (k .ts) y (k .ys) (k .placed));
           }
+
+-- with a channel every greater total is reached as well
+pub greater-total-reached : (b : ℕ) (w : Span) (c : Level) (cs : List Level) (v : ℕ) → Widening (c ∷ cs) → least-total b w (c ∷ cs) ≤ most (c ∷ cs) → least-total b w (c ∷ cs) ≤ v →
+    Exactly b w (c ∷ cs) v
+greater-total-reached b w c cs v wide h k =
+    let e : Exactly b w (c ∷ cs) (least-total b w (c ∷ cs)) = least-total-reached b w (c ∷ cs) wide h in
+    raise b w c cs v (e .x) wide (record { ts = e .ts; ys = e .ys; placed = e .placed; within = omega (arith, e .total) })

@@ -1,4 +1,4 @@
--- What the solver is held to: placements of a stack of windows and limits, and which of them is the answer. Assumes nothing: these are definitions.
+-- What the solver is held to: placements of a stack of windows and limits, and which of them is the one for a total. Assumes nothing: these are definitions.
 use mathlib.Core.Path.{_≡_}
 use mathlib.Core.Bool.{true}
 use mathlib.Core.List.{List, [], _∷_}
@@ -47,11 +47,4 @@ pub record Chosen (b : ℕ) (w : Span) (cs : List Level) (v : ℕ) (ts : List �
   pub is-placed : Placed b w cs ts x ys
   pub total : sum ts ≡ v
   pub first : (us : List ℕ) (y : ℕ) (zs : List ℕ) → Placed b w cs us y zs → sum us ≡ v → not-later ts us ≡ true
-  pub first-places : (y : ℕ) (zs : List ℕ) → Placed b w cs ts y zs → not-later (x ∷ ys) (y ∷ zs) ≡ true
-
--- THE ANSWER: the placement for the least total
-pub record Best (b : ℕ) (w : Span) (cs : List Level) (ts : List ℕ) (x : ℕ) (ys : List ℕ) : Type 0 where
-  pub is-placed : Placed b w cs ts x ys
-  pub least : (us : List ℕ) (y : ℕ) (zs : List ℕ) → Placed b w cs us y zs → sum ts ≤ sum us
-  pub first : (us : List ℕ) (y : ℕ) (zs : List ℕ) → Placed b w cs us y zs → sum us ≡ sum ts → not-later ts us ≡ true
   pub first-places : (y : ℕ) (zs : List ℕ) → Placed b w cs ts y zs → not-later (x ∷ ys) (y ∷ zs) ≡ true

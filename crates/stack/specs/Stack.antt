@@ -1,5 +1,6 @@
--- TRUSTED. Stacks of strips and channels; when a channel can be wired; legal placements, totals, the answer for a spread, a table's rows.
--- Document 01, "Strips, columns and tracks", "When a channel can be wired" and "Choosing among equals"; document 02, P2. Assumes nothing: these are definitions.
+-- TRUSTED. Stacks of strips and channels; when a channel can be wired; legal placements, the least total and the placement for a total, a table's rows.
+-- Document 01, "Strips, columns and tracks", "When a channel can be wired" and "Choosing among equals"; document 02, P2 and P3. Assumes nothing: these are
+-- definitions.
 use mathlib.Core.Path.{_≡_}
 use mathlib.Core.Bool.{Bool, true, false, _&&_, _||_, cond}
 use mathlib.Core.List.{List, [], _∷_}
@@ -102,7 +103,26 @@ not-later [] ys = true
 not-later (x ∷ xs) [] = false
 not-later (x ∷ xs) (y ∷ ys) = ltb x y || (eqb x y && not-later xs ys)
 
--- THE ANSWER for a spread: least total, then separations, then positions first in dictionary order
+-- a total that is MET in a spread: some legal placement has exactly it
+pub record Total-met (k : Stack) (s v : ℕ) : Type 0 where
+  pub separations : List ℕ
+  pub positions : List ℕ
+  pub is-legal : legal k s separations positions ≡ true
+  pub exact : sum separations ≡ v
+
+-- THE LEAST TOTAL in a spread
+pub record Least-total (k : Stack) (s v : ℕ) : Type 0 where
+  pub met : Total-met k s v
+  pub least : (us ys : List ℕ) → legal k s us ys ≡ true → v ≤ sum us
+
+-- THE PLACEMENT FOR A TOTAL: of the legal placements with exactly that total, separations and then positions first in dictionary order
+pub record Placement (k : Stack) (s v : ℕ) (ts xs : List ℕ) : Type 0 where
+  pub is-legal : legal k s ts xs ≡ true
+  pub exact : sum ts ≡ v
+  pub first : (us ys : List ℕ) → legal k s us ys ≡ true → sum us ≡ v → not-later ts us ≡ true
+  pub first-places : (ys : List ℕ) → legal k s ts ys ≡ true → not-later xs ys ≡ true
+
+-- THE ANSWER for a spread, both together: least total, then separations, then positions first in dictionary order
 pub record Answer (k : Stack) (s : ℕ) (ts xs : List ℕ) : Type 0 where
   pub is-legal : legal k s ts xs ≡ true
   pub least : (us ys : List ℕ) → legal k s us ys ≡ true → sum ts ≤ sum us

@@ -11,7 +11,7 @@ use Rattle.text.specs.Text.{Refusal, refusal, fine, or-else, Check, in-t
 use Rattle.text.specs.Outcome.{number-of, refusal-of, is-accepted}
 use Rattle.text.specs.Driver.{line-refusal}
 use Rattle.text.specs.declared.Refusal.{Refusal as Why}
-use Rattle.text.specs.declared.Refusal.the-variants.{Overlong, Layout, Crowd, Length, Overhang, Crossing, Narrow, ShortSpace, Broad}
+use Rattle.text.specs.declared.Refusal.the-variants.{Overlong, Layout, Crowd, Length, Overhang, Crossing, Narrow, ShortSpace, Broad, Unmet}
 use Rattle.text.specs.declared.Outcome.{Outcome}
 use Rattle.text.specs.declared.Outcome.the-variants.{Accepted, Refused}
 
@@ -76,6 +76,7 @@ word-number Crossing h = omega arith
 word-number Narrow h = omega arith
 word-number ShortSpace h = omega arith
 word-number Broad h = omega arith
+word-number Unmet h = omega arith
 
 pub refused-number : (o : Outcome) → is-accepted o ≡ false → refusal-of o .number ≡ 0 → ⊥
 unfolding refusal fine

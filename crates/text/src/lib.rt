@@ -53,6 +53,7 @@ pub enum Refusal {
     Narrow,
     ShortSpace,
     Broad,
+    Unmet,
 }
 
 impl Refusal {
@@ -69,6 +70,7 @@ impl Refusal {
             Refusal::Narrow => 7,
             Refusal::ShortSpace => 8,
             Refusal::Broad => 9,
+            Refusal::Unmet => 10,
         }
     }
 }
