@@ -1,21 +1,23 @@
--- The solver's answer is the answer of Stack.antt, whatever bias of at least s + 32 it is worked out with: there is one for every spread from the
--- longest strip upward, and only one. Assumes nothing.
-use mathlib.Core.Path.{_≡_, refl, sym, ap, _∙_}
+-- The solver's total is the least total of Stack.antt, and its separations and positions for a total are the placement, whatever bias of at least s + 32 they are
+-- worked out with: for every spread from the longest strip upward, and every total from the least one on. Assumes nothing.
+use mathlib.Core.Path.{_≡_, refl, ap, _∙_}
 use mathlib.Core.Bool.{true, _&&_}
 use mathlib.Core.List.{List, [], _∷_}
+use mathlib.Core.Logic.{_↔_}
 use Prim.Native.Nat.{ℕ, suc, _+_, _≤_}
 use native.Mathlib.Omega.{arith}
 use lib.ListN.{length}
+use borrow.Author.Tests.{leb-true}
 use Rattle.numbers.proofs.Bools.{ands, impossible}
-use Rattle.stack.specs.Stack.{Channel, Stack, stack, in-spread, channels-good, legal, sum, longest, not-later, Answer}
+use Rattle.stack.specs.Stack.{Channel, Stack, stack, in-spread, channels-good, legal, sum, longest, not-later, Total-met, Least-total, Placement, Answer}
 use Rattle.stack.specs.Limits.{channels-within, within-limits}
 use Rattle.spans.specs.Solver.{most, positions}
-use Rattle.spans.specs.Placed.{Placed, alone, under, Widening, Exactly, Best}
-use Rattle.spans.proofs.Total.{least-total-at-most, least-total-reached}
-use Rattle.spans.proofs.Best.{best, chosen}
-use Rattle.spans.proofs.Order.{not-later-both}
-use Rattle.answer.specs.Solve.{last-use, window, stack-levels, bottom, levels-of, total-with, separations-with, positions-with, answer-total, answer-separations, answer-positions}
+use Rattle.spans.specs.Placed.{Placed, alone, under, Widening, Exactly, Chosen}
+use Rattle.spans.proofs.Total.{no-smaller-total, least-total-at-most, least-total-reached, greater-total-reached}
+use Rattle.spans.proofs.Chosen.{chosen}
+use Rattle.answer.specs.Solve.{last-use, window, stack-levels, bottom, levels-of, total-with, separations-with, positions-with, answer-total, separations-for, positions-for, answer-separations, answer-positions}
 use Rattle.answer.proofs.Legal.{longest-bounds, in-window, legal-placed, placed-legal, stack-widening, channel-fits-open}
+use Rattle.answer.proofs.Alone.{legal-wide, total-alone, placement-alone, both-answer}
 
 -- every strip at 0 and every separation the last of use
 unfoldable pub lasts-of : List Channel → List ℕ
@@ -37,47 +39,47 @@ module _ (b s : ℕ) (wide : s + 32 ≤ b) where
       let n = longest-bounds u ls s k in
       under (in-window b s wide l 0 (omega arith)) (channel-fits-open b s wide c 0 0 (omega arith) (omega arith)) (some-placed u ls cs (search ands) (n .0) (n .1))
 
-  answer-from : (l : ℕ) (ls : List ℕ) (cs : List Channel) (ts : List ℕ) (x : ℕ) (xs : List ℕ) → channels-within (l ∷ ls) cs ≡ true →
-      Best b (window s l) (stack-levels b s ls cs) ts x xs → Answer (stack (l ∷ ls) cs) s ts (x ∷ xs)
-  unfolding legal stack in-spread
-  answer-from l ls cs ts x xs e best =
-      record {
-        is-legal = placed-legal b s wide l ls cs ts x xs e (best .is-placed);
-        least = λ us ys h. go-least us ys h;
-        first = λ us ys h k. go-first us ys h k;
-        first-places = λ ys h. go-places ys h;
-      }
-    where
-      placed : (us : List ℕ) (y : ℕ) (zs : List ℕ) → (in-spread s (l ∷ ls) (y ∷ zs) && channels-good cs us (y ∷ zs)) ≡ true → Placed b (window s l) (stack-levels b s ls cs) us y zs
-      placed us y zs h = legal-placed b s wide l ls cs us y zs e (search ands) (search ands)
+  -- a legal placement is one of the solver's
+  module _ (l : ℕ) (ls : List ℕ) (cs : List Channel) (e : channels-within (l ∷ ls) cs ≡ true) where
+    abbrev Of-solver : (ts : List ℕ) → (x : ℕ) → (xs : List ℕ) → Type 0
+    Of-solver ts x xs = Placed b (window s l) (stack-levels b s ls cs) ts x xs
 
-      go-least : (us ys : List ℕ) → (in-spread s (l ∷ ls) ys && channels-good cs us ys) ≡ true → sum ts ≤ sum us
-      go-least us [] h = impossible h
-      go-least us (y ∷ zs) h = best .least us y zs (placed us y zs h)
+    abbrev here : Stack
+    here = stack (l ∷ ls) cs
 
-      go-first : (us ys : List ℕ) → (in-spread s (l ∷ ls) ys && channels-good cs us ys) ≡ true → sum us ≡ sum ts → not-later ts us ≡ true
-      go-first us [] h k = impossible h
-      go-first us (y ∷ zs) h k = best .first us y zs (placed us y zs h) k
+    placed : (us : List ℕ) (y : ℕ) (zs : List ℕ) → (in-spread s (l ∷ ls) (y ∷ zs) && channels-good cs us (y ∷ zs)) ≡ true → Of-solver us y zs
+    placed us y zs h = legal-placed b s wide l ls cs us y zs e (search ands) (search ands)
 
-      go-places : (ys : List ℕ) → (in-spread s (l ∷ ls) ys && channels-good cs ts ys) ≡ true → not-later (x ∷ xs) ys ≡ true
-      go-places [] h = impossible h
-      go-places (y ∷ zs) h = best .first-places y zs (placed ts y zs h)
+    -- so is one with this total, and a bound of the solver's totals is one of all
+    met-from : (v : ℕ) → Exactly b (window s l) (stack-levels b s ls cs) v → Total-met here s v
+    unfolding legal stack
+    met-from v x =
+        record { separations = x .ts; positions = x .x ∷ x .ys; is-legal = placed-legal b s wide l ls cs (x .ts) (x .x) (x .ys) e (x .placed); exact = x .total }
 
-  answer-of : (ls : List ℕ) (cs : List Channel) → channels-within ls cs ≡ true → longest ls ≤ s →
-      Answer (stack ls cs) s (separations-with b (stack ls cs) s (total-with b (stack ls cs) s)) (positions-with b (stack ls cs) s (separations-with b (stack ls cs) s (total-with b (stack ls cs) s)))
-  unfolding channels-within separations-with total-with positions-with positions bottom levels-of stack
-  answer-of [] cs e h = impossible e
-  answer-of (l ∷ ls) cs e h =
-      let n = longest-bounds l ls s h in
-      answer-from l ls cs _ _ _ e
-      (best b (window s l) (stack-levels b s ls cs) (stack-widening b s wide l ls cs (n .0) (n .1) e) (lasts-of cs) 0 (zeros-of cs) (some-placed l ls cs e (n .0) (n .1)))
+    least-from : (v : ℕ) → ((us : List ℕ) (y : ℕ) (zs : List ℕ) → Of-solver us y zs → v ≤ sum us) → (us ys : List ℕ) → legal here s us ys ≡ true → v ≤ sum us
+    unfolding legal stack in-spread
+    least-from v least us [] h = impossible h
+    least-from v least us (y ∷ zs) h = least us y zs (placed us y zs h)
 
-  -- the answer with a bias of at least s + 32
-  pub answer-with : (k : Stack) → within-limits k ≡ true → longest (k .strips) ≤ s →
-      Answer k s (separations-with b k s (total-with b k s)) (positions-with b k s (separations-with b k s (total-with b k s)))
-  unfolding within-limits stack
-  answer-with k e h = answer-of (k .strips) (k .channels) (search ands) h
+    placement-from : (v : ℕ) (ts : List ℕ) (x : ℕ) (xs : List ℕ) → Chosen b (window s l) (stack-levels b s ls cs) v ts x xs → Placement here s v ts (x ∷ xs)
+    unfolding legal stack in-spread
+    placement-from v ts x xs c =
+        record {
+          is-legal = placed-legal b s wide l ls cs ts x xs e (c .is-placed);
+          exact = c .total;
+          first = λ us ys h k. go-first us ys h k;
+          first-places = λ ys h. go-places ys h;
+        }
+      where
+        go-first : (us ys : List ℕ) → (in-spread s (l ∷ ls) ys && channels-good cs us ys) ≡ true → sum us ≡ v → not-later ts us ≡ true
+        go-first us [] h k = impossible h
+        go-first us (y ∷ zs) h k = c .first us y zs (placed us y zs h) k
 
+        go-places : (ys : List ℕ) → (in-spread s (l ∷ ls) ys && channels-good cs ts ys) ≡ true → not-later (x ∷ xs) ys ≡ true
+        go-places [] h = impossible h
+        go-places (y ∷ zs) h = c .first-places y zs (placed ts y zs h)
+
+  -- strips and channels of a stack
   widening-of : (ls : List ℕ) (cs : List Channel) → channels-within ls cs ≡ true → longest ls ≤ s → Widening (levels-of b (stack ls cs) s)
   unfolding channels-within levels-of stack
   widening-of [] cs e h = impossible e
@@ -90,78 +92,91 @@ module _ (b s : ℕ) (wide : s + 32 ≤ b) where
       let n = longest-bounds l ls s h in
       least-total-at-most b (window s l) (stack-levels b s ls cs) (stack-widening b s wide l ls cs (n .0) (n .1) e) (lasts-of cs) 0 (zeros-of cs) (some-placed l ls cs e (n .0) (n .1))
 
-  exactly-of : (ls : List ℕ) (cs : List Channel) → channels-within ls cs ≡ true → longest ls ≤ s →
-      Exactly b (bottom (stack ls cs) s) (levels-of b (stack ls cs) s) (total-with b (stack ls cs) s)
+  -- with a channel every total from the least one on is that of some placement
+  exactly-of : (ls : List ℕ) (cs : List Channel) (v : ℕ) → channels-within ls cs ≡ true → longest ls ≤ s → 1 ≤ length cs → total-with b (stack ls cs) s ≤ v →
+      Exactly b (bottom (stack ls cs) s) (levels-of b (stack ls cs) s) v
+  unfolding channels-within total-with bottom levels-of stack stack-levels
+  exactly-of [] cs v e h c m = impossible e
+  exactly-of (l ∷ ls) [] v e h c m = absurd (omega arith)
+  exactly-of (l ∷ []) (d ∷ cs) v e h c m = impossible e
+  exactly-of (l ∷ u ∷ ls) (d ∷ cs) v e h c m =
+      greater-total-reached b (window s l) _ (stack-levels b s ls cs) v (widening-of (l ∷ u ∷ ls) (d ∷ cs) e h) (most-of (l ∷ u ∷ ls) (d ∷ cs) e h) m
+
+  least-of : (ls : List ℕ) (cs : List Channel) → channels-within ls cs ≡ true → longest ls ≤ s → Least-total (stack ls cs) s (total-with b (stack ls cs) s)
   unfolding channels-within total-with bottom levels-of stack
-  exactly-of [] cs e h = impossible e
-  exactly-of (l ∷ ls) cs e h =
-      let n = longest-bounds l ls s h in
-      let w = window s l in
-      let up = stack-levels b s ls cs in
-      let wide-levels = stack-widening b s wide l ls cs (n .0) (n .1) e in
-      least-total-reached b w up wide-levels (most-of (l ∷ ls) cs e h)
+  least-of [] cs e h = impossible e
+  least-of (l ∷ ls) cs e h =
+      record {
+        met = met-from l ls cs e _ (least-total-reached b (window s l) (stack-levels b s ls cs) (widening-of (l ∷ ls) cs e h) (most-of (l ∷ ls) cs e h));
+        least = least-from l ls cs e _ (λ us y zs p. no-smaller-total b (window s l) (stack-levels b s ls cs) (widening-of (l ∷ ls) cs e h) us y zs p);
+      }
 
-  -- the least total is one of use
-  pub total-most : (k : Stack) → within-limits k ≡ true → longest (k .strips) ≤ s → total-with b k s ≤ most (levels-of b k s)
-  unfolding within-limits stack
-  total-most k e h = most-of (k .strips) (k .channels) (search ands) h
+  placement-of : (ls : List ℕ) (cs : List Channel) (v : ℕ) → channels-within ls cs ≡ true → longest ls ≤ s → Exactly b (bottom (stack ls cs) s) (levels-of b (stack ls cs) s) v →
+      Placement (stack ls cs) s v (separations-with b (stack ls cs) s v) (positions-with b (stack ls cs) s (separations-with b (stack ls cs) s v))
+  unfolding channels-within separations-with positions-with positions bottom levels-of stack
+  placement-of [] cs v e h x = impossible e
+  placement-of (l ∷ ls) cs v e h x =
+      placement-from l ls cs e v _ _ _ (chosen b (window s l) (stack-levels b s ls cs) v (widening-of (l ∷ ls) cs e h) x)
 
-  pub widening-with : (k : Stack) → within-limits k ≡ true → longest (k .strips) ≤ s → Widening (levels-of b k s)
-  unfolding within-limits stack
-  widening-with k e h = widening-of (k .strips) (k .channels) (search ands) h
+  module _ (k : Stack) (e : within-limits k ≡ true) (h : longest (k .strips) ≤ s) where
+    -- the least total is one of use
+    pub total-most : total-with b k s ≤ most (levels-of b k s)
+    unfolding within-limits stack
+    total-most = most-of (k .strips) (k .channels) (search ands) h
 
-  -- some placement has the least total
-  pub exactly-with : (k : Stack) → within-limits k ≡ true → longest (k .strips) ≤ s → Exactly b (bottom k s) (levels-of b k s) (total-with b k s)
-  unfolding within-limits stack
-  exactly-with k e h = exactly-of (k .strips) (k .channels) (search ands) h
+    pub widening-with : Widening (levels-of b k s)
+    unfolding within-limits stack
+    widening-with = widening-of (k .strips) (k .channels) (search ands) h
 
-  -- the separations sum to the least total
-  pub sum-with : (k : Stack) → within-limits k ≡ true → longest (k .strips) ≤ s → sum (separations-with b k s (total-with b k s)) ≡ total-with b k s
-  unfolding separations-with
-  sum-with k e h = chosen b (bottom k s) (levels-of b k s) (total-with b k s) (widening-with k e h) (exactly-with k e h) .total
+    pub exactly-with : (v : ℕ) → total-with b k s ≤ v → Exactly b (bottom k s) (levels-of b k s) v
+    unfolding within-limits stack
+    exactly-with v m = exactly-of (k .strips) (k .channels) v (search ands) h (leb-true 1 (length (k .channels)) (search ands)) m
 
--- a placement's lengths
-good-length : (cs : List Channel) (ts xs : List ℕ) → channels-good cs ts xs ≡ true → length ts ≡ length cs
-unfolding channels-good
-good-length [] [] xs g = refl
-good-length [] (t ∷ ts) xs g = impossible g
-good-length (c ∷ cs) [] xs g = impossible g
-good-length (c ∷ cs) (t ∷ ts) [] g = impossible g
-good-length (c ∷ cs) (t ∷ ts) (x ∷ xs) g = ap suc (good-length cs ts xs (search ands))
+    -- THE LEAST TOTAL and THE PLACEMENT with a bias of at least s + 32
+    pub least-with : Least-total k s (total-with b k s)
+    unfolding within-limits stack
+    least-with = least-of (k .strips) (k .channels) (search ands) h
 
-spread-length : (s : ℕ) (ls xs : List ℕ) → in-spread s ls xs ≡ true → length xs ≡ length ls
-unfolding in-spread
-spread-length s [] [] i = refl
-spread-length s [] (x ∷ xs) i = impossible i
-spread-length s (l ∷ ls) [] i = impossible i
-spread-length s (l ∷ ls) (x ∷ xs) i = ap suc (spread-length s ls xs (search ands))
+    pub placement-with : (v : ℕ) → total-with b k s ≤ v → Placement k s v (separations-with b k s v) (positions-with b k s (separations-with b k s v))
+    unfolding within-limits stack
+    placement-with v m = placement-of (k .strips) (k .channels) v (search ands) h (exactly-with v m)
 
--- a legal placement has a separation for each channel and a position for each strip
-pub legal-lengths : (k : Stack) (s : ℕ) (ts xs : List ℕ) → legal k s ts xs ≡ true → (length ts ≡ length (k .channels)) × (length xs ≡ length (k .strips))
-unfolding legal
-legal-lengths k s ts xs e = (good-length (k .channels) ts xs (search ands), spread-length s (k .strips) xs (search ands))
+module _ (k : Stack) (s : ℕ) (e : within-limits k ≡ true) where
+  module _ (h : longest (k .strips) ≤ s) where
+    -- THE LEAST TOTAL, for every spread from the longest strip upward
+    pub least-there : Least-total k s (answer-total k s)
+    unfolding answer-total
+    least-there = least-with (s + 32) s (omega arith) k e h
 
--- AT MOST ONE ANSWER
-pub answer-alone : (k : Stack) (s : ℕ) (ts xs us ys : List ℕ) → Answer k s ts xs → Answer k s us ys → (ts ≡ us) × (xs ≡ ys)
-answer-alone k s ts xs us ys a b =
-    let m = legal-lengths k s ts xs (a .is-legal) in
-    let n = legal-lengths k s us ys (b .is-legal) in
-    let same : ts ≡ us =
-    not-later-both ts us (omega arith) (a .first us ys (b .is-legal) (omega (arith, a .least us ys (b .is-legal), b .least ts xs (a .is-legal))))
-    (b .first ts xs (a .is-legal) (omega (arith, a .least us ys (b .is-legal), b .least ts xs (a .is-legal)))) in
-    (same, not-later-both xs ys (omega arith) (a .first-places ys (rw (← same) at (b .is-legal))) (b .first-places xs (rw same at (a .is-legal))))
+    -- THE PLACEMENT, for every total from the least one on
+    pub placement-there : (v : ℕ) → answer-total k s ≤ v → Placement k s v (separations-for k s v) (positions-for k s v)
+    unfolding answer-total separations-for positions-for
+    placement-there v m = placement-with (s + 32) s (omega arith) k e h v m
 
--- THE ANSWER, for every spread from the longest strip upward
-pub answer-there : (k : Stack) (s : ℕ) → within-limits k ≡ true → longest (k .strips) ≤ s → Answer k s (answer-separations k s) (answer-positions k s)
-unfolding answer-separations answer-positions answer-total
-answer-there k s e h = answer-with (s + 32) s (omega arith) k e h
+    -- THE ANSWER
+    pub answer-there : Answer k s (answer-separations k s) (answer-positions k s)
+    answer-there = both-answer k s (answer-total k s) _ _ least-there (placement-there (answer-total k s) (omega arith))
 
-pub answer-sum : (k : Stack) (s : ℕ) → within-limits k ≡ true → longest (k .strips) ≤ s → sum (answer-separations k s) ≡ answer-total k s
-unfolding answer-separations answer-total
-answer-sum k s e h = sum-with (s + 32) s (omega arith) k e h
+    pub answer-sum : sum (answer-separations k s) ≡ answer-total k s
+    answer-sum = placement-there (answer-total k s) (omega arith) .exact
 
--- the least total is the same with every bias that serves
-pub total-any-bias : (b : ℕ) (k : Stack) (s : ℕ) → s + 32 ≤ b → within-limits k ≡ true → longest (k .strips) ≤ s → total-with b k s ≡ answer-total k s
-total-any-bias b k s w e h =
-    let one = answer-alone k s _ _ _ _ (answer-with b s w k e h) (answer-there k s e h) in
-    sym (sum-with b s w k e h) ∙ (ap sum (one .0) ∙ answer-sum k s e h)
+    -- they are the same with every bias that serves
+    module _ (b : ℕ) (w : s + 32 ≤ b) where
+      pub total-any-bias : total-with b k s ≡ answer-total k s
+      total-any-bias = total-alone k s _ _ (least-with b s w k e h) least-there
+
+      pub placement-any-bias : (v : ℕ) → answer-total k s ≤ v → (separations-with b k s v ≡ separations-for k s v) × (positions-with b k s (separations-with b k s v) ≡ positions-for k s v)
+      placement-any-bias v m = placement-alone k s v _ _ _ _ (placement-with b s w k e h v (omega (arith, total-any-bias))) (placement-there v m)
+
+  -- THE TOTALS THAT ARE MET are the least one and all above it
+  pub met-from-least : (v w : ℕ) → Least-total k s v → Total-met k s w ↔ (v ≤ w)
+  met-from-least v w l = (down, up)
+    where
+      down : Total-met k s w → v ≤ w
+      down m = omega (arith, l .least (m .separations) (m .positions) (m .is-legal), m .exact)
+
+      up : v ≤ w → Total-met k s w
+      up m =
+          let h = legal-wide k s (l .met .separations) (l .met .positions) (l .met .is-legal) in
+          let p = placement-there h w (omega (arith, total-alone k s _ _ l (least-there h))) in
+          record { separations = _; positions = _; is-legal = p .is-legal; exact = p .exact }

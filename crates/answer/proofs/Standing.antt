@@ -24,28 +24,36 @@ use Rattle.channel.proofs.Floors.{high-floored-bounded}
 use Rattle.channel.specs.declared.Limits.{Limits}
 use Rattle.spans.specs.Solver.{level, most, least-total}
 use Rattle.plan.specs.Plan.{Lasts-ask, Planned}
-use Rattle.scan.specs.Scan.{Scan-asks, Scan-is}
+use Rattle.scan.specs.Scan.{Scan-asks, Scan-is, Fill-asks}
 use Rattle.scan.specs.declared.Scan.{Scan}
+use Rattle.scan.proofs.Scans.{cleared-upto}
 use Rattle.solver.specs.declared.Placement.{Placement}
 use Rattle.arrays.proofs.Levels.{most-small}
 use Rattle.arrays.proofs.Levels.{above-at}
-use Rattle.arrays.specs.Arrays.{bias, entry, sides, lasts-in, sums-in, Given, given, low-of, high-of, last-of, window-of, limits-from, level-of, levels, Sized, Plan-is, Stack-asks}
+use Rattle.arrays.specs.Arrays.{bias, entry, sides, lasts-in, sums-in, Given, given, low-of, high-of, last-of, window-of, limits-from, level-of, levels, Sized, sums, Sums-are, Plan-is, Stack-asks, Filled}
 use Rattle.separations.specs.Separations.{Separate-asks}
 use Rattle.solver.specs.Placing.{separations-of, Place-asks, Placement-is}
-use Rattle.answer.specs.Solve.{last-use, window, channel-limits, stack-levels, bottom, levels-of, total-with, separations-with, positions-with, answer-separations}
-use Rattle.answer.specs.Arrays.{strip-in, Limits-in, Held, Windows-in, Answer-is}
+use Rattle.answer.specs.Solve.{last-use, window, channel-limits, stack-levels, bottom, levels-of, total-with, separations-with, positions-with, answer-total, separations-for}
+use Rattle.answer.specs.Arrays.{strip-in, Limits-sized, Limits-in, Held, Windows-in, Placed-is, Answer-is}
 use Rattle.answer.proofs.Legal.{longest-bounds, low-bounded}
-use Rattle.answer.proofs.Answers.{total-most, widening-with, exactly-with, answer-with, answer-alone, answer-there, total-any-bias}
+use Rattle.answer.proofs.Answers.{total-most, widening-with, exactly-with, total-any-bias, placement-any-bias}
 
 -- the arrays as they are at first
 abbrev no-limits : List ℕ
 no-limits = replicate separations-held 0
 
-pub limits-start : (k : Stack) → Limits-in k 0 (replicate channels-held (replicate 2 no-limits)) (replicate strips-held 0)
-limits-start k =
+pub limits-zero : Limits-sized (replicate channels-held (replicate 2 no-limits))
+limits-zero =
     record {
-      sized-limits = length-replicate channels-held (replicate 2 no-limits);
+      sized = length-replicate channels-held (replicate 2 no-limits);
       two = λ i h. rw (getD-replicate channels-held i (replicate 2 no-limits) [] h) (length-replicate 2 no-limits);
+    }
+
+pub limits-start : (k : Stack) (limits : List (List (List ℕ))) → Limits-sized limits → Limits-in k 0 limits (replicate strips-held 0)
+limits-start k limits z =
+    record {
+      sized-limits = z .sized;
+      two = z .two;
       sized-lasts = length-replicate {A = ℕ} strips-held 0;
       limits-are = λ i h. absurd (omega arith);
       lasts-are = λ i h. absurd (omega arith);
@@ -219,38 +227,48 @@ module _ (k : Stack) (s : ℕ) (g : Given) (st : Stands k s g) (fits : s < 42949
   unfolding total-with least-total
   scanned-total cap t r e i = i .total-is ∙ rw (e, bottom-is k s g st, levels-are k s g st)
 
-  pub place-asks : (total : ℕ) → total ≡ total-with bias k s → total < 4294967296 → Place-asks g n total
+  pub place-asks : (total : ℕ) → total-with bias k s ≤ total → total < 4294967296 → Place-asks g n total
   place-asks total e h =
       record {
         stack = asks;
         narrow = λ i j. omega (arith, window-small i j);
         widening = rw (levels-are k s g st) (widening-with bias s (omega arith) k (st .good) wide);
         fits = h;
-        exactly = rw (e, bottom-is k s g st, levels-are k s g st) (exactly-with bias s (omega arith) k (st .good) wide);
+        exactly = rw (bottom-is k s g st, levels-are k s g st) (exactly-with bias s (omega arith) k (st .good) wide total e);
       }
 
-  -- THE PLACEMENT IS THE ANSWER
-  pub placement-answers : (total : ℕ) (r : Placement) → total ≡ total-with bias k s → Placement-is g n total r → Answer-is k s r
+  pub least-is : total-with bias k s ≡ answer-total k s
+  least-is = total-any-bias k s (st .good) wide bias (omega arith)
+
+  -- THE PLACEMENT for a total from the least one on
+  pub placement-made : (total : ℕ) (r : Placement) → answer-total k s ≤ total → Placement-is g n total r → Placed-is k s total r
   unfolding separations-with positions-with
-  placement-answers total r e p =
-      let one = answer-alone k s _ _ _ _ (answer-with bias s (omega arith) k (st .good) wide) (answer-there k s (st .good) wide) in
-      let ts : separations-of g n total ≡ answer-separations k s = rw (e, bottom-is k s g st, levels-are k s g st) (one .0) in
+  placement-made total r e p =
+      let one = placement-any-bias k s (st .good) wide bias (omega arith) total e in
+      let ts : separations-of g n total ≡ separations-for k s total = rw (bottom-is k s g st, levels-are k s g st) (one .0) in
       record {
-        total-is = p .total-is ∙ (e ∙ total-any-bias bias k s (omega arith) (st .good) wide);
+        total-is = p .total-is;
         separations-are = p .separations-are ∙ ap (padded channels-held) ts;
-        positions-are = p .positions-are ∙ ap (padded strips-held) (rw (e, bottom-is k s g st, levels-are k s g st) (one .1));
+        positions-are = p .positions-are ∙ ap (padded strips-held) (rw (bottom-is k s g st, levels-are k s g st) (one .1));
       }
 
--- the table that a scan leaves serves for the total that it found
-scan-separate-asks : (g : Given) (k cap : ℕ) (t : List (List (List ℕ))) (r : Scan) → Stack-asks g k → Scan-is g k cap t r → r .total ≤ cap → cap < totals-held → Separate-asks g k (r .total) t
-scan-separate-asks g k cap t r a s h m =
+-- a table that is filled for all that the channels above the first can use of a total serves for that total
+separate-asks : (g : Given) (k total cap : ℕ) (t : List (List (List ℕ))) → Stack-asks g k → Filled g k cap 0 t → min total (most (levels g 1 (k - 1))) ≤ cap → total < 4294967296 →
+    Separate-asks g k total t
+separate-asks g k total cap t a f h m =
     record {
       stack = a;
-      cap = min (r .total) cap;
-      table = record { sized = s .table .sized; filled = λ j n v i e c l. s .table .filled j n v (omega arith) e c l };
-      enough = omega arith;
-      fits = omega arith;
+      cap = cap;
+      table = record { sized = f .sized; filled = λ j n v i e c l. f .filled j n v (omega arith) e c l };
+      enough = h;
+      fits = m;
     }
+
+-- the channels above the first use no more than all do
+above-less : (lasts r : List ℕ) (k : ℕ) → Sums-are lasts k 0 r → 1 ≤ k → entry r 1 ≤ entry r 0
+unfolding sums
+above-less lasts r zero s h = absurd (omega arith)
+above-less lasts r (suc n) s h = omega (arith, s .sums-are 0 (suc n) (omega arith) (omega arith), s .sums-are 1 n (omega arith) (omega arith))
 
 -- what the plan is made from, and what is held then
 module _ (k : Stack-struct) (limits : List (List (List ℕ))) (lasts : List ℕ) (e : within-limits (stack-of k) ≡ true) (l : Limits-in (stack-of k) (k .count) limits lasts) where
@@ -292,30 +310,67 @@ module _ (k : Stack-struct) (s : ℕ) (limits : List (List (List ℕ))) (plan wi
   pub held-scan-asks : (cap : ℕ) (t : List (List (List ℕ))) → cap ≤ entry (sums-in plan) 0 → Sized t → Scan-asks made (k .count) cap t
   held-scan-asks cap t h z = record { stack = held-asks; total = cap-small cap h; of-use = cap-used cap h; sized = z }
 
-  module _ (cap : ℕ) (t : List (List (List ℕ))) (r : Scan) (i : Scan-is made (k .count) cap t r) where
-    -- a least total that is found gives the answer
-    module _ (capped : cap ≤ entry (sums-in plan) 0) (found : r .total ≤ cap) (least : r .total ≡ total-with bias (stack-of k) s) where
-      pub held-place-asks : Place-asks made (k .count) (r .total) × Separate-asks made (k .count) (r .total) t
-      held-place-asks = (
-        rw (stack-channels k) at (place-asks (stack-of k) s made held-stands fits wide (r .total) least (omega (arith, cap-small cap capped))),
-        scan-separate-asks made (k .count) cap t r held-asks i found (cap-small cap capped),
-      )
+  -- a placement for a total from the least one on, with a table that is filled for what its channels can use
+  module _ (total cap : ℕ) (t : List (List (List ℕ))) (least : answer-total (stack-of k) s ≤ total) where
+    pub held-place-asks : total < 4294967296 → Filled made (k .count) cap 0 t → min total (most (levels made 1 (k .count - 1))) ≤ cap →
+        Place-asks made (k .count) total × Separate-asks made (k .count) total t
+    held-place-asks h f m = (
+      rw (stack-channels k) at (place-asks (stack-of k) s made held-stands fits wide total (omega (arith, least-is (stack-of k) s made held-stands fits wide)) h),
+      separate-asks made (k .count) total cap t held-asks f m h,
+    )
 
-      pub held-answers : (p : Placement) → Placement-is made (k .count) (r .total) p → Answer-is (stack-of k) s p
-      held-answers p q = placement-answers (stack-of k) s made held-stands fits wide (r .total) p least (rw (stack-channels k) q)
+    pub held-placed : (p : Placement) → Placement-is made (k .count) total p → Placed-is (stack-of k) s total p
+    held-placed p q = placement-made (stack-of k) s made held-stands fits wide total p least (rw (stack-channels k) q)
+
+  module _ (cap : ℕ) (t : List (List (List ℕ))) (r : Scan) (i : Scan-is made (k .count) cap t r) where
+    -- a least total that is found has its placement in the table
+    module _ (capped : cap ≤ entry (sums-in plan) 0) (found : r .total ≤ cap) (least : r .total ≡ answer-total (stack-of k) s) where
+      pub found-place-asks : Place-asks made (k .count) (r .total) × Separate-asks made (k .count) (r .total) t
+      found-place-asks =
+          held-place-asks (r .total) (min (r .total) cap) t (omega arith) (omega (arith, cap-small cap capped)) (i .table) (omega arith)
+
+      pub found-placed : (p : Placement) → Placement-is made (k .count) (r .total) p → Answer-is (stack-of k) s p
+      found-placed p q = rw (← least) (held-placed (r .total) cap t (omega arith) p q)
 
     -- a scan of all totals of use finds it
     module _ (whole : cap ≡ entry (sums-in plan) 0) where
       whole-total : r .total ≡ total-with bias (stack-of k) s
       whole-total = scanned-total (stack-of k) s made held-stands fits wide cap t r (rw (stack-channels k) (whole ∙ all-used)) (rw (stack-channels k) i)
 
+      pub whole-least : r .total ≡ answer-total (stack-of k) s
+      whole-least = whole-total ∙ least-is (stack-of k) s made held-stands fits wide
+
       pub whole-found : r .total ≤ cap
       whole-found =
           let m = total-most bias s (omega arith) (stack-of k) (held .good) wide in
           omega (arith, whole-total, all-used, ap most (rw (stack-channels k) at (levels-are (stack-of k) s made held-stands)))
 
-      pub whole-place-asks : Place-asks made (k .count) (r .total) × Separate-asks made (k .count) (r .total) t
-      whole-place-asks = held-place-asks (omega arith) whole-found whole-total
+      pub whole-small : r .total < 4294967296
+      whole-small = omega (arith, whole-found, cap-small cap (omega arith))
 
-      pub whole-answers : (p : Placement) → Placement-is made (k .count) (r .total) p → Answer-is (stack-of k) s p
-      whole-answers = held-answers (omega arith) whole-found whole-total
+      -- the table can be carried on, as far as the channels above the first can use a total
+      pub whole-fill-asks : (upto : ℕ) → upto ≤ entry (sums-in plan) 1 → Fill-asks made (k .count) (r .total) upto t
+      whole-fill-asks upto h =
+          let l = above-less (lasts-in plan) (sums-in plan) (k .count) (held .planned .mosts) (held-asks .some) in
+          let m : min (r .total) cap ≡ r .total = omega (arith, whole-found) in
+          record {
+            stack = held-asks;
+            first = omega (arith, whole-found, cap-small cap (omega arith));
+            total = omega (arith, cap-small cap (omega arith));
+            table = rw m at (i .table);
+            clear = cleared-upto windows (k .count) (r .total + 1) cap upto t (omega arith) (i .rest);
+          }
+
+      -- and then it serves for the greater of a stated total and the least one
+      module _ (total placed upto : ℕ) (t′ : List (List (List ℕ))) (e : placed ≡ max total (r .total)) (u : upto ≡ min placed (entry (sums-in plan) 1))
+          (f : Filled made (k .count) (max (r .total) upto) 0 t′) where
+        enough : answer-total (stack-of k) s ≤ placed
+        enough = omega (arith, whole-least)
+
+        pub whole-place-asks : total < 4294967296 → Place-asks made (k .count) placed × Separate-asks made (k .count) placed t′
+        whole-place-asks h =
+            held-place-asks placed (max (r .total) upto) t′ enough (omega (arith, whole-small)) f
+            (omega (arith, above-at made (k .count) (held .planned) 1 (k .count - 1) (omega (arith, held-asks .some))))
+
+        pub whole-placed : (p : Placement) → Placement-is made (k .count) placed p → Placed-is (stack-of k) s (max total (answer-total (stack-of k) s)) p
+        whole-placed p q = rw (← whole-least, ← e) (held-placed placed upto t′ enough p q)

@@ -2,7 +2,7 @@
 use mathlib.Core.Path.{_≡_}
 use mathlib.Core.Bool.{true}
 use mathlib.Core.List.{List, [], _∷_}
-use Prim.Native.Nat.{ℕ, _<_}
+use Prim.Native.Nat.{ℕ, suc, _<_}
 use lib.ListN.{length, getD}
 use Rattle.stack.specs.Value.{tracks-of, columns-of, stack-of}
 use Rattle.numbers.specs.Lists.{tabulate, padded}
@@ -12,11 +12,9 @@ use Rattle.stack.specs.declared.Stack.{Stack as Stack-struct}
 use Rattle.stack.specs.Sizes.{channels-held, strips-held, separations-held}
 use Rattle.spans.specs.Spans.{Span}
 use Rattle.channel.specs.Limits.{low-floored, high-floored}
-use Rattle.arrays.specs.Arrays.{bias, entry, row, sides, lasts-in, sums-in, given, Plan-is, Sized}
-use Rattle.scan.specs.Scan.{Scan-is}
+use Rattle.arrays.specs.Arrays.{bias, entry, row, sides, lasts-in, Plan-is}
 use Rattle.solver.specs.declared.Placement.{Placement}
 use Rattle.answer.specs.Solve.{last-use, window, answer-total, separations-for, positions-for}
-use Rattle.answer.specs.declared.Scanned.{Scanned}
 
 abbrev pub strip-in : Stack → (i : ℕ) → ℕ
 strip-in k i = getD (k .strips) i 0
@@ -48,18 +46,10 @@ pub record Windows-in (k : Stack) (n s : ℕ) (windows : List (List ℕ)) : Type
   pub sized : length windows ≡ strips-held
   pub windows-are : (i : ℕ) → i < n → row windows i ≡ window-ends (window s (strip-in k i))
 
--- the arrays as they are at first
-pub record Empty-arrays (limits : List (List (List ℕ))) (windows : List (List ℕ)) (t : List (List (List ℕ))) : Type 0 where
-  pub sized-limits : length limits ≡ channels-held
+-- an array that has a place for each channel's two rows
+pub record Limits-sized (limits : List (List (List ℕ))) : Type 0 where
+  pub sized : length limits ≡ channels-held
   pub two : (i : ℕ) → i < channels-held → length (sides limits i) ≡ 2
-  pub sized-windows : length windows ≡ strips-held
-  pub sized : Sized t
-
--- the arrays of a stack and a spread, and what the scan of all totals of use found
-pub record Scanned-in (k : Stack-struct) (s : ℕ) (limits : List (List (List ℕ))) (windows : List (List ℕ)) (t : List (List (List ℕ))) (r : Scanned) : Type 0 where
-  pub held : Held k limits (r .plan)
-  pub windows-in : Windows-in (stack-of k) (suc (k .count)) s windows
-  pub scanned : Scan-is (given limits (r .plan) windows) (k .count) (entry (sums-in (r .plan)) 0) t (r .scan)
 
 -- THE PLACEMENT for a total as the code gives it, with zeros in unused places
 pub record Placed-is (k : Stack) (s v : ℕ) (r : Placement) : Type 0 where

@@ -3,16 +3,17 @@ ghost use mathlib.Core.Path.{_≡_};
 ghost use mathlib.Core.Bool.{true};
 ghost use Prim.Native.Nat.{suc, _≤_, max};
 ghost use lib.Dec.{leb};
+ghost use lib.ListN.{length};
+ghost use Rattle.stack.specs.Sizes.{strips-held};
 ghost use Rattle.stack.specs.Limits.{within-limits};
 ghost use Rattle.stack.specs.Value.{stack-of};
 ghost use Rattle.stack.specs.Stack.{longest};
-ghost use Rattle.answer.specs.Arrays.{Limits-in, Windows-in, Empty-arrays, Scanned-in, Placed-is};
+ghost use Rattle.answer.specs.Arrays.{Limits-in, Windows-in, Limits-sized, Held, Placed-is};
 ghost use Rattle.answer.specs.Solve.{answer-total};
 use arrays::ABOVE;
 use arrays::HIGH;
 use arrays::LOW;
 use arrays::Plan;
-use arrays::SpanTable;
 use arrays::StackLimits;
 use arrays::Windows;
 use channel::channel_limits;
@@ -20,7 +21,6 @@ use numbers::difference;
 use numbers::greater;
 use numbers::lesser;
 use plan::plan_for;
-use scan::Scan;
 use scan::fill_totals;
 use scan::scan_totals;
 use solver::Placement;
@@ -75,31 +75,15 @@ pub fn fill_windows(stack: Stack, spread: u32, windows: &mut Windows)
     }
 }
 
-// The plan of a stack, and what the scan of its totals in a spread found.
-struct Scanned {
-    plan: Plan,
-    scan: Scan,
-}
-
-// Fills the arrays for a stack and a spread from the longest strip upward, and looks for its least total.
-fn scan_stack(
-    stack: Stack,
-    spread: u32,
-    limits: &mut StackLimits,
-    windows: &mut Windows,
-    table: &mut SpanTable,
-) -> Scanned
-    requires { ⌜ (within-limits (stack-of stack) ≡ true) × (longest (stack-of stack .strips) ≤ spread) × Empty-arrays (now limits) (now windows) (now table) ⌝ }
-    ensures { λ r. ⌜ Scanned-in stack spread (now (limits .exit)) (now (windows .exit)) (now (table .exit)) r ⌝ }
+// The limits of a stack's channels and the windows of its strips in a spread, in the solver's arrays; its plan.
+fn fill_arrays(stack: Stack, spread: u32, limits: &mut StackLimits, windows: &mut Windows) -> Plan
+    requires { ⌜ (within-limits (stack-of stack) ≡ true) × Limits-sized (now limits) × (length (now windows) ≡ strips-held) ⌝ }
+    ensures { λ r. ⌜ Held stack (now (limits .exit)) r × Windows-in (stack-of stack) (suc (stack .count)) spread (now (windows .exit)) ⌝ }
 {
-    let k = stack.count;
     let mut lasts = [0usize; Stack::STRIPS];
     fill_limits(stack, limits, &mut lasts);
-    let plan = plan_for(limits, lasts, k);
     fill_windows(stack, spread, windows);
-    let cap = plan[ABOVE][0];
-    let scan = scan_totals(limits, &plan, windows, k, cap, table);
-    Scanned { plan, scan }
+    plan_for(limits, lasts, stack.count)
 }
 
 // The least total in a spread from the longest strip upward.
@@ -111,8 +95,10 @@ pub fn total_in(stack: Stack, spread: u32) -> Tracks
     let mut limits = [[[0u64; Stack::SEPARATIONS]; 2]; Stack::MAX_CHANNELS];
     let mut windows = [[0u64; 2]; Stack::STRIPS];
     let mut table = [[[0u32; Stack::TOTALS]; 2]; Stack::STRIPS];
-    let scanned = scan_stack(stack, spread, &mut limits, &mut windows, &mut table);
-    Tracks(scanned.scan.total as u32)
+    let plan = fill_arrays(stack, spread, &mut limits, &mut windows);
+    let cap = plan[ABOVE][0];
+    let scan = scan_totals(&limits, &plan, &windows, stack.count, cap, &mut table);
+    Tracks(scan.total as u32)
 }
 
 // Whether a stated total is met where this is the least.
@@ -138,9 +124,10 @@ pub fn placement_in(stack: Stack, spread: u32, total: Tracks) -> StatedPlacement
     let mut limits = [[[0u64; Stack::SEPARATIONS]; 2]; Stack::MAX_CHANNELS];
     let mut windows = [[0u64; 2]; Stack::STRIPS];
     let mut table = [[[0u32; Stack::TOTALS]; 2]; Stack::STRIPS];
-    let scanned = scan_stack(stack, spread, &mut limits, &mut windows, &mut table);
-    let plan = scanned.plan;
-    let least = scanned.scan.total;
+    let plan = fill_arrays(stack, spread, &mut limits, &mut windows);
+    let cap = plan[ABOVE][0];
+    let scan = scan_totals(&limits, &plan, &windows, k, cap, &mut table);
+    let least = scan.total;
     let placed = greater(total.0 as u64, least as u64) as usize;
     let upto = lesser(placed as u64, plan[ABOVE][1] as u64) as usize;
     fill_totals(&limits, &plan, &windows, k, least, upto, &mut table);

@@ -3,3 +3,4 @@ pub mod Tables
 pub mod Scanning
 pub mod Clearing
 pub mod Scans
+pub mod Fills

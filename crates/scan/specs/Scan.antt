@@ -144,7 +144,7 @@ pub record Scan-is (g : Given) (k cap : ℕ) (t : List (List (List ℕ))) (r : S
   pub total-is : r .total ≡ first-total (back bias (window-of g 0) (levels g 0 k)) cap
   pub jump-some : 0 < r .jump
   pub jump-is : (j n u : ℕ) → j + suc n ≡ k → u < r .total → u ≤ most (levels g j (suc n)) → 0 < short-of g j n u → r .jump ≤ short-of g j n u
-  pub rest : Cleared (g .windows) k (suc (r .total)) cap t
+  pub rest : Cleared (g .windows) k (r .total + 1) cap t
 
 -- what the scan asks of one total
 pub record Total-asks (g : Given) (k v : ℕ) (es : List ℕ) (t : List (List (List ℕ))) (jump : ℕ) : Type 0 where
@@ -157,9 +157,10 @@ pub record Total-asks (g : Given) (k v : ℕ) (es : List ℕ) (t : List (List (L
 -- what carrying the table on asks: it is filled for the totals up to from, and cleared for those above it
 pub record Fill-asks (g : Given) (k from upto : ℕ) (t : List (List (List ℕ))) : Type 0 where
   pub stack : Stack-asks g k
+  pub first : from < totals-held
   pub total : upto < totals-held
   pub table : Filled g k from 0 t
-  pub clear : Cleared (g .windows) k (suc from) upto t
+  pub clear : Cleared (g .windows) k (from + 1) upto t
 
 -- what the scan asks: totals up to cap are of use and within the table
 pub record Scan-asks (g : Given) (k cap : ℕ) (t : List (List (List ℕ))) : Type 0 where
