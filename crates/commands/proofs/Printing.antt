@@ -24,7 +24,7 @@ use Rattle.text.proofs.Refusals.{refused-number, accepted-fine, or-else-fine}
 use Rattle.writing.specs.TableText.{row-text, table-text, refusal-text}
 use Rattle.writing.specs.Output.{over, fitted, written, line-bytes, Line-put, row-of, Row-asks}
 use Rattle.trial.specs.Legal.{is-legal}
-use Rattle.answer.proofs.Answers.{legal-lengths}
+use Rattle.answer.proofs.Alone.{legal-lengths}
 use Rattle.page.specs.Page.{channel-page}
 use Rattle.nabetsu.specs.Pages.{page-refusal, Paged, Page-says}
 use Rattle.nabetsu.specs.Entry.{spread-refusal, placed-is, Answered, Spread-says, table-told, Fits, Tabled, Table-says, Trial-says}

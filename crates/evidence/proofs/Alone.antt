@@ -15,7 +15,7 @@ use Rattle.stack.proofs.Within.{within-rising}
 use Rattle.routing.proofs.Drawable.{drawable-legal, legal-drawable}
 use Rattle.text.specs.Text.{Refusal, stack-in}
 use Rattle.text.proofs.Within.{accepted-within}
-use Rattle.answer.proofs.Answers.{answer-alone}
+use Rattle.answer.proofs.Alone.{answer-alone}
 use Rattle.rows.proofs.Rows.{rows-alone}
 use Rattle.writing.specs.TableText.{table-text}
 use Rattle.trial.specs.Legal.{is-legal}

@@ -16,7 +16,8 @@ use Rattle.text.specs.Text.{Refusal, refusal, fine, text-refusal, stack-in}
 use Rattle.text.proofs.Refusals.{or-else-fine, when-fine}
 use Rattle.text.proofs.Within.{accepted-within}
 use Rattle.answer.specs.Solve.{answer-separations, answer-positions}
-use Rattle.answer.proofs.Answers.{answer-there, answer-alone}
+use Rattle.answer.proofs.Alone.{answer-alone}
+use Rattle.answer.proofs.Answers.{answer-there}
 use Rattle.rows.specs.Walk.{rows-of}
 use Rattle.rows.proofs.Rows.{rows-are, rows-alone}
 use Rattle.writing.specs.TableText.{table-text}

@@ -14,7 +14,8 @@ use Rattle.stack.specs.Value.{tracks-of}
 use Rattle.numbers.proofs.Bools.{impossible}
 use Rattle.stack.specs.Stack.{Stack, in-spread, longest, sum, Answer}
 use Rattle.stack.specs.Limits.{rises-above, rising, all-rising}
-use Rattle.answer.proofs.Answers.{zeros-of, answer-alone}
+use Rattle.answer.proofs.Alone.{answer-alone}
+use Rattle.answer.proofs.Answers.{zeros-of}
 use Rattle.rows.proofs.Floored.{floors-of, all-covered, floors-answer}
 use Rattle.text.proofs.Within.{accepted-within}
 use Rattle.routing.proofs.Drawable.{legal-drawable}

@@ -3,6 +3,8 @@ pub mod Promises
 pub mod Space
 pub mod Readings
 pub mod Spreads
+pub mod Totals
+pub mod Placements
 pub mod Tables
 pub mod Pages
 pub mod Trials

@@ -1,4 +1,4 @@
--- The eighteen numbers of an answer place by place, and the laws of the entries for callers in other languages. Assumes nothing.
+-- The eighteen numbers of a placement place by place, and the laws of the entries for callers in other languages. Assumes nothing.
 use mathlib.Core.Path.{_≡_, refl, sym, ap, _∙_}
 use mathlib.Core.Bool.{Bool, true, false, cond}
 use mathlib.Core.List.{List, [], _∷_, _++_}
@@ -23,10 +23,10 @@ use Rattle.text.specs.declared.Outcome.{Outcome}
 use Rattle.text.specs.declared.Outcome.the-variants.{Accepted, Refused}
 use Rattle.text.specs.declared.Refusal.the-variants.{ShortSpace}
 use Rattle.text.proofs.Refusals.{refused-number, or-else-refused}
-use Rattle.nabetsu.specs.Entry.{numbers, numbers-in, zeros, code, verdict, is-legal-numbers, Spread-says, Trial-says, Numbers-put, Spread-coded}
-use Rattle.nabetsu.specs.Parts.{Refused-answer, Copied, Numbers-tried}
+use Rattle.nabetsu.specs.Entry.{numbers, numbers-in, zeros, code, verdict, is-legal-numbers, Placement-says, Trial-says, Numbers-put, Placement-coded}
+use Rattle.nabetsu.specs.Parts.{Refused-placement, Copied, Numbers-tried}
 use Rattle.nabetsu.proofs.Copies.{copied-starts, copied-steps, copied-ends}
-use Rattle.nabetsu.specs.declared.SpreadAnswer.{SpreadAnswer}
+use Rattle.nabetsu.specs.declared.PlacementAnswer.{PlacementAnswer}
 use Rattle.nabetsu.specs.declared.TrialAnswer.{TrialAnswer}
 
 front : (xs ys : List ℕ) (i : ℕ) → i < length xs → getD (xs ++ ys) i 0 ≡ getD xs i 0
@@ -84,7 +84,7 @@ short-fine o r e f = rw (e, f)
 pub short-refused : (o : Outcome) (r : Refused-struct) → o ≡ Refused r → refusal-of (Refused r) ≡ or-else (refusal-of o) (refusal 8 0 0)
 short-refused o r e = rw e (sym (or-else-refused (refusal-of (Refused r)) (refusal 8 0 0) (refused-number (Refused r) refl)))
 
--- a refused answer's numbers are zeros
+-- a refused placement's numbers are zeros
 unfoldable nothing : List ℕ
 nothing = replicate 18 0
 
@@ -92,21 +92,21 @@ none : (n : ℕ) → tabulate n 0 (λ i. getD nothing i 0) ≡ replicate n 0
 unfolding nothing
 none n = tabulate-same n 0 (λ i. getD nothing i 0) (λ i. 0) (λ i l m. zeros-at 18 i) ∙ tabulate-constant n 0 0
 
-refused-zeros : (n : ℕ) (o : Outcome) (a : SpreadAnswer) → Refused-answer o a → numbers-in n a ≡ replicate n 0
+refused-zeros : (n : ℕ) (o : Outcome) (a : PlacementAnswer) → Refused-placement o a → numbers-in n a ≡ replicate n 0
 unfolding numbers-in numbers nothing
 refused-zeros n o a h =
     let all : a .total .0 ∷ (tracks-of (a .separations) ++ columns-of (a .positions)) ≡ replicate 18 0 = rw (h .total-zero, h .separations-zero, h .positions-zero) in
     ap (λ (ns : List ℕ). tabulate n 0 (λ i. getD ns i 0)) all ∙ none n
 
-module _ (bs : List ℕ) (s : ℕ) (a : SpreadAnswer) (says : Spread-says bs s a) (o x : List ℕ) (r : ℕ) where
-  pub spread-short : (f : Outcome) (z : SpreadAnswer) → length o < 18 → refusal-of f ≡ or-else (refusal-of (a .outcome)) (refusal 8 0 0) → Refused-answer f z → x ≡ numbers-in (length o) z →
-      r ≡ code (refusal-of f) 0 → Spread-coded bs s r o x
+module _ (bs : List ℕ) (s v : ℕ) (a : PlacementAnswer) (says : Placement-says bs s v a) (o x : List ℕ) (r : ℕ) where
+  pub placement-short : (f : Outcome) (z : PlacementAnswer) → length o < 18 → refusal-of f ≡ or-else (refusal-of (a .outcome)) (refusal 8 0 0) → Refused-placement f z → x ≡ numbers-in (length o) z →
+      r ≡ code (refusal-of f) 0 → Placement-coded bs s v r o x
   unfolding Numbers-put zeros
-  spread-short f z h e i xs rs = record { answer = a; says = says; put = rw (lt-leb 18 (length o) h) (rs ∙ ap (λ (g : Refusal). code g 0) e, xs ∙ refused-zeros (length o) f z i) }
+  placement-short f z h e i xs rs = record { answer = a; says = says; put = rw (lt-leb 18 (length o) h) (rs ∙ ap (λ (g : Refusal). code g 0) e, xs ∙ refused-zeros (length o) f z i) }
 
-  pub spread-put : 18 ≤ length o → x ≡ numbers-in (length o) a → r ≡ code (refusal-of (a .outcome)) 0 → Spread-coded bs s r o x
+  pub placement-put : 18 ≤ length o → x ≡ numbers-in (length o) a → r ≡ code (refusal-of (a .outcome)) 0 → Placement-coded bs s v r o x
   unfolding Numbers-put
-  spread-put h xs rs = record { answer = a; says = says; put = rw (le-leb 18 (length o) h) (rs, xs) }
+  placement-put h xs rs = record { answer = a; says = says; put = rw (le-leb 18 (length o) h) (rs, xs) }
 
 -- THE TRIAL of numbers
 module _ (bs : List ℕ) (s : ℕ) (ns : List ℕ) (r : TrialAnswer) where

@@ -11,6 +11,7 @@ use Rattle.routing.proofs.Drawable.{drawable-legal, legal-drawable}
 use Rattle.text.specs.Text.{text-refusal, stack-in}
 use Rattle.text.proofs.Within.{accepted-within}
 use Rattle.answer.specs.Solve.{answer-separations, answer-positions}
+use Rattle.answer.proofs.Alone as alone
 use Rattle.answer.proofs.Answers as answers
 use Rattle.rows.specs.Walk.{rows-of}
 use Rattle.rows.proofs.Rows.{rows-are, rows-alone}
@@ -37,7 +38,7 @@ answer-there bs s e h = (answer-separations (stack-in bs) s, answer-positions (s
 
 pub answer-alone : Answer-alone
 unfolding Answer-alone
-answer-alone bs s ts xs us ys e a b = answers.answer-alone (stack-in bs) s ts xs us ys a b
+answer-alone bs s ts xs us ys e a b = alone.answer-alone (stack-in bs) s ts xs us ys a b
 
 pub rows-there : Rows-there
 unfolding Rows-there

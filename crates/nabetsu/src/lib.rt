@@ -77,8 +77,9 @@ pub fn least_total(text: &[u8], spread: u32) -> TotalAnswer
     ensures { λ r. ⌜ Total-best (now (text .entry)) spread r ⌝ }
 {
     let reading = read_stack(text);
+    let read = reading.outcome;
     let stack = reading.stack;
-    let outcome = spread_outcome(reading.outcome, stack, spread);
+    let outcome = spread_outcome(read, stack, spread);
     if !outcome.is_accepted() {
         return TotalAnswer {
             outcome,
@@ -95,8 +96,9 @@ pub fn place_total(text: &[u8], spread: u32, total: Tracks) -> PlacementAnswer
     ensures { λ r. ⌜ Placement-best (now (text .entry)) spread (total .0) r ⌝ }
 {
     let reading = read_stack(text);
+    let read = reading.outcome;
     let stack = reading.stack;
-    let outcome = spread_outcome(reading.outcome, stack, spread);
+    let outcome = spread_outcome(read, stack, spread);
     if !outcome.is_accepted() {
         return refused_placement(outcome);
     }

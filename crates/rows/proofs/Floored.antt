@@ -16,7 +16,8 @@ use Rattle.stack.specs.Limits.{channels-within, within-limits}
 use Rattle.stack.proofs.Feasible.{feasible-says}
 use Rattle.stack.proofs.Within.{strips-count}
 use Rattle.answer.proofs.Legal.{longest-bounds, placed-legal}
-use Rattle.answer.proofs.Answers.{lasts-of, zeros-of, some-placed, legal-lengths}
+use Rattle.answer.proofs.Alone.{legal-lengths}
+use Rattle.answer.proofs.Answers.{lasts-of, zeros-of, some-placed}
 
 -- the floors of channels, and whether their counts of pairs are within them
 unfoldable pub floors-of : List Channel → List ℕ

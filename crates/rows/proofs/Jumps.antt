@@ -126,7 +126,7 @@ module _ (k : Stack) (good : within-limits k ≡ true) where
   unfolding within-limits stack
   jump-stays b s d v wide h clear i =
       let a = answer-there k (s + d) good (omega arith) in
-      let same = total-any-bias b k s (omega arith) good h in
+      let same = total-any-bias k s good h b (omega arith) in
       omega (
         arith,
         total-never-rises s (s + d) h (omega arith),

@@ -12,7 +12,8 @@ use Rattle.numbers.proofs.Orders.{le-or-lt, lt-or-eq}
 use Rattle.stack.specs.Stack.{Stack, Row, row, sum, longest, legal, total, Answer, Stays, Stays-on, Rows-after, Rows-are}
 use Rattle.stack.specs.Limits.{within-limits}
 use Rattle.answer.specs.Solve.{answer-total}
-use Rattle.answer.proofs.Answers.{answer-there, answer-alone, answer-sum}
+use Rattle.answer.proofs.Alone.{answer-alone}
+use Rattle.answer.proofs.Answers.{answer-there, answer-sum}
 use Rattle.rows.specs.Walk.{row-at, rows-walk, widest, rows-of}
 use Rattle.rows.proofs.Settled.{legal-wider, settled}
 

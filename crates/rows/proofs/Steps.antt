@@ -51,7 +51,7 @@ module _ (k : Stack) (s : ℕ) (g : Given) (st : Stands k s g) (fits : s < 42949
 
   total-here : least-total bias (window-of g 0) (levels g 0 m) ≡ answer-total k s
   unfolding total-with
-  total-here = rw (bottom-is k s g st, levels-are k s g st) (total-any-bias bias k s (omega arith) (st .good) wide)
+  total-here = rw (bottom-is k s g st, levels-are k s g st) (total-any-bias k s (st .good) wide bias (omega arith))
 
   total-use : least-total bias (window-of g 0) (levels g 0 m) ≤ most (levels g 0 m)
   unfolding total-with

@@ -12,7 +12,8 @@ use Rattle.stack.proofs.Within.{stack-channels, strips-count, few-channels}
 use Rattle.solver.specs.declared.Placement.{Placement}
 use Rattle.answer.specs.Solve.{answer-separations, answer-positions}
 use Rattle.answer.specs.Arrays.{Answer-is}
-use Rattle.answer.proofs.Answers.{answer-there, answer-sum, legal-lengths}
+use Rattle.answer.proofs.Alone.{legal-lengths}
+use Rattle.answer.proofs.Answers.{answer-there, answer-sum}
 use Rattle.rows.specs.Walk.{row-at}
 use Rattle.writing.specs.Output.{row-of, Row-asks}
 

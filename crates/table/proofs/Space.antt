@@ -16,7 +16,7 @@ use Rattle.stack.specs.Stack.{Channel, no-channel, channel-in, Stack, Row, row,
 use Rattle.stack.specs.Limits.{pairs-within, channel-within, within-limits}
 use Rattle.stack.proofs.Within.{channel-in-limits, strips-count, channels-few}
 use Rattle.answer.specs.Solve.{last-use}
-use Rattle.answer.proofs.Answers.{legal-lengths}
+use Rattle.answer.proofs.Alone.{legal-lengths}
 use Rattle.rows.specs.Walk.{widest, rows-of}
 use Rattle.rows.proofs.Floored.{floors-of, floors-first}
 use Rattle.rows.proofs.Settled.{feasible-open, settled, widest-small, longest-widest}

@@ -8,7 +8,7 @@ use Prim.Native.Nat.{_-_}
 use native.Mathlib.Omega.{arith}
 use Rattle.stack.specs.Value.{stack-of}
 use Rattle.stack.proofs.Within.{few-channels}
-use Rattle.answer.proofs.Standing.{limits-start, filled-lasts, held-made}
+use Rattle.answer.proofs.Standing.{limits-zero, limits-start, filled-lasts, held-made}
 use Rattle.table.specs.Walking.{Stepping}
 use Rattle.table.proofs.Walks.{ended-past, ended-zero}
 use borrow.Author.Needs.{needs}
@@ -22,7 +22,7 @@ abbrev μ-loop : tie.MeasureT-loop
 μ-loop stack out₀ limits plan windows₀ table₀ widest w₀ out windows table w = widest - w .spread
 
 fill-limits-requires : tie.Need-fill-limits-requires Inv-loop μ-loop
-fill-limits-requires c κs = (c .before .before .before .pre, limits-start (stack-of (c .before .before .before .args .stack)))
+fill-limits-requires c κs = (c .before .before .before .pre, limits-start (stack-of (c .before .before .before .args .stack)) _ limits-zero)
 
 plan-for-requires : tie.Need-plan-for-requires Inv-loop μ-loop
 plan-for-requires c κs =
