@@ -1,21 +1,29 @@
--- The promises of Promise.antt, proved: an accepted text's stack is within the limits, so its channels rise, and drawable is legal. Assumes nothing.
-use mathlib.Core.Path.{_≡_}
+-- The promises of Promise.antt, proved: an accepted text's stack is within the limits, so its channels rise, and drawable is legal; total and placement together
+-- are the answer. Assumes nothing.
+use mathlib.Core.Path.{_≡_, refl, sym, ap, _∙_}
 use mathlib.Core.Bool.{true}
 use mathlib.Core.List.{List}
-use Prim.Native.Nat.{ℕ}
+use Prim.Native.Nat.{ℕ, zero, suc}
+use native.Mathlib.Omega.{arith}
 use borrow.Author.Tests.{eqb-true}
 use Rattle.numbers.proofs.Bools.{ands}
+use Rattle.stack.specs.Stack.{Stack, Least-total, sum}
 use Rattle.stack.specs.Limits.{all-rising, within-limits}
 use Rattle.stack.proofs.Within.{within-rising}
 use Rattle.routing.proofs.Drawable.{drawable-legal, legal-drawable}
-use Rattle.text.specs.Text.{text-refusal, stack-in}
+use Rattle.text.specs.Text.{Refusal, fine, text-refusal, stack-in}
+use Rattle.text.proofs.Refusals.{number-fine}
 use Rattle.text.proofs.Within.{accepted-within}
-use Rattle.answer.specs.Solve.{answer-separations, answer-positions}
+use Rattle.answer.specs.Solve.{answer-total, separations-for, positions-for, answer-separations, answer-positions}
 use Rattle.answer.proofs.Alone as alone
 use Rattle.answer.proofs.Answers as answers
 use Rattle.rows.specs.Walk.{rows-of}
 use Rattle.rows.proofs.Rows.{rows-are, rows-alone}
-use Rattle.nabetsu.specs.Promise.{accepted, Answer-drawable, None-smaller, Answer-there, Answer-alone, Rows-there}
+use Rattle.nabetsu.specs.Entry.{spread-refusal, total-told, Totalled, Total-says, Placed-for, placed, unmet, Placed-or, Placement-says}
+use Rattle.nabetsu.specs.Best.{Answered, Spread-says}
+use Rattle.nabetsu.specs.declared.PlacementAnswer.{PlacementAnswer}
+use Rattle.nabetsu.specs.declared.TotalAnswer.{TotalAnswer}
+use Rattle.nabetsu.specs.Promise.{accepted, Answer-drawable, None-smaller, Answer-there, Answer-alone, Total-there, Total-alone, Totals-met, Placement-there, Placement-alone, Placement-drawable, Answer-is-both, Both-together, Rows-there}
 
 pub stack-within : (bs : List ℕ) → accepted bs ≡ true → within-limits (stack-in bs) ≡ true
 unfolding accepted
@@ -39,6 +47,57 @@ answer-there bs s e h = (answer-separations (stack-in bs) s, answer-positions (s
 pub answer-alone : Answer-alone
 unfolding Answer-alone
 answer-alone bs s ts xs us ys e a b = alone.answer-alone (stack-in bs) s ts xs us ys a b
+
+pub total-there : Total-there
+unfolding Total-there
+total-there bs s e h = (answer-total (stack-in bs) s, answers.least-there (stack-in bs) s (stack-within bs e) h)
+
+pub total-alone : Total-alone
+unfolding Total-alone
+total-alone bs s v w e a b = alone.total-alone (stack-in bs) s v w a b
+
+pub totals-met : Totals-met
+unfolding Totals-met
+totals-met bs s v w e l = answers.met-from-least (stack-in bs) s (stack-within bs e) v w l
+
+pub placement-there : Placement-there
+unfolding Placement-there
+placement-there bs s v e m =
+    let k = stack-in bs in
+    let h = alone.legal-wide k s (m .separations) (m .positions) (m .is-legal) in
+    let l = answers.least-there k s (stack-within bs e) h .least (m .separations) (m .positions) (m .is-legal) in
+    (separations-for k s v, positions-for k s v, answers.placement-there k s (stack-within bs e) h v (omega (arith, m .exact)))
+
+pub placement-alone : Placement-alone
+unfolding Placement-alone
+placement-alone bs s v ts xs us ys e a b = alone.placement-alone (stack-in bs) s v ts xs us ys a b
+
+pub placement-drawable : Placement-drawable
+unfolding Placement-drawable
+placement-drawable bs s v ts xs e a = legal-drawable (stack-in bs) s ts xs (stack-rises bs e) (a .is-legal)
+
+pub answer-is-both : Answer-is-both
+unfolding Answer-is-both
+answer-is-both bs s ts xs =
+    let k = stack-in bs in
+    ((λ a. (alone.answer-total-is k s ts xs a, alone.answer-placed k s (sum ts) ts xs a refl)), (λ b. alone.both-answer k s (sum ts) ts xs (b .0) (b .1)))
+
+-- the placement for the total returned is the answer
+both-placed : (k : Stack) (s v : ℕ) (r : PlacementAnswer) → Least-total k s v → Placed-for k s v r → Answered 0 fine k s r
+unfolding Answered
+both-placed k s v r l (placed ts xs a p) = (ts, xs, alone.both-answer k s v ts xs l a, rw (a .exact) p)
+both-placed k s v r l (unmet n p) = absurd (n (l .met))
+
+both-of : (n : ℕ) (f : Refusal) (k : Stack) (s : ℕ) (t : TotalAnswer) (r : PlacementAnswer) → f .number ≡ n → Totalled n f k s t → Placed-or n f k s (t .total .0) r → Answered n f k s r
+unfolding Totalled total-told Placed-or Answered
+both-of zero f k s t r e a b =
+    let g : f ≡ fine = sym (a .2 .0) ∙ number-fine (t .outcome) (ap (λ (x : Refusal). x .number) (a .2 .0) ∙ e) in
+    rw g (both-placed k s (t .total .0) r (rw (a .2 .1) (a .1)) b)
+both-of (suc n) f k s t r e a b = b
+
+pub both-together : Both-together
+unfolding Both-together Total-says Placement-says Spread-says
+both-together bs s t r a b = both-of (spread-refusal bs s .number) (spread-refusal bs s) (stack-in bs) s t r refl a b
 
 pub rows-there : Rows-there
 unfolding Rows-there
