@@ -11,9 +11,9 @@ use Rattle.numbers.proofs.Lists.{map-set, filled-steps}
 use Rattle.lines.specs.Lines.{all-digits, value, same-bytes}
 use Rattle.lines.specs.Numbers.{Digits-read}
 use Rattle.lines.specs.declared.DigitsRead.{DigitsRead}
-use Rattle.commands.specs.Words.{is-number, number-in, Number-read, help-word, short-help, long-help, version-option, trial-word, spread-word, page-word, is-help, if-named, command-alone, command-in}
+use Rattle.commands.specs.Words.{is-number, number-in, Number-read, help-word, short-help, long-help, version-option, trial-word, total-word, place-word, spread-word, page-word, is-help, if-named, either-named, command-alone, command-in}
 use Rattle.commands.specs.declared.Command.{Command}
-use Rattle.commands.specs.declared.Command.the-variants.{Table, Spread, Page, Trial, Help, Version, Wrong}
+use Rattle.commands.specs.declared.Command.the-variants.{Table, Total, Place, Spread, Page, Trial, Help, Version, Wrong}
 
 -- NUMBERS
 none : (xs : List ℕ) → is-number xs ≡ false → Number-read xs (record { good = false; value = 0 })
@@ -78,6 +78,15 @@ module _ (w name : List ℕ) (c : Command) (a : Bool) (same : a ≡ same-bytes w
   unfolding if-named
   unnamed h = rw (sym same ∙ h)
 
+module _ (w name : List ℕ) (c : Command) (other-name : List ℕ) (d : Command) (a : Bool) (same : a ≡ same-bytes w name) where
+  pub first-named : a ≡ true → c ≡ either-named w name c other-name d
+  unfolding either-named
+  first-named h = rw (sym same ∙ h)
+
+  pub other-named : a ≡ false → if-named w other-name d ≡ either-named w name c other-name d
+  unfolding either-named
+  other-named h = rw (sym same ∙ h)
+
 module _ (w : List ℕ) (a : Bool) (help : a ≡ is-help w) where
   pub alone-help : a ≡ true → Help ≡ command-alone w
   unfolding command-alone
@@ -103,11 +112,11 @@ module _ (w : List ℕ) (n : ℕ) where
       trial-there h = rw (ne-eqb n 0 some, ne-eqb n 1 more, sym same ∙ h)
 
       module _ (h : b ≡ false) where
-        pub two-words : n ≡ 2 → if-named w spread-word Spread ≡ command-in w n
+        pub two-words : n ≡ 2 → either-named w total-word Total spread-word Spread ≡ command-in w n
         unfolding command-in
         two-words e = rw (ne-eqb n 0 some, ne-eqb n 1 more, sym same ∙ h, eq-eqb n 2 e)
 
-        pub three-words : (n ≡ 2 → ⊥) → n ≡ 3 → if-named w page-word Page ≡ command-in w n
+        pub three-words : (n ≡ 2 → ⊥) → n ≡ 3 → either-named w place-word Place page-word Page ≡ command-in w n
         unfolding command-in
         three-words two e = rw (ne-eqb n 0 some, ne-eqb n 1 more, sym same ∙ h, ne-eqb n 2 two, eq-eqb n 3 e)
 

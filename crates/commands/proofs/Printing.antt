@@ -1,5 +1,5 @@
 -- The laws of what is printed, and of the status that goes with it: a line put is printed where there is space for it, a refusal stands for any text, and then
--- the table, the page, the row and the verdict, each where it is accepted and where it is refused. Assumes nothing.
+-- the table, the page, the total, the row and the verdict, each where it is accepted and where it is refused. Assumes nothing.
 use mathlib.Core.Path.{_≡_, refl, sym, ap, _∙_}
 use mathlib.Core.Bool.{Bool, true, false}
 use mathlib.Core.List.{List, [], _++_}
@@ -21,17 +21,21 @@ use Rattle.text.specs.declared.Outcome.{Outcome}
 use Rattle.text.specs.declared.Outcome.the-variants.{Accepted, Refused}
 use Rattle.text.specs.declared.Reading.{Reading}
 use Rattle.text.proofs.Refusals.{refused-number, accepted-fine, or-else-fine}
-use Rattle.writing.specs.TableText.{row-text, table-text, refusal-text}
+use Rattle.writing.specs.TableText.{row-text, table-text, total-text, refusal-text}
 use Rattle.writing.specs.Output.{over, fitted, written, line-bytes, Line-put, row-of, Row-asks}
 use Rattle.trial.specs.Legal.{is-legal}
 use Rattle.answer.proofs.Alone.{legal-lengths}
 use Rattle.page.specs.Page.{channel-page}
 use Rattle.nabetsu.specs.Pages.{page-refusal, Paged, Page-says}
-use Rattle.nabetsu.specs.Entry.{spread-refusal, placed-is, Answered, Spread-says, table-told, Fits, Tabled, Table-says, Trial-says}
-use Rattle.nabetsu.specs.declared.SpreadAnswer.{SpreadAnswer}
+use Rattle.nabetsu.specs.Entry.{spread-refusal, total-told, Totalled, Total-says, placed-is, Placed-for, placed, unmet, Placed-or, Placement-says, table-told, Fits, Tabled, Table-says, Trial-says}
+use Rattle.nabetsu.specs.Best.{Answered, Spread-says}
+use Rattle.nabetsu.specs.Promise.{Both-together}
+use Rattle.nabetsu.proofs.Promises.{both-together}
+use Rattle.nabetsu.specs.declared.PlacementAnswer.{PlacementAnswer}
+use Rattle.nabetsu.specs.declared.TotalAnswer.{TotalAnswer}
 use Rattle.nabetsu.specs.declared.TableAnswer.{TableAnswer}
 use Rattle.nabetsu.specs.declared.TrialAnswer.{TrialAnswer}
-use Rattle.commands.specs.Output.{Printed, unless-refused, status-of, Replied, channels, Table-printed, Spread-printed, Page-printed, separations-in, positions-in, verdict-text, trial-text, trial-status}
+use Rattle.commands.specs.Output.{Printed, unless-refused, status-of, Replied, channels, Table-printed, Total-printed, Placement-printed, Spread-printed, Page-printed, separations-in, positions-in, verdict-text, trial-text, trial-status}
 use Rattle.commands.specs.declared.Reply.{Reply}
 
 -- what is printed is as long as the part of the output that is written
@@ -183,45 +187,82 @@ module _ (bs : List ℕ) (s n : ℕ) (a : TableAnswer) (o x : List ℕ) where
 pub count-is : (bs : List ℕ) (g : Reading) → Stack-read bs g → text-refusal bs .number ≡ 0 → g .stack .count ≡ channels bs
 count-is bs g d z = sym (stack-channels (g .stack)) ∙ ap (λ (k : Stack). length (k .channels)) (d .stack z)
 
--- ONE SPREAD
-module _ (bs : List ℕ) (s : ℕ) (a : SpreadAnswer) (says : Spread-says bs s a) where
-  outcome-from : (m : ℕ) → Answered m (spread-refusal bs s) (stack-in bs) s a → refusal-of (a .outcome) ≡ spread-refusal bs s
+-- THE LEAST TOTAL
+module _ (bs : List ℕ) (s : ℕ) (a : TotalAnswer) (says : Total-says bs s a) (out : List ℕ) (r : Reply) where
+  total-from : (m : ℕ) → Totalled m (spread-refusal bs s) (stack-in bs) s a → refusal-of (a .outcome) ≡ spread-refusal bs s
+  unfolding Totalled total-told
+  total-from zero t = t .2 .0
+  total-from (suc m) t = t .0
+
+  total-outcome : refusal-of (a .outcome) ≡ spread-refusal bs s
+  unfolding Total-says
+  total-outcome = total-from (spread-refusal bs s .number) says
+
+  pub total-refused : is-accepted (a .outcome) ≡ false → Replied (refusal-of (a .outcome)) [] out r → Total-printed bs s out r
+  total-refused h p =
+      record { answer = a; says = says; printed = rw (← total-outcome) (refused-any (refusal-of (a .outcome)) _ out r [] (refused-number (a .outcome) h) p) }
+
+  pub total-accepted : is-accepted (a .outcome) ≡ true → Printed (total-text (a .total .0)) 0 out r → Total-printed bs s out r
+  total-accepted h p =
+      record { answer = a; says = says; printed = rw (← total-outcome) (accepted-replied (refusal-of (a .outcome)) _ out r (accepted-number (a .outcome) h) p) }
+
+-- THE PLACEMENT FOR A TOTAL
+module _ (bs : List ℕ) (s v : ℕ) (a : PlacementAnswer) (says : Placement-says bs s v a) where
+  pub placement-refused : (out : List ℕ) (r : Reply) → is-accepted (a .outcome) ≡ false → Replied (refusal-of (a .outcome)) [] out r → Placement-printed bs s v out r
+  placement-refused out r h p =
+      record { answer = a; says = says; printed = refused-any (refusal-of (a .outcome)) _ out r [] (refused-number (a .outcome) h) p }
+
+  module _ (g : Reading) (d : Stack-read bs g) (accepted : is-accepted (a .outcome) ≡ true) where
+    -- nothing is refused
+    abbrev In-row : Type 0
+    In-row = (text-refusal bs .number ≡ 0) × (v ≡ sum (take (channels bs) (tracks-of (a .separations))))
+
+    number-zero : (f : Refusal) → refusal-of (a .outcome) ≡ f → f .number ≡ 0
+    number-zero f e = sym (ap (λ (x : Refusal). x .number) e) ∙ accepted-number (a .outcome) accepted
+
+    placed-row : text-refusal bs .number ≡ 0 → Placed-for (stack-in bs) s v a → In-row
+    unfolding placed-is padded refusal
+    placed-row z (placed ts xs t p) =
+        let l : length ts ≡ channels bs = legal-lengths (stack-in bs) s ts xs (t .is-legal) .0 in
+        (z, sym (t .exact) ∙ rw (p .2, take-at ts (replicate (8 - length ts) 0) (channels bs) l))
+    placed-row z (unmet n p) = absurd (omega (arith, number-zero (refusal 10 0 0) (p .0)))
+
+    by-placement : (m : ℕ) → spread-refusal bs s .number ≡ m → Placed-or m (spread-refusal bs s) (stack-in bs) s v a → In-row
+    unfolding Placed-or placed-is spread-refusal
+    by-placement zero e t = placed-row (or-else-fine (text-refusal bs) _ e .0) t
+    by-placement (suc m) e t = absurd (omega (arith, number-zero (spread-refusal bs s) (t .0)))
+
+    in-row : In-row
+    unfolding Placement-says
+    in-row = by-placement (spread-refusal bs s .number) refl says
+
+    count : g .stack .count ≡ channels bs
+    count = count-is bs g d (in-row .0)
+
+    pub row-asked : Row-asks (g .stack .count) v (a .separations)
+    row-asked = record { channels = few-channels (g .stack) (d .within); added = rw count (in-row .1) }
+
+    pub placement-accepted : (out : List ℕ) (r : Reply) → Printed (row-text (row-of (g .stack .count) s (a .separations) (a .positions))) 0 out r → Placement-printed bs s v out r
+    placement-accepted out r p =
+        record { answer = a; says = says; printed = accepted-replied (refusal-of (a .outcome)) _ out r (accepted-number (a .outcome) accepted) (rw count at p) }
+
+-- ONE SPREAD: both together
+module _ (bs : List ℕ) (s : ℕ) (t : TotalAnswer) (says : Total-says bs s t) (out : List ℕ) (r : Reply) (p : Placement-printed bs s (t .total .0) out r) where
+  both : Spread-says bs s (p .answer)
+  unfolding Both-together
+  both = both-together bs s t (p .answer) says (p .says)
+
+  outcome-from : (m : ℕ) → Answered m (spread-refusal bs s) (stack-in bs) s (p .answer) → refusal-of (p .answer .outcome) ≡ spread-refusal bs s
   unfolding Answered placed-is
   outcome-from zero t = t .3 .0
   outcome-from (suc m) t = t .0
 
-  outcome-is : refusal-of (a .outcome) ≡ spread-refusal bs s
+  outcome-is : refusal-of (p .answer .outcome) ≡ spread-refusal bs s
   unfolding Spread-says
-  outcome-is = outcome-from (spread-refusal bs s .number) says
+  outcome-is = outcome-from (spread-refusal bs s .number) both
 
-  pub spread-refused : (out : List ℕ) (r : Reply) → is-accepted (a .outcome) ≡ false → Replied (refusal-of (a .outcome)) [] out r → Spread-printed bs s out r
-  spread-refused out r h p =
-      record { answer = a; says = says; printed = rw (← outcome-is) (refused-any (refusal-of (a .outcome)) _ out r [] (refused-number (a .outcome) h) p) }
-
-module _ (bs : List ℕ) (s : ℕ) (a : SpreadAnswer) (says : Spread-says bs s a) (g : Reading) (d : Stack-read bs g) (accepted : is-accepted (a .outcome) ≡ true) where
-  by-answer : (m : ℕ) → spread-refusal bs s .number ≡ m → Answered m (spread-refusal bs s) (stack-in bs) s a →
-      (text-refusal bs .number ≡ 0) × (a .total .0 ≡ sum (take (channels bs) (tracks-of (a .separations))))
-  unfolding Answered placed-is padded spread-refusal
-  by-answer zero e t =
-      let l : length (t .0) ≡ channels bs = legal-lengths (stack-in bs) s (t .0) (t .1) (t .2 .is-legal) .0 in
-      (or-else-fine (text-refusal bs) _ e .0, t .3 .1 ∙ rw (t .3 .2, take-at (t .0) (replicate (8 - length (t .0)) 0) (channels bs) l))
-  by-answer (suc m) e t =
-      let q : _≡_ {A = ℕ} (suc m) 0 = sym e ∙ (sym (ap (λ (f : Refusal). f .number) (t .0)) ∙ accepted-number (a .outcome) accepted) in absurd (omega arith)
-
-  answered : (text-refusal bs .number ≡ 0) × (a .total .0 ≡ sum (take (channels bs) (tracks-of (a .separations))))
-  unfolding Spread-says
-  answered = by-answer (spread-refusal bs s .number) refl says
-
-  count : g .stack .count ≡ channels bs
-  count = count-is bs g d (answered .0)
-
-  pub row-asked : Row-asks (g .stack .count) (a .total .0) (a .separations)
-  row-asked = record { channels = few-channels (g .stack) (d .within); added = rw count (answered .1) }
-
-  pub spread-accepted : (out : List ℕ) (r : Reply) → Printed (row-text (row-of (g .stack .count) s (a .separations) (a .positions))) 0 out r → Spread-printed bs s out r
-  spread-accepted out r p =
-      let none : spread-refusal bs s .number ≡ 0 = sym (ap (λ (f : Refusal). f .number) (outcome-is bs s a says)) ∙ accepted-number (a .outcome) accepted in
-      record { answer = a; says = says; printed = accepted-replied (spread-refusal bs s) _ out r none (rw count at p) }
+  pub spread-printed : Spread-printed bs s out r
+  spread-printed = record { answer = p .answer; says = both; printed = rw (← outcome-is) (p .printed) }
 
 -- A TRIAL
 module _ (bs : List ℕ) (g : Reading) (d : Stack-read bs g) (n : ℕ) (vs out : List ℕ) where

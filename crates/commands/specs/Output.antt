@@ -1,4 +1,4 @@
--- What is printed, a table, a row, a page or a verdict, or the line of a refusal, and the exit status that goes with it. Assumes nothing: these are definitions.
+-- What is printed, a table, a total, a row, a page or a verdict, or the line of a refusal, and the exit status that goes with it. Assumes nothing: these are definitions.
 use mathlib.Core.Path.{_≡_}
 use mathlib.Core.Bool.{Bool, cond}
 use mathlib.Core.List.{List, [], _∷_}
@@ -8,13 +8,16 @@ use lib.ListN.{length, getD, take}
 use Rattle.numbers.specs.Lists.{filled}
 use Rattle.stack.specs.Stack.{Row, Rows-are, Answer}
 use Rattle.text.specs.Text.{Refusal, text-refusal, stack-in}
-use Rattle.writing.specs.TableText.{row-text, table-text, refusal-text}
+use Rattle.text.specs.Outcome.{refusal-of}
+use Rattle.writing.specs.TableText.{row-text, table-text, total-text, refusal-text}
 use Rattle.writing.specs.Output.{row-of}
 use Rattle.trial.specs.Legal.{is-legal}
 use Rattle.page.specs.Page.{channel-page}
-use Rattle.nabetsu.specs.Entry.{spread-refusal, Spread-says}
+use Rattle.nabetsu.specs.Entry.{spread-refusal, Total-says, Placement-says}
+use Rattle.nabetsu.specs.Best.{Spread-says}
 use Rattle.nabetsu.specs.Pages.{page-refusal}
-use Rattle.nabetsu.specs.declared.SpreadAnswer.{SpreadAnswer}
+use Rattle.nabetsu.specs.declared.PlacementAnswer.{PlacementAnswer}
+use Rattle.nabetsu.specs.declared.TotalAnswer.{TotalAnswer}
 use Rattle.commands.specs.declared.Reply.{Reply}
 
 -- a text is the first bytes of an output, and a status goes with it
@@ -45,9 +48,21 @@ pub record Table-printed (bs output : List ℕ) (r : Reply) : Type 0 where
   pub rows-are : text-refusal bs .number ≡ 0 → Rows-are (stack-in bs) rows
   pub printed : Replied (text-refusal bs) (table-text (channels bs) rows) output r
 
--- ONE SPREAD: 1 to 7, else the answer's row
+-- THE LEAST TOTAL: 1 to 7, else its digits
+pub record Total-printed (bs : List ℕ) (s : ℕ) (output : List ℕ) (r : Reply) : Type 0 where
+  pub answer : TotalAnswer
+  pub says : Total-says bs s answer
+  pub printed : Replied (spread-refusal bs s) (total-text (answer .total .0)) output r
+
+-- THE PLACEMENT FOR A TOTAL: 1 to 7 and 10, else its row
+pub record Placement-printed (bs : List ℕ) (s v : ℕ) (output : List ℕ) (r : Reply) : Type 0 where
+  pub answer : PlacementAnswer
+  pub says : Placement-says bs s v answer
+  pub printed : Replied (refusal-of (answer .outcome)) (row-text (row-of (channels bs) s (answer .separations) (answer .positions))) output r
+
+-- ONE SPREAD: 1 to 7, else the row of both together
 pub record Spread-printed (bs : List ℕ) (s : ℕ) (output : List ℕ) (r : Reply) : Type 0 where
-  pub answer : SpreadAnswer
+  pub answer : PlacementAnswer
   pub says : Spread-says bs s answer
   pub printed : Replied (spread-refusal bs s) (row-text (row-of (channels bs) s (answer .separations) (answer .positions))) output r
 

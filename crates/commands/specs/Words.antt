@@ -8,7 +8,7 @@ use lib.ListN.{length}
 use Rattle.lines.specs.Lines.{all-digits, value, same-bytes}
 use Rattle.commands.specs.declared.Number.{Number}
 use Rattle.commands.specs.declared.Command.{Command}
-use Rattle.commands.specs.declared.Command.the-variants.{Table, Spread, Page, Trial, Help, Version, Wrong}
+use Rattle.commands.specs.declared.Command.the-variants.{Table, Total, Place, Spread, Page, Trial, Help, Version, Wrong}
 
 -- a NUMBER: 1 to 10 decimal digits, at most 4294967295
 unfoldable pub is-number : List ℕ → Bool
@@ -22,12 +22,18 @@ pub record Number-read (xs : List ℕ) (r : Number) : Type 0 where
   pub good : r .good ≡ is-number xs
   pub value : r .value ≡ number-in xs
 
--- the words help, trial, spread and page, and the options -h, --help and --version
+-- the words help, trial, total, place, spread and page, and the options -h, --help and --version
 unfoldable pub help-word : List ℕ
 help-word = 104 ∷ 101 ∷ 108 ∷ 112 ∷ []
 
 unfoldable pub trial-word : List ℕ
 trial-word = 116 ∷ 114 ∷ 105 ∷ 97 ∷ 108 ∷ []
+
+unfoldable pub total-word : List ℕ
+total-word = 116 ∷ 111 ∷ 116 ∷ 97 ∷ 108 ∷ []
+
+unfoldable pub place-word : List ℕ
+place-word = 112 ∷ 108 ∷ 97 ∷ 99 ∷ 101 ∷ []
 
 unfoldable pub spread-word : List ℕ
 spread-word = 115 ∷ 112 ∷ 114 ∷ 101 ∷ 97 ∷ 100 ∷ []
@@ -51,15 +57,19 @@ is-help w = same-bytes w help-word || (same-bytes w short-help || same-bytes w l
 unfoldable pub if-named : (word name : List ℕ) → Command → Command
 if-named w name c = cond (same-bytes w name) c Wrong
 
+-- the one of two commands whose name the word is
+unfoldable pub either-named : (word name : List ℕ) → Command → (other-name : List ℕ) → (other : Command) → Command
+either-named w name c other-name d = cond (same-bytes w name) c (if-named w other-name d)
+
 -- a COMMAND of one word
 unfoldable pub command-alone : List ℕ → Command
 command-alone w = cond (is-help w) Help (if-named w version-option Version)
 
--- a COMMAND of so many words, of which w is the first: none is the table; spread has one number, page two, trial some
+-- a COMMAND of so many words, of which w is the first: none is the table; total and spread have one number, place and page two, trial some
 unfoldable pub command-in : List ℕ → (words : ℕ) → Command
 command-in w n =
     cond (eqb n 0) Table
     (cond (eqb n 1) (command-alone w)
     (cond (same-bytes w trial-word) Trial
-    (cond (eqb n 2) (if-named w spread-word Spread)
-    (cond (eqb n 3) (if-named w page-word Page) Wrong))))
+    (cond (eqb n 2) (either-named w total-word Total spread-word Spread)
+    (cond (eqb n 3) (either-named w place-word Place page-word Page) Wrong))))

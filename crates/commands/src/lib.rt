@@ -5,11 +5,13 @@ ghost use lib.ListN.{length, take};
 ghost use Rattle.stack.specs.Value.{tracks-of, columns-of};
 ghost use Rattle.text.specs.Outcome.{refusal-of};
 ghost use Rattle.writing.specs.Output.{Line-put};
-ghost use Rattle.commands.specs.Words.{Number-read, is-help, if-named, command-alone, command-in};
+ghost use Rattle.commands.specs.Words.{Number-read, is-help, if-named, either-named, command-alone, command-in};
 ghost use Rattle.commands.specs.Output.{
   Printed,
   Replied,
   Table-printed,
+  Total-printed,
+  Placement-printed,
   Spread-printed,
   Page-printed,
   separations-in,
@@ -21,7 +23,8 @@ ghost use Rattle.commands.specs.Output.{
 use lines::is_word;
 use lines::read_digits;
 use nabetsu::TABLE_BYTES;
-use nabetsu::answer_spread;
+use nabetsu::least_total;
+use nabetsu::place_total;
 use nabetsu::try_placement;
 use nabetsu::write_page;
 use nabetsu::write_table;
@@ -33,6 +36,7 @@ use text::read_stack;
 use writing::put_line;
 use writing::put_refusal;
 use writing::put_row;
+use writing::put_total as put_total_line;
 
 // A trial's spread, separations and positions.
 pub const NUMBERS: usize = 2 * Stack::MAX_CHANNELS + 2;
@@ -83,6 +87,8 @@ pub fn read_number(word: &[u8]) -> Number
 
 pub enum Command {
     Table,
+    Total,
+    Place,
     Spread,
     Page,
     Trial,
@@ -114,6 +120,22 @@ fn if_named(word: &[u8], name: &[u8], command: Command) -> Command
     Command::Wrong
 }
 
+// The one of two commands whose name the word is.
+fn either_named(
+    word: &[u8],
+    name: &[u8],
+    command: Command,
+    second: &[u8],
+    other: Command,
+) -> Command
+    ensures { λ r. ⌜ r ≡ either-named (now (word .entry)) (now (name .entry)) command (now (second .entry)) other ⌝ }
+{
+    if is_word(word, name) {
+        return command;
+    }
+    if_named(word, second, other)
+}
+
 // The command of one word.
 fn read_alone(word: &[u8]) -> Command
     ensures { λ r. ⌜ r ≡ command-alone (now (word .entry)) ⌝ }
@@ -138,10 +160,10 @@ pub fn read_command(word: &[u8], words: usize) -> Command
         return Command::Trial;
     }
     if words == 2 {
-        return if_named(word, b"spread", Command::Spread);
+        return either_named(word, b"total", Command::Total, b"spread", Command::Spread);
     }
     if words == 3 {
-        return if_named(word, b"page", Command::Page);
+        return either_named(word, b"place", Command::Place, b"page", Command::Page);
     }
     Command::Wrong
 }
@@ -182,24 +204,40 @@ pub fn put_table(text: &[u8], output: &mut [u8; TABLE_BYTES]) -> Reply
     put_outcome(outcome, answer.written, output)
 }
 
-// All that is printed for one spread: its row, or the refusal's line.
-pub fn put_spread(text: &[u8], spread: u32, output: &mut [u8; TABLE_BYTES]) -> Reply
-    ensures { λ r. ⌜ Spread-printed (now (text .entry)) spread (now (output .exit)) r ⌝ }
+// All that is printed of the least total in one spread: its digits, or the refusal's line.
+pub fn put_total(text: &[u8], spread: u32, output: &mut [u8; TABLE_BYTES]) -> Reply
+    ensures { λ r. ⌜ Total-printed (now (text .entry)) spread (now (output .exit)) r ⌝ }
 {
-    let answer = answer_spread(text, spread);
+    let answer = least_total(text, spread);
+    let outcome = answer.outcome;
+    if !outcome.is_accepted() {
+        return put_outcome(outcome, 0, output);
+    }
+    let total = answer.total;
+    let length = put_total_line(output, total.0);
+    Reply {
+        length,
+        status: ANSWERED,
+    }
+}
+
+// All that is printed of a placement for a total: its row, or the refusal's line.
+pub fn put_place(text: &[u8], spread: u32, total: u32, output: &mut [u8; TABLE_BYTES]) -> Reply
+    ensures { λ r. ⌜ Placement-printed (now (text .entry)) spread total (now (output .exit)) r ⌝ }
+{
+    let answer = place_total(text, spread, Tracks(total));
     let outcome = answer.outcome;
     if !outcome.is_accepted() {
         return put_outcome(outcome, 0, output);
     }
     let reading = read_stack(text);
-    let total = answer.total;
     let separations = answer.separations;
     let positions = answer.positions;
     let length = put_row(
         output,
         reading.stack.count,
         spread,
-        total.0,
+        total,
         separations,
         positions,
     );
@@ -207,6 +245,15 @@ pub fn put_spread(text: &[u8], spread: u32, output: &mut [u8; TABLE_BYTES]) -> R
         length,
         status: ANSWERED,
     }
+}
+
+// All that is printed for one spread: the row of the placement for its least total, or the refusal's line.
+pub fn put_spread(text: &[u8], spread: u32, output: &mut [u8; TABLE_BYTES]) -> Reply
+    ensures { λ r. ⌜ Spread-printed (now (text .entry)) spread (now (output .exit)) r ⌝ }
+{
+    let least = least_total(text, spread);
+    let total = least.total;
+    put_place(text, spread, total.0, output)
 }
 
 // All that is printed of a channel in the answer for one spread: its page, or the refusal's line.

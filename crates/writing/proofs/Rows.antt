@@ -10,7 +10,7 @@ use Rattle.stack.specs.Value.{tracks-of, columns-of}
 use Rattle.stack.specs.Stack.{row, total}
 use Rattle.stack.specs.declared.Tracks.{Tracks}
 use Rattle.stack.specs.declared.Columns.{Columns}
-use Rattle.writing.specs.TableText.{digits, tabbed, row-text, rows-text, table-text, refusal-text}
+use Rattle.writing.specs.TableText.{digits, tabbed, row-text, rows-text, table-text, total-text, refusal-text}
 use Rattle.writing.specs.Output.{row-of, Row-asks, line-bytes}
 use Rattle.writing.specs.Room.{Prepended, Line-made}
 use Rattle.writing.proofs.Digits.{tabbed-one, tabbed-append, tabbed-before}
@@ -46,6 +46,11 @@ module _ {room a b after : List ℕ} {e f at : ℕ} (k : ℕ) (long : line-bytes
       Prepended 5 (84 ∷ 65 ∷ 66 ∷ 76 ∷ 69 ∷ []) b f after at → Line-made (table-text k []) after at
   unfolding table-text rows-text
   head-made p q r = let made = line-made (prepended-more (prepended-more p q) r) long in simp append-assoc made
+
+module _ {room a after : List ℕ} {e at : ℕ} (v : ℕ) (long : line-bytes ≡ length room) where
+  pub total-made : Prepended 1 (10 ∷ []) room line-bytes a e → Prepended 10 (digits v) a e after at → Line-made (total-text v) after at
+  unfolding total-text
+  total-made p q = line-made (prepended-more p q) long
 
 module _ {room a b c after : List ℕ} {i j l at : ℕ} (number line field : ℕ) (long : line-bytes ≡ length room) where
   pub refusal-made : Prepended 1 (10 ∷ []) room line-bytes a i → Prepended 11 (tabbed (field ∷ [])) a i b j → Prepended 11 (tabbed (line ∷ [])) b j c l →

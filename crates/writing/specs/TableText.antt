@@ -1,4 +1,5 @@
--- TRUSTED. The table's text: numbers, fields, rows and the first line; and a refusal's line. Document 01, "Lines and tabs". Assumes nothing: these are definitions.
+-- TRUSTED. The table's text: numbers, fields, rows and the first line; a total's line and a refusal's. Document 01, "Lines and tabs". Assumes nothing: these are
+-- definitions.
 use mathlib.Core.Bool.{cond}
 use mathlib.Core.List.{List, [], _∷_, _++_}
 use Prim.Native.Nat.{ℕ, zero, suc, _+_, _/_, _%_}
@@ -30,6 +31,10 @@ rows-text (r ∷ rs) = row-text r ++ rows-text rs
 -- THE TABLE: the word TABLE and k, then the rows
 unfoldable pub table-text : (k : ℕ) → List Row → List ℕ
 table-text k rs = (84 ∷ 65 ∷ 66 ∷ 76 ∷ 69 ∷ []) ++ tabbed (k ∷ []) ++ (10 ∷ []) ++ rows-text rs
+
+-- a TOTAL by itself
+unfoldable pub total-text : ℕ → List ℕ
+total-text v = digits v ++ (10 ∷ [])
 
 -- a REFUSAL: its number, line and field
 unfoldable pub refusal-text : (number line field : ℕ) → List ℕ

@@ -1,10 +1,10 @@
-// Writing a table's text: its first line and its rows, each whole or not at all, and zeros behind it; and a refusal's line.
+// Writing a table's text: its first line and its rows, each whole or not at all, and zeros behind it; a total's line, and a refusal's.
 ghost use mathlib.Core.Path.{_≡_};
 ghost use mathlib.Core.List.{[], _∷_};
 ghost use Prim.Native.Nat.{_+_, _^_, _≤_, min};
 ghost use lib.ListN.{length, take};
 ghost use Rattle.stack.specs.Value.{tracks-of, columns-of};
-ghost use Rattle.writing.specs.TableText.{digits, tabbed, row-text, table-text, refusal-text};
+ghost use Rattle.writing.specs.TableText.{digits, tabbed, row-text, table-text, total-text, refusal-text};
 ghost use Rattle.writing.specs.Output.{
   cleared,
   Line-put,
@@ -167,6 +167,15 @@ fn row_before(
     word_before(room, first, b"ROW")
 }
 
+// A total's line at the end of a room of the longest line's bytes.
+fn total_before(room: &mut [u8], total: u32) -> usize
+    requires { ⌜ length (now room) ≡ line-bytes ⌝ }
+    ensures { λ r. ⌜ Line-made (total-text total) (now (room .exit)) r ⌝ }
+{
+    let end = byte_before(room, LINE_BYTES, LINE_FEED);
+    digits_before(room, end, total)
+}
+
 // A refusal's line at the end of a room of the longest line's bytes.
 fn refusal_before(room: &mut [u8], number: u32, line: u32, field: u32) -> usize
     requires { ⌜ length (now room) ≡ line-bytes ⌝ }
@@ -202,6 +211,15 @@ pub fn put_row(
 {
     let mut room = [0u8; LINE_BYTES];
     let at = row_before(&mut room, k, spread, total, separations, positions);
+    put_line(out, &room[at..])
+}
+
+// A total by itself over the output's first bytes, where there is space for it; its length.
+pub fn put_total(out: &mut [u8], total: u32) -> usize
+    ensures { λ r. ⌜ Line-put (total-text total) (now (out .entry)) (now (out .exit)) r ⌝ }
+{
+    let mut room = [0u8; LINE_BYTES];
+    let at = total_before(&mut room, total);
     put_line(out, &room[at..])
 }
 
