@@ -1,5 +1,6 @@
-// The program stacktable: it prints the table of a stack, the answer for one spread, the page of a channel, or the verdict on a placement. No contract can say
-// what is read or written, so what is printed and the status that goes with it come from crate commands; the functions here read, write and pass the status on.
+// The program stacktable: it prints the table of a stack, the least total in one spread, the placement for a total, both together, the page of a channel, or the
+// verdict on a placement. No contract can say what is read or written, so what is printed and the status that goes with it come from crate commands; the
+// functions here read, write and pass the status on.
 ghost use mathlib.Core.Path.{_≡_};
 ghost use mathlib.Core.Bool.{false};
 ghost use Prim.Native.Nat.{_≤_, _<_};
@@ -9,15 +10,17 @@ ghost use Rattle.text.specs.Text.{text-refusal};
 ghost use Rattle.nabetsu.specs.Entry.{spread-refusal};
 ghost use Rattle.nabetsu.specs.Pages.{page-refusal};
 ghost use Rattle.commands.specs.Output.{status-of, trial-status};
-ghost use Rattle.program.specs.Status.{Passed-on};
+ghost use Rattle.program.specs.Status.{Passed-on, Place-passed-on};
 use commands::ANSWERED;
 use commands::Command;
 use commands::FAILED;
 use commands::NUMBERS;
 use commands::Number;
 use commands::put_page;
+use commands::put_place;
 use commands::put_spread;
 use commands::put_table;
+use commands::put_total;
 use commands::put_trial;
 use commands::read_command;
 use commands::read_number;
@@ -55,6 +58,8 @@ fn print_usage(fd: i32) -> bool {
     io::write_all(
         fd,
         b"usage: stacktable [-f FILE]
+       stacktable [-f FILE] total N
+       stacktable [-f FILE] place N TOTAL
        stacktable [-f FILE] spread N
        stacktable [-f FILE] page N CHANNEL
        stacktable [-f FILE] trial N T1..TK X0..XK
@@ -74,11 +79,13 @@ fn print_help() -> u32
     print(
         b"Reads a stack from FILE, or from standard input, and prints
   its table;
-  spread: the answer for spread N, as a row of a table;
+  total: the least total separation in spread N;
+  place: the placement with exactly the total TOTAL in spread N, as a row of a table;
+  spread: both together, the row of the least total in spread N;
   page: the paths of a channel, from 1, in the answer for spread N, at most 63;
   trial: legal or not legal, for separations T1..TK and positions X0..XK in spread N.
 A line GAP, a channel and a floor behind the stack's NETS lines is a least separation of that channel.
-Where the stack, the spread or the channel is refused it prints the refusal's number, line and field.
+Where the stack, the spread, the total or the channel is refused it prints the refusal's number, line and field.
 A number is 1 to 10 decimal digits, at most 4294967295.
 It exits with 0 for an answer, 1 for a refusal, 2 for anything said on standard error.
 Example: two strips of 4 columns and two pairs, in a spread of 5
@@ -92,7 +99,7 @@ Example: two strips of 4 columns and two pairs, in a spread of 5
 fn print_version() -> u32
     ensures { λ r. ⌜ Passed-on 0 r ⌝ }
 {
-    print(b"stacktable 1.2\n", ANSWERED)
+    print(b"stacktable 1.3\n", ANSWERED)
 }
 
 // Says what is wrong with the arguments, and how the program is used.
@@ -259,6 +266,26 @@ fn print_table(text: &[u8]) -> u32
     print(&output[..length], reply.status)
 }
 
+// The least total in one spread.
+fn print_total(text: &[u8], spread: u32) -> u32
+    ensures { λ r. ⌜ Passed-on (status-of (spread-refusal (now (text .entry)) spread)) r ⌝ }
+{
+    let mut output = [0u8; TABLE_BYTES];
+    let reply = put_total(text, spread, &mut output);
+    let length = reply.length;
+    print(&output[..length], reply.status)
+}
+
+// The placement for a total in one spread.
+fn print_place(text: &[u8], spread: u32, total: u32) -> u32
+    ensures { λ r. ⌜ Place-passed-on (now (text .entry)) spread total r ⌝ }
+{
+    let mut output = [0u8; TABLE_BYTES];
+    let reply = put_place(text, spread, total, &mut output);
+    let length = reply.length;
+    print(&output[..length], reply.status)
+}
+
 // The answer for one spread.
 fn print_spread(text: &[u8], spread: u32) -> u32
     ensures { λ r. ⌜ Passed-on (status-of (spread-refusal (now (text .entry)) spread)) r ⌝ }
@@ -305,8 +332,8 @@ fn run_table(place: usize) -> u32
     print_table(&text[..length])
 }
 
-// Reads the spread and the text, and prints the answer.
-fn run_spread(place: usize) -> u32
+// Reads the spread and the text, and prints the least total alone, or the answer.
+fn run_spread(place: usize, alone: bool) -> u32
     requires { ⌜ place ≤ 3 ⌝ }
     ensures { λ r. ⌜ r ≤ 2 ⌝ }
 {
@@ -320,11 +347,14 @@ fn run_spread(place: usize) -> u32
         return FAILED;
     }
     let length = input.length;
+    if alone {
+        return print_total(&text[..length], number.value);
+    }
     print_spread(&text[..length], number.value)
 }
 
-// Reads the spread, the channel and the text, and prints the page.
-fn run_page(place: usize) -> u32
+// Reads the spread, a channel or a total, and the text, and prints the channel's page, or the placement for the total.
+fn run_placed(place: usize, page: bool) -> u32
     requires { ⌜ place ≤ 3 ⌝ }
     ensures { λ r. ⌜ r ≤ 2 ⌝ }
 {
@@ -332,8 +362,8 @@ fn run_page(place: usize) -> u32
     if !spread.good {
         return FAILED;
     }
-    let channel = number_argument(place + 2);
-    if !channel.good {
+    let second = number_argument(place + 2);
+    if !second.good {
         return FAILED;
     }
     let mut text = [0u8; TEXT_BYTES];
@@ -342,7 +372,10 @@ fn run_page(place: usize) -> u32
         return FAILED;
     }
     let length = input.length;
-    print_page(&text[..length], spread.value, channel.value)
+    if page {
+        return print_page(&text[..length], spread.value, second.value);
+    }
+    print_place(&text[..length], spread.value, second.value)
 }
 
 // Reads the numbers and the text, and prints the verdict.
@@ -379,8 +412,10 @@ pub fn run() -> u32
     let n = os::arg(place, &mut word);
     match read_command(&word[..n], end - place) {
         Command::Table => run_table(place),
-        Command::Spread => run_spread(place),
-        Command::Page => run_page(place),
+        Command::Total => run_spread(place, true),
+        Command::Place => run_placed(place, false),
+        Command::Spread => run_spread(place, false),
+        Command::Page => run_placed(place, true),
         Command::Trial => run_trial(place, end),
         Command::Help => print_help(),
         Command::Version => print_version(),

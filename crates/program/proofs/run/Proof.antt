@@ -55,29 +55,41 @@ run-spread-requires c κs = search needs
 enum-told-3 : tie.Need-enum-told-3
 enum-told-3 c = search needs
 
-run-page-requires : tie.Need-run-page-requires
-run-page-requires c κs = search needs
+run-placed-requires : tie.Need-run-placed-requires
+run-placed-requires c κs = search needs
 
 enum-told-4 : tie.Need-enum-told-4
 enum-told-4 c = search needs
 
-run-trial-requires : tie.Need-run-trial-requires
-run-trial-requires c κs = omega (arith, trial-words _ _ (sym (c .enum-told4 .given .1) ∙ c .before .before .read-command .ensures))
+run-spread-requires-2 : tie.Need-run-spread-requires-2
+run-spread-requires-2 c κs = search needs
 
 enum-told-5 : tie.Need-enum-told-5
 enum-told-5 c = search needs
 
-print-help-requires : tie.Need-print-help-requires
-print-help-requires c κs = search needs
+run-placed-requires-2 : tie.Need-run-placed-requires-2
+run-placed-requires-2 c κs = search needs
 
 enum-told-6 : tie.Need-enum-told-6
 enum-told-6 c = search needs
 
-print-version-requires : tie.Need-print-version-requires
-print-version-requires c κs = search needs
+run-trial-requires : tie.Need-run-trial-requires
+run-trial-requires c κs = omega (arith, trial-words _ _ (sym (c .enum-told6 .given .1) ∙ c .before .before .read-command .ensures))
 
 enum-told-7 : tie.Need-enum-told-7
 enum-told-7 c = search needs
+
+print-help-requires : tie.Need-print-help-requires
+print-help-requires c κs = search needs
+
+enum-told-8 : tie.Need-enum-told-8
+enum-told-8 c = search needs
+
+print-version-requires : tie.Need-print-version-requires
+print-version-requires c κs = search needs
+
+enum-told-9 : tie.Need-enum-told-9
+enum-told-9 c = search needs
 
 slice-aggregate-print-wrong-2 : tie.Need-slice-aggregate-print-wrong-2
 slice-aggregate-print-wrong-2 c = search needs
@@ -98,13 +110,19 @@ returns-5 : tie.Need-returns-5
 returns-5 c = search needs
 
 returns-6 : tie.Need-returns-6
-returns-6 c = passed-within (omega arith) (c .print-help .ensures)
+returns-6 c = search needs
 
 returns-7 : tie.Need-returns-7
-returns-7 c = passed-within (omega arith) (c .print-version .ensures)
+returns-7 c = search needs
 
 returns-8 : tie.Need-returns-8
-returns-8 c = search needs
+returns-8 c = passed-within (omega arith) (c .print-help .ensures)
+
+returns-9 : tie.Need-returns-9
+returns-9 c = passed-within (omega arith) (c .print-version .ensures)
+
+returns-10 : tie.Need-returns-10
+returns-10 c = search needs
 
 pub run-spec : {M : Type 1} → statement M
 run-spec =
@@ -126,14 +144,18 @@ run-spec =
     enum-told-2
     run-spread-requires
     enum-told-3
-    run-page-requires
+    run-placed-requires
     enum-told-4
-    run-trial-requires
+    run-spread-requires-2
     enum-told-5
-    print-help-requires
+    run-placed-requires-2
     enum-told-6
-    print-version-requires
+    run-trial-requires
     enum-told-7
+    print-help-requires
+    enum-told-8
+    print-version-requires
+    enum-told-9
     slice-aggregate-print-wrong-2
     print-wrong-requires-2
     returns-2
@@ -142,4 +164,6 @@ run-spec =
     returns-5
     returns-6
     returns-7
-    returns-8)
+    returns-8
+    returns-9
+    returns-10)

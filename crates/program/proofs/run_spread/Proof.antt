@@ -22,14 +22,26 @@ returns-2 c = search needs
 array-share-prefix-text : tie.Need-array-share-prefix-text
 array-share-prefix-text c = search needs
 
+slice-aggregate-print-total : tie.Need-slice-aggregate-print-total
+slice-aggregate-print-total c = search needs
+
+print-total-requires : tie.Need-print-total-requires
+print-total-requires c κs = search needs
+
+returns-3 : tie.Need-returns-3
+returns-3 c = passed-within (status-within _) (c .print-total .ensures)
+
+array-share-prefix-text-2 : tie.Need-array-share-prefix-text-2
+array-share-prefix-text-2 c = search needs
+
 slice-aggregate-print-spread : tie.Need-slice-aggregate-print-spread
 slice-aggregate-print-spread c = search needs
 
 print-spread-requires : tie.Need-print-spread-requires
 print-spread-requires c κs = search needs
 
-returns-3 : tie.Need-returns-3
-returns-3 c = passed-within (status-within _) (c .print-spread .ensures)
+returns-4 : tie.Need-returns-4
+returns-4 c = passed-within (status-within _) (c .print-spread .ensures)
 
 pub run-spread-spec : {M : Type 1} → statement M
 run-spread-spec =
@@ -41,6 +53,10 @@ run-spread-spec =
     read-input-requires
     returns-2
     array-share-prefix-text
+    slice-aggregate-print-total
+    print-total-requires
+    returns-3
+    array-share-prefix-text-2
     slice-aggregate-print-spread
     print-spread-requires
-    returns-3)
+    returns-4)

@@ -1,8 +1,8 @@
--- run_page meets its contract: the status is one of three. Assumes nothing.
+-- run_placed meets its contract: the status is one of three. Assumes nothing.
 use Rattle.program.proofs.Passing.{passed-within, status-within}
 use borrow.Author.Needs.{needs}
-use Rattle.program.proofs.run_page.Statement.{statement}
-use Rattle.program.proofs.run_page.Tie as tie
+use Rattle.program.proofs.run_placed.Statement.{statement}
+use Rattle.program.proofs.run_placed.Tie as tie
 
 add-number-argument : tie.Need-add-number-argument
 add-number-argument c = search needs
@@ -40,8 +40,20 @@ print-page-requires c κs = search needs
 returns-4 : tie.Need-returns-4
 returns-4 c = passed-within (status-within _) (c .print-page .ensures)
 
-pub run-page-spec : {M : Type 1} → statement M
-run-page-spec =
+array-share-prefix-text-2 : tie.Need-array-share-prefix-text-2
+array-share-prefix-text-2 c = search needs
+
+slice-aggregate-print-place : tie.Need-slice-aggregate-print-place
+slice-aggregate-print-place c = search needs
+
+print-place-requires : tie.Need-print-place-requires
+print-place-requires c κs = search needs
+
+returns-5 : tie.Need-returns-5
+returns-5 c = passed-within (status-within _) (c .print-place .ensures .passed)
+
+pub run-placed-spec : {M : Type 1} → statement M
+run-placed-spec =
     tie.close
     (tie.spec
     add-number-argument
@@ -55,4 +67,8 @@ run-page-spec =
     array-share-prefix-text
     slice-aggregate-print-page
     print-page-requires
-    returns-4)
+    returns-4
+    array-share-prefix-text-2
+    slice-aggregate-print-place
+    print-place-requires
+    returns-5)
