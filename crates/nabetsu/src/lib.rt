@@ -64,11 +64,10 @@ fn spread_outcome(outcome: Outcome, stack: Stack, spread: u32) -> Outcome
     if !outcome.is_accepted() {
         return outcome;
     }
-    let longest = stack.longest();
-    if spread < longest {
-        return Outcome::refused(Refusal::Narrow, 0, 0);
+    if stack.longest() <= spread {
+        return outcome;
     }
-    outcome
+    Outcome::refused(Refusal::Narrow, 0, 0)
 }
 
 // Document 02, P3: the least total in one spread of the stack in a text, or the first refusal that applies: 1 to 6, then 7. Nothing is placed.

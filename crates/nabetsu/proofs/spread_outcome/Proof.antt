@@ -19,26 +19,26 @@ returns c =
 longest-requires : tie.Need-longest-requires
 longest-requires c κs = let a = c .before .before in few-channels (a .args .stack) (a .pre)
 
-refused-requires : tie.Need-refused-requires
-refused-requires c κs = search needs
-
 returns-2 : tie.Need-returns-2
 returns-2 c =
-    let l = c .before .before in
-    let e = l .before in
-    let a = e .before .before in
-    outcome-narrow (a .args .outcome) (stack-of (a .args .stack)) (a .args .spread) (sym (e .before .is-accepted .ensures) ∙ not-false _ (e .if1 .left)) _
-    (rw (l .longest .ensures) at (c .before .if2 .taken)) (c .refused .ensures)
-
-returns-3 : tie.Need-returns-3
-returns-3 c =
     let l = c .before in
     let e = l .before in
     let a = e .before .before in
     outcome-wide (a .args .outcome) (stack-of (a .args .stack)) (a .args .spread) (sym (e .before .is-accepted .ensures) ∙ not-false _ (e .if1 .left))
-    (rw (l .longest .ensures) at (c .if2 .left))
+    (rw (l .longest .ensures) at (c .if2 .taken))
+
+refused-requires : tie.Need-refused-requires
+refused-requires c κs = search needs
+
+returns-3 : tie.Need-returns-3
+returns-3 c =
+    let l = c .before .before in
+    let e = l .before in
+    let a = e .before .before in
+    outcome-narrow (a .args .outcome) (stack-of (a .args .stack)) (a .args .spread) (sym (e .before .is-accepted .ensures) ∙ not-false _ (e .if1 .left)) _
+    (rw (l .longest .ensures) at (c .before .if2 .left)) (c .refused .ensures)
 
 pub spread-outcome-spec : {M : Type 1} → statement M
 spread-outcome-spec =
     tie.close
-    (tie.spec is-accepted-requires returns longest-requires refused-requires returns-2 returns-3)
+    (tie.spec is-accepted-requires returns longest-requires returns-2 refused-requires returns-3)
