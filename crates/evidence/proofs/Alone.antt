@@ -1,5 +1,5 @@
--- The statements of Alone.antt, proved: there is but one answer for a spread and but one list of rows, and everything else in a promise is an equation. The
--- trial's verdict is the test legal, which by the routing theorem is drawable. Assumes nothing.
+-- The statements of Alone.antt, proved: there is but one least total in a spread, one placement for a total, one answer and one list of rows, and everything else
+-- in a promise is an equation. The trial's verdict is the test legal, which by the routing theorem is drawable. Assumes nothing.
 use mathlib.Core.Path.{_≡_, sym, ap, _∙_}
 use mathlib.Core.Bool.{Bool, true, false}
 use mathlib.Core.List.{List, [], _∷_, _++_}
@@ -9,41 +9,72 @@ use lib.ListN.{length, getD, take, replicate}
 use Rattle.stack.specs.Value.{tracks-of, columns-of}
 use Rattle.numbers.specs.Lists.{tabulate}
 use Rattle.numbers.proofs.Bools.{ands}
-use Rattle.stack.specs.Stack.{Stack, legal}
+use Rattle.stack.specs.Stack.{Stack, Total-met, Placement}
 use Rattle.stack.specs.Limits.{all-rising}
 use Rattle.stack.proofs.Within.{within-rising}
 use Rattle.routing.proofs.Drawable.{drawable-legal, legal-drawable}
-use Rattle.text.specs.Text.{Refusal, stack-in}
+use Rattle.text.specs.Text.{Refusal, refusal, fine, stack-in}
 use Rattle.text.proofs.Within.{accepted-within}
-use Rattle.answer.proofs.Alone.{answer-alone}
+use Rattle.answer.proofs.Alone.{total-alone, placement-alone, answer-alone}
 use Rattle.rows.proofs.Rows.{rows-alone}
 use Rattle.writing.specs.TableText.{table-text}
 use Rattle.trial.specs.Legal.{is-legal}
-use Rattle.nabetsu.specs.Entry.{numbers, numbers-in, Numbers-put, placed-is, Answered, Spread-says, zeros, table-told, Fits, Tabled, Table-says, Trial-says}
-use Rattle.nabetsu.specs.declared.SpreadAnswer.{SpreadAnswer}
+use Rattle.nabetsu.specs.Entry.{total-told, Totalled, Total-says, placed-is, Placed-for, placed, unmet, Placed-or, Placement-says, numbers, numbers-in, Numbers-put, zeros, table-told, Fits, Tabled, Table-says, Trial-says}
+use Rattle.nabetsu.specs.declared.PlacementAnswer.{PlacementAnswer}
 use Rattle.nabetsu.specs.declared.TableAnswer.{TableAnswer}
+use Rattle.nabetsu.specs.declared.TotalAnswer.{TotalAnswer}
 use Rattle.page.specs.Page.{channel-page}
 use Rattle.nabetsu.specs.Pages.{Paged, Page-says}
-use Rattle.evidence.specs.Alone.{Same-spread, Spread-alone, Spread-coded-alone, Same-table, Table-alone, Coded-alone, Page-alone, Page-coded-alone, Trial-alone, Placement-drawable, Trial-drawable}
+use Rattle.evidence.specs.Alone.{Same-total, Total-says-alone, Total-coded-alone, Same-placement, Placement-says-alone, Placement-coded-alone, Same-table, Table-alone, Coded-alone, Page-alone, Page-coded-alone, Trial-alone, Placement-drawable, Trial-drawable}
 
--- ONE SPREAD
-placed-alone : (f : Refusal) (v : ℕ) (ts xs : List ℕ) (r q : SpreadAnswer) → placed-is f v ts xs r → placed-is f v ts xs q → Same-spread r q
+-- THE LEAST TOTAL
+total-told-alone : (f : Refusal) (v : ℕ) (r q : TotalAnswer) → total-told f v r → total-told f v q → Same-total r q
+unfolding total-told
+total-told-alone f v r q a b = record { refusals = a .0 ∙ sym (b .0); totals = a .1 ∙ sym (b .1) }
+
+totalled-alone : (n : ℕ) (f : Refusal) (k : Stack) (s : ℕ) (r q : TotalAnswer) → Totalled n f k s r → Totalled n f k s q → Same-total r q
+unfolding Totalled
+totalled-alone zero f k s r q a b = total-told-alone f (b .0) r q (rw (total-alone k s (a .0) (b .0) (a .1) (b .1)) at (a .2)) (b .2)
+totalled-alone (suc n) f k s r q a b = total-told-alone f 0 r q a b
+
+pub total-says-alone : Total-says-alone
+unfolding Total-says-alone Total-says
+total-says-alone bs s r q a b = totalled-alone _ _ (stack-in bs) s r q a b
+
+pub total-coded-alone : Total-coded-alone
+unfolding Total-coded-alone Total-says-alone
+total-coded-alone bs s r q a b =
+    let same = total-says-alone bs s (a .answer) (b .answer) (a .says) (b .says) in
+    a .coded ∙ (rw (same .refusals, same .totals) (sym (b .coded)))
+
+-- THE PLACEMENT FOR A TOTAL
+placed-alone : (f : Refusal) (v : ℕ) (ts xs : List ℕ) (r q : PlacementAnswer) → placed-is f v ts xs r → placed-is f v ts xs q → Same-placement r q
 unfolding placed-is
 placed-alone f v ts xs r q a b =
     record { refusals = a .0 ∙ sym (b .0); totals = a .1 ∙ sym (b .1); separations = a .2 ∙ sym (b .2); positions = a .3 ∙ sym (b .3) }
 
-answered-alone : (n : ℕ) (f : Refusal) (k : Stack) (s : ℕ) (r q : SpreadAnswer) → Answered n f k s r → Answered n f k s q → Same-spread r q
-unfolding Answered
-answered-alone zero f k s r q a b =
-    let same = answer-alone k s (a .0) (a .1) (b .0) (b .1) (a .2) (b .2) in
-    placed-alone f _ (b .0) (b .1) r q (rw (same .0, same .1) at (a .3)) (b .3)
-answered-alone (suc n) f k s r q a b = placed-alone f 0 [] [] r q a b
+-- a total that has a placement is met
+pub placement-met : (k : Stack) (s v : ℕ) (ts xs : List ℕ) → Placement k s v ts xs → Total-met k s v
+placement-met k s v ts xs p = record { separations = ts; positions = xs; is-legal = p .is-legal; exact = p .exact }
 
-pub spread-alone : Spread-alone
-unfolding Spread-alone Spread-says
-spread-alone bs s r q a b = answered-alone _ _ (stack-in bs) s r q a b
+placed-for-alone : (k : Stack) (s v : ℕ) (r q : PlacementAnswer) → Placed-for k s v r → Placed-for k s v q → Same-placement r q
+placed-for-alone k s v r q (placed ts xs a c) (placed us ys b d) =
+    let same = placement-alone k s v ts xs us ys a b in
+    placed-alone fine v us ys r q (rw (same .0, same .1) at c) d
+placed-for-alone k s v r q (placed ts xs a c) (unmet n d) = absurd (n (placement-met k s v ts xs a))
+placed-for-alone k s v r q (unmet n c) (placed us ys b d) = absurd (n (placement-met k s v us ys b))
+placed-for-alone k s v r q (unmet n c) (unmet m d) = placed-alone (refusal 10 0 0) 0 [] [] r q c d
 
-numbers-alone : (n : ℕ) (r q : SpreadAnswer) → Same-spread r q → numbers-in n r ≡ numbers-in n q
+placed-or-alone : (n : ℕ) (f : Refusal) (k : Stack) (s v : ℕ) (r q : PlacementAnswer) → Placed-or n f k s v r → Placed-or n f k s v q → Same-placement r q
+unfolding Placed-or
+placed-or-alone zero f k s v r q a b = placed-for-alone k s v r q a b
+placed-or-alone (suc n) f k s v r q a b = placed-alone f 0 [] [] r q a b
+
+pub placement-says-alone : Placement-says-alone
+unfolding Placement-says-alone Placement-says
+placement-says-alone bs s v r q a b = placed-or-alone _ _ (stack-in bs) s v r q a b
+
+numbers-alone : (n : ℕ) (r q : PlacementAnswer) → Same-placement r q → numbers-in n r ≡ numbers-in n q
 unfolding numbers-in numbers
 numbers-alone n r q e =
     let same : r .total .0 ∷ (tracks-of (r .separations) ++ columns-of (r .positions)) ≡ q .total .0 ∷ (tracks-of (q .separations) ++ columns-of (q .positions)) = rw (e .totals, e .separations, e .positions) in
@@ -53,15 +84,16 @@ zeros-alone : (o p : List ℕ) → length o ≡ length p → zeros p ≡ zeros o
 unfolding zeros
 zeros-alone o p l = rw l
 
-put-alone : (b : Bool) (a c : SpreadAnswer) (r q : ℕ) (o p x y : List ℕ) → length o ≡ length p → Same-spread a c → Numbers-put b a r o x → Numbers-put b c q p y → (r ≡ q) × (x ≡ y)
+put-alone : (b : Bool) (a c : PlacementAnswer) (r q : ℕ) (o p x y : List ℕ) → length o ≡ length p → Same-placement a c → Numbers-put b a r o x → Numbers-put b c q p y → (r ≡ q) × (x ≡ y)
 unfolding Numbers-put
 put-alone true a c r q o p x y l e d f = (d .0 ∙ rw (e .refusals) (sym (f .0)), d .1 ∙ (numbers-alone (length o) a c e ∙ rw l (sym (f .1))))
 put-alone false a c r q o p x y l e d f = (d .0 ∙ rw (e .refusals) (sym (f .0)), d .1 ∙ sym (f .1 ∙ zeros-alone o p l))
 
-pub spread-coded-alone : Spread-coded-alone
-unfolding Spread-coded-alone Spread-alone
-spread-coded-alone bs s r q o p x y l a b =
-    put-alone (leb 18 (length p)) (a .answer) (b .answer) r q o p x y l (spread-alone bs s (a .answer) (b .answer) (a .says) (b .says)) (rw l at (a .put)) (b .put)
+pub placement-coded-alone : Placement-coded-alone
+unfolding Placement-coded-alone Placement-says-alone
+placement-coded-alone bs s v r q o p x y l a b =
+    let same = placement-says-alone bs s v (a .answer) (b .answer) (a .says) (b .says) in
+    put-alone (leb 18 (length p)) (a .answer) (b .answer) r q o p x y l same (rw l at (a .put)) (b .put)
 
 -- THE TABLE
 told-alone : (f : Refusal) (w : ℕ) (r q : TableAnswer) (x y z : List ℕ) → table-told f w r → table-told f w q → x ≡ z → y ≡ z → Same-table r q x y

@@ -22,7 +22,7 @@ use Rattle.routing.specs.Wiring as wiring
 use Rattle.page.specs.Page as page
 use Rattle.nabetsu.specs.Entry.{narrow-refusal, spread-refusal}
 use Rattle.nabetsu.specs.Pages.{channel-refusal, broad-refusal, asked-refusal, page-refusal}
-use Rattle.evidence.specs.Replies.{Spread-reply, placement, placement-for, spread-reply, Table-reply, writes, refuses, if-fits, table-for, table-reply, page-for, page-reply}
+use Rattle.evidence.specs.Replies.{Total-reply, total-is, total-for, total-reply, Placement-reply, placement, if-met, placement-for, placement-reply, Table-reply, writes, refuses, if-fits, table-for, table-reply, page-for, page-reply}
 use Rattle.evidence.specs.Specimens.{byte-shown, line-shown, text-shown, dotted, page-shown}
 
 unfoldable pub reading : List String → Stack
@@ -36,17 +36,17 @@ unfolding byte-shown line-shown text-shown stacks.pair stacks.stack
     texts.file-in texts.pairs-of texts.floor-in texts.stack-in-file texts.stack-in
 reading t = texts.stack-in (text-shown t)
 
-unfoldable pub replying : List ℕ → (s space : ℕ) → (ts xs : List ℕ) → Spread-reply × Table-reply × Bool
+unfoldable pub replying : List ℕ → (s v space : ℕ) → (ts xs : List ℕ) → Total-reply × Placement-reply × Table-reply × Bool
 unfolding stacks.p-at stacks.q-at stacks.every stacks.left-good stacks.right-good stacks.wirable stacks.feasible stacks.in-spread stacks.channels-good stacks.legal
     stacks.sum stacks.longest stacks.row stacks.total
     limits.low-term limits.high-term limits.greatest limits.least limits.low-limit limits.high-limit limits.from-floor limits.low-floored limits.high-floored spans.last spans.low-at spans.high-at
     spans.gather solver.first solver.first-open solver.most solver.cell solver.back solver.first-total solver.least-total solver.serves
     solver.first-serving solver.forward solver.separations solver.fixed solver.positions-on solver.lowest solver.positions limits-from
     solve.window solve.channel-limits solve.stack-levels solve.bottom solve.levels-of solve.total-with solve.separations-with solve.positions-with
-    solve.answer-total solve.answer-separations solve.answer-positions walk.row-at walk.rows-walk walk.widest walk.rows-of
+    solve.answer-total solve.separations-for solve.positions-for walk.row-at walk.rows-walk walk.widest walk.rows-of
     table-texts.digits-from table-texts.digits table-texts.tabbed table-texts.row-text table-texts.rows-text table-texts.table-text
-    padded narrow-refusal spread-refusal all-zero is-legal placement placement-for spread-reply writes refuses if-fits table-for table-reply
-replying bs s n ts xs = (spread-reply bs s, table-reply bs n, is-legal (texts.stack-in bs) s (padded 8 ts) (padded 9 xs))
+    padded narrow-refusal spread-refusal all-zero is-legal total-is total-for total-reply placement if-met placement-for placement-reply writes refuses if-fits table-for table-reply
+replying bs s v n ts xs = (total-reply bs s, placement-reply bs s v, table-reply bs n, is-legal (texts.stack-in bs) s (padded 8 ts) (padded 9 xs))
 
 unfoldable pub showing : List ℕ → (s channel space : ℕ) → List String → Table-reply × List ℕ
 unfolding dotted page-shown tabulate paths.point paths.next paths.same-column paths.same-point paths.on-path

@@ -1,20 +1,19 @@
 -- Wrong versions break the promises, each on a specimen: what such a version returns is not the specimen's reply. Document 01, "Reviewer's checklist" and
--- "Traps in the work"; document 02, P1 and P2. Assumes nothing.
+-- "Traps in the work"; document 02, P1 to P3. Assumes nothing.
 use mathlib.Core.Path.{_≡_, refl, sym, ap, _∙_}
 use mathlib.Core.Bool.{true, false}
 use mathlib.Core.List.{List, [], _∷_, _++_}
-use Prim.Native.Nat.{ℕ, zero, suc, _+_, _-_, _<_}
+use Prim.Native.Nat.{ℕ, zero, suc, _+_, _<_}
 use native.Mathlib.Omega.{arith}
-use native.Mathlib.Nat.{zero-add}
 use lib.ListN.{length, replicate}
 use lib.IntN.{pos}
 use borrow.Author.Tests.{eq-eqb}
 use Rattle.numbers.specs.Lists.{padded}
-use Rattle.stack.specs.Value.{tracks-of}
+use Rattle.stack.specs.Value.{tracks-of, columns-of}
 use Rattle.numbers.proofs.Bools.{impossible}
-use Rattle.stack.specs.Stack.{Stack, in-spread, longest, sum, Answer}
+use Rattle.stack.specs.Stack.{Stack, in-spread, legal, longest, sum, Answer}
 use Rattle.stack.specs.Limits.{rises-above, rising, all-rising}
-use Rattle.answer.proofs.Alone.{answer-alone}
+use Rattle.answer.proofs.Alone.{answer-total-is, answer-placed}
 use Rattle.answer.proofs.Answers.{zeros-of}
 use Rattle.rows.proofs.Floored.{floors-of, all-covered, floors-answer}
 use Rattle.text.proofs.Within.{accepted-within}
@@ -22,15 +21,18 @@ use Rattle.routing.proofs.Drawable.{legal-drawable}
 use Rattle.routing.specs.Paths as paths
 use Rattle.routing.specs.Paths.{point, Drawable}
 use Rattle.lines.specs.Lines.{same-bytes}
-use Rattle.text.specs.Text.{Refusal, refusal, stack-in}
+use Rattle.text.specs.Text.{Refusal, refusal, fine, stack-in}
 use Rattle.text.specs.Outcome.{refusal-of}
-use Rattle.nabetsu.specs.Entry.{narrow-refusal, spread-refusal, placed-is, Answered, Spread-says, table-told, Table-says}
-use Rattle.nabetsu.specs.Best.{Spread-best}
+use Rattle.nabetsu.specs.Entry.{narrow-refusal, spread-refusal, total-told, Total-says, placed-is, Placed-for, placed, unmet, Placed-or, Placement-says, table-told, Table-says}
+use Rattle.nabetsu.specs.Best.{Total-best}
 use Rattle.nabetsu.specs.Pages.{Page-says}
-use Rattle.nabetsu.specs.declared.SpreadAnswer.{SpreadAnswer}
+use Rattle.nabetsu.proofs.Placements.{sum-padded, placement-best}
+use Rattle.nabetsu.specs.declared.PlacementAnswer.{PlacementAnswer}
 use Rattle.nabetsu.specs.declared.TableAnswer.{TableAnswer}
-use Rattle.evidence.specs.Specimens.{text-shown, Specimen, spread-gives, table-gives, table-refused, page-gives, page-shown, page-a, Holds, All-hold, text-a, table-a, text-b, text-c, table-c, text-d, table-d, text-e, text-between, text-a-3, text-b-2-5, text-512, specimens, Specimens-right}
+use Rattle.nabetsu.specs.declared.TotalAnswer.{TotalAnswer}
+use Rattle.evidence.specs.Specimens.{text-shown, Specimen, spread-gives, spread-refused, place-gives, place-refused, table-gives, table-refused, page-gives, page-shown, page-a, Holds, All-hold, text-a, table-a, text-b, text-c, table-c, text-d, table-d, text-e, text-between, text-moved, text-a-3, text-b-2-5, text-512, specimens, Specimens-right}
 use Rattle.evidence.proofs.Opened.{reading, replying, showing}
+use Rattle.evidence.proofs.Replies.{least-told, placement-told}
 use Rattle.evidence.proofs.Specimens.{specimens-right}
 
 -- THE SPECIMENS that are cited
@@ -61,6 +63,10 @@ a-in-49 : Holds (table-refused text-a 49 8 0 0)
 unfolding specimens Entry-holds
 a-in-49 = specimen 2
 
+a-at-3 : Holds (spread-refused text-a 3 7 0 0)
+unfolding specimens Entry-holds
+a-at-3 = specimen 3
+
 a-at-5 : Holds (spread-gives text-a 5 1 (1 ∷ []) (1 ∷ 0 ∷ []))
 unfolding specimens Entry-holds
 a-at-5 = specimen 5
@@ -73,6 +79,10 @@ b-at-5 : Holds (spread-gives text-b 5 3 (1 ∷ 2 ∷ []) (1 ∷ 0 ∷ 0 ∷ []))
 unfolding specimens Entry-holds
 b-at-5 = specimen 10
 
+b-at-6 : Holds (spread-gives text-b 6 2 (0 ∷ 2 ∷ []) (2 ∷ 0 ∷ 0 ∷ []))
+unfolding specimens Entry-holds
+b-at-6 = specimen 11
+
 c-in-50 : Holds (table-gives text-c 50 table-c)
 unfolding specimens Entry-holds
 c-in-50 = specimen 16
@@ -84,6 +94,10 @@ d-in-50 = specimen 19
 e-in-50 : Holds (table-refused text-e 50 2 1 0)
 unfolding specimens Entry-holds
 e-in-50 = specimen 23
+
+e-at-100 : Holds (spread-refused text-e 100 2 1 0)
+unfolding specimens Entry-holds
+e-at-100 = specimen 24
 
 between-at-2 : Holds (spread-gives text-between 2 1 (1 ∷ 0 ∷ []) (0 ∷ 1 ∷ 0 ∷ []))
 unfolding specimens Entry-holds
@@ -105,6 +119,38 @@ b-2-5-at-9 : Holds (spread-gives text-b-2-5 9 7 (2 ∷ 5 ∷ []) (0 ∷ 0 ∷ 0 
 unfolding specimens Entry-holds
 b-2-5-at-9 = specimen 77
 
+a-5-for-2 : Holds (place-gives text-a 5 2 (2 ∷ []) (0 ∷ 0 ∷ []))
+unfolding specimens Entry-holds
+a-5-for-2 = specimen 103
+
+a-100-for-7 : Holds (place-gives text-a 100 7 (7 ∷ []) (0 ∷ 0 ∷ []))
+unfolding specimens Entry-holds
+a-100-for-7 = specimen 105
+
+b-6-for-1 : Holds (place-refused text-b 6 1 10 0 0)
+unfolding specimens Entry-holds
+b-6-for-1 = specimen 109
+
+b-6-for-3 : Holds (place-gives text-b 6 3 (0 ∷ 3 ∷ []) (2 ∷ 0 ∷ 0 ∷ []))
+unfolding specimens Entry-holds
+b-6-for-3 = specimen 111
+
+moved-for-2 : Holds (place-gives text-moved 2 2 (0 ∷ 2 ∷ []) (1 ∷ 0 ∷ 0 ∷ []))
+unfolding specimens Entry-holds
+moved-for-2 = specimen 120
+
+a-3-4-for-2 : Holds (place-refused text-a-3 4 2 10 0 0)
+unfolding specimens Entry-holds
+a-3-4-for-2 = specimen 121
+
+a-3-100-for-2 : Holds (place-refused text-a-3 100 2 10 0 0)
+unfolding specimens Entry-holds
+a-3-100-for-2 = specimen 123
+
+b-2-5-for-6 : Holds (place-refused text-b-2-5 9 6 10 0 0)
+unfolding specimens Entry-holds
+b-2-5-for-6 = specimen 125
+
 -- bytes that differ
 bytes-same : (a : List ℕ) → same-bytes a a ≡ true
 unfolding same-bytes
@@ -114,10 +160,24 @@ bytes-same (x ∷ xs) = rw (eq-eqb x x refl) (bytes-same xs)
 differ : (a b : List ℕ) → same-bytes a b ≡ false → a ≡ b → ⊥
 differ a b d e = let same : same-bytes a b ≡ true = rw e (bytes-same b) in impossible (sym d ∙ same)
 
+-- the number of a refusal that is told, and separations other than those of a reply
+number-told : (n l f : ℕ) (g : Refusal) → g ≡ refusal n l f → g .number ≡ n
+unfolding refusal
+number-told n l f g e = ap (λ (h : Refusal). h .number) e
+
+other-separations : (f : Refusal) (v : ℕ) (ts us xs : List ℕ) (r : PlacementAnswer) → same-bytes (padded 8 ts) (padded 8 us) ≡ false →
+    tracks-of (r .separations) ≡ padded 8 ts → placed-is f v us xs r → ⊥
+unfolding placed-is
+other-separations f v ts us xs r d w p = differ (padded 8 ts) (padded 8 us) d (sym w ∙ p .2)
+
 -- FULL PAIR COUNT as every separation: A at spread 100 is drawn with no track, each path one point
-pub full-count-breaks : (r : SpreadAnswer) → tracks-of (r .separations) ≡ padded 8 (2 ∷ []) → Spread-says (text-shown text-a) 100 r → ⊥
-unfolding Holds placed-is padded same-bytes
-full-count-breaks r w a = differ (padded 8 (2 ∷ [])) (padded 8 (0 ∷ [])) refl (sym w ∙ a-at-100 r .0 a .2)
+pub full-count-breaks-total : (r : TotalAnswer) → r .total .0 ≡ 2 → Total-says (text-shown text-a) 100 r → ⊥
+unfolding Holds total-told
+full-count-breaks-total r w a = omega (arith, a-at-100 .0 r .0 a .1)
+
+pub full-count-breaks : (r : PlacementAnswer) → tracks-of (r .separations) ≡ padded 8 (2 ∷ []) → Placement-says (text-shown text-a) 100 0 r → ⊥
+unfolding Holds padded same-bytes
+full-count-breaks r w a = other-separations _ _ (2 ∷ []) (0 ∷ []) _ r refl w (a-at-100 .1 r .0 a)
 
 a-drawn : Drawable (stack-in (text-shown text-a)) 100 (0 ∷ []) (2 ∷ 0 ∷ [])
 unfolding reading in-spread point paths.same-column paths.same-point paths.chain paths.is-path paths.on-path paths.apart paths.apart-from-all
@@ -125,7 +185,7 @@ unfolding reading in-spread point paths.same-column paths.same-point paths.chain
 a-drawn =
     record { within = refl; drawn = (omega arith, record { paths = (point (pos 2) 0 ∷ []) ∷ (point (pos 4) 0 ∷ []) ∷ []; led = refl; clear = refl }, refl) }
 
-pub full-count-not-least : (r : SpreadAnswer) → r .total .0 ≡ 2 → Spread-best (text-shown text-a) 100 r → ⊥
+pub full-count-not-least : (r : TotalAnswer) → r .total .0 ≡ 2 → Total-best (text-shown text-a) 100 r → ⊥
 unfolding reading spread-refusal narrow-refusal longest sum
 full-count-not-least r w b = omega (arith, b .none-smaller refl (0 ∷ []) (2 ∷ 0 ∷ []) a-drawn)
 
@@ -144,24 +204,27 @@ pub same-output-breaks : (r q : TableAnswer) (o x : List ℕ) → length o ≡ 5
 unfolding Holds reading
 same-output-breaks r q o x l a c = differ _ _ refl (sym (a-in-50 r o x l .0 a .1) ∙ c-in-50 q o x l .0 c .1)
 
--- A TOTAL that is not its separations' sum, for every text and spread; and in a row of A's table
-sum-zeros : (ts : List ℕ) (n : ℕ) → sum (ts ++ replicate n 0) ≡ sum ts
+-- A TOTAL that is not its separations' sum, for every text, spread and stated total; and in a row of A's table
+told-sum : (f : Refusal) (v : ℕ) (ts xs : List ℕ) (r : PlacementAnswer) → sum ts ≡ v → placed-is f v ts xs r → r .total .0 ≡ sum (tracks-of (r .separations))
+unfolding placed-is
+told-sum f v ts xs r e p = p .1 ∙ sym (ap sum (p .2) ∙ sum-padded 8 ts ∙ e)
+
+placed-sum : (k : Stack) (s v : ℕ) (r : PlacementAnswer) → Placed-for k s v r → r .total .0 ≡ sum (tracks-of (r .separations))
 unfolding sum
-sum-zeros [] zero = refl
-sum-zeros [] (suc n) = rw zero-add (sum-zeros [] n)
-sum-zeros (t ∷ ts) n = ap (λ (v : ℕ). t + v) (sum-zeros ts n)
+placed-sum k s v r (placed ts xs a p) = told-sum fine v ts xs r (a .exact) p
+placed-sum k s v r (unmet n p) = told-sum (refusal 10 0 0) 0 [] [] r refl p
 
-answered-sum : (n : ℕ) (f : Refusal) (k : Stack) (s : ℕ) (r : SpreadAnswer) → Answered n f k s r → r .total .0 ≡ sum (tracks-of (r .separations))
-unfolding Answered placed-is padded sum
-answered-sum zero f k s r a = a .3 .1 ∙ sym (ap sum (a .3 .2) ∙ sum-zeros (a .0) (8 - length (a .0)))
-answered-sum (suc n) f k s r a = a .1 ∙ sym (ap sum (a .2))
+placed-or-sum : (n : ℕ) (f : Refusal) (k : Stack) (s v : ℕ) (r : PlacementAnswer) → Placed-or n f k s v r → r .total .0 ≡ sum (tracks-of (r .separations))
+unfolding Placed-or sum
+placed-or-sum zero f k s v r a = placed-sum k s v r a
+placed-or-sum (suc n) f k s v r a = told-sum f 0 [] [] r refl a
 
-pub total-is-sum : (bs : List ℕ) (s : ℕ) (r : SpreadAnswer) → Spread-says bs s r → r .total .0 ≡ sum (tracks-of (r .separations))
-unfolding Spread-says
-total-is-sum bs s r a = answered-sum (spread-refusal bs s .number) (spread-refusal bs s) (stack-in bs) s r a
+pub total-is-sum : (bs : List ℕ) (s v : ℕ) (r : PlacementAnswer) → Placement-says bs s v r → r .total .0 ≡ sum (tracks-of (r .separations))
+unfolding Placement-says
+total-is-sum bs s v r a = placed-or-sum (spread-refusal bs s .number) (spread-refusal bs s) (stack-in bs) s v r a
 
-pub other-total-breaks : (bs : List ℕ) (s : ℕ) (r : SpreadAnswer) → r .total .0 ≡ suc (sum (tracks-of (r .separations))) → Spread-says bs s r → ⊥
-other-total-breaks bs s r w a = omega (arith, total-is-sum bs s r a)
+pub other-total-breaks : (bs : List ℕ) (s v : ℕ) (r : PlacementAnswer) → r .total .0 ≡ suc (sum (tracks-of (r .separations))) → Placement-says bs s v r → ⊥
+other-total-breaks bs s v r w a = omega (arith, total-is-sum bs s v r a)
 
 pub other-total-row-breaks : (r : TableAnswer) (o x : List ℕ) → length o ≡ 50 →
     x ≡ text-shown ("TABLE 1" ∷ "ROW 4 3 2 0 0" ∷ "ROW 5 1 1 1 0" ∷ "ROW 6 0 0 2 0" ∷ []) → Table-says (text-shown text-a) r o x → ⊥
@@ -169,13 +232,17 @@ unfolding Holds reading
 other-total-row-breaks r o x l w a = differ _ _ refl (sym w ∙ a-in-50 r o x l .0 a .1)
 
 -- ALL SENT BACK: A is refused neither at spread 100 nor in 50 bytes
-pub sent-back-breaks-spread : (r : SpreadAnswer) → (refusal-of (r .outcome) .number ≡ 0 → ⊥) → Spread-says (text-shown text-a) 100 r → ⊥
-unfolding Holds placed-is refusal
-sent-back-breaks-spread r w a = w (ap (λ (f : Refusal). f .number) (a-at-100 r .0 a .0))
+pub sent-back-breaks-total : (r : TotalAnswer) → (refusal-of (r .outcome) .number ≡ 0 → ⊥) → Total-says (text-shown text-a) 100 r → ⊥
+unfolding Holds total-told
+sent-back-breaks-total r w a = w (number-told 0 0 0 _ (a-at-100 .0 r .0 a .0))
+
+pub sent-back-breaks-placement : (r : PlacementAnswer) → (refusal-of (r .outcome) .number ≡ 0 → ⊥) → Placement-says (text-shown text-a) 100 0 r → ⊥
+unfolding Holds placed-is
+sent-back-breaks-placement r w a = w (number-told 0 0 0 _ (a-at-100 .1 r .0 a .0))
 
 pub sent-back-breaks-table : (r : TableAnswer) (o x : List ℕ) → length o ≡ 50 → (refusal-of (r .outcome) .number ≡ 0 → ⊥) → Table-says (text-shown text-a) r o x → ⊥
-unfolding Holds table-told refusal
-sent-back-breaks-table r o x l w a = w (ap (λ (f : Refusal). f .number) (a-in-50 r o x l .0 a .0 .0))
+unfolding Holds table-told
+sent-back-breaks-table r o x l w a = w (number-told 0 0 0 _ (a-in-50 r o x l .0 a .0 .0))
 
 -- SPACE LEFT UNTOUCHED: behind A's table, where the space is short, and where the text is refused
 pub untouched-behind-breaks : (r : TableAnswer) → Table-says (text-shown text-a) r (replicate 51 255) (text-shown table-a ++ (255 ∷ [])) → ⊥
@@ -192,26 +259,26 @@ untouched-refused-breaks r a = differ _ _ refl (e-in-50 r (replicate 50 255) (re
 
 -- SHORT SPACE said without measuring the table: A's has 50 bytes
 pub short-of-50-breaks : (r : TableAnswer) (o x : List ℕ) → length o ≡ 50 → refusal-of (r .outcome) .number ≡ 8 → Table-says (text-shown text-a) r o x → ⊥
-unfolding Holds table-told refusal
-short-of-50-breaks r o x l w a = let e = ap (λ (f : Refusal). f .number) (a-in-50 r o x l .0 a .0 .0) in omega arith
+unfolding Holds table-told
+short-of-50-breaks r o x l w a = omega (arith, number-told 0 0 0 _ (a-in-50 r o x l .0 a .0 .0))
 
 pub enough-of-49-breaks : (r : TableAnswer) (o x : List ℕ) → length o ≡ 49 → refusal-of (r .outcome) .number ≡ 0 → Table-says (text-shown text-a) r o x → ⊥
-unfolding Holds table-told refusal
-enough-of-49-breaks r o x l w a = let e = ap (λ (f : Refusal). f .number) (a-in-49 r o x l .0 a .0 .0) in omega arith
+unfolding Holds table-told
+enough-of-49-breaks r o x l w a = omega (arith, number-told 8 0 0 _ (a-in-49 r o x l .0 a .0 .0))
 
--- THE ROW'S PLACEMENT REUSED up to the next row: the totals at spreads 2 and 3 are the same, but no one answer serves both
-pub between-totals : (q r : SpreadAnswer) → Spread-says (text-shown text-between) 2 q → Spread-says (text-shown text-between) 3 r → q .total .0 ≡ r .total .0
-unfolding Holds placed-is
-between-totals q r a b = between-at-2 q .0 a .1 ∙ sym (between-at-3 r .0 b .1)
+-- THE ROW'S PLACEMENT REUSED up to the next row: the totals at spreads 2 and 3 are the same, but no one placement serves both
+pub between-totals : (q r : TotalAnswer) → Total-says (text-shown text-between) 2 q → Total-says (text-shown text-between) 3 r → q .total .0 ≡ r .total .0
+unfolding Holds total-told
+between-totals q r a b = between-at-2 .0 q .0 a .1 ∙ sym (between-at-3 .0 r .0 b .1)
 
-pub reused-placement-breaks : (r : SpreadAnswer) → Spread-says (text-shown text-between) 2 r → Spread-says (text-shown text-between) 3 r → ⊥
+pub reused-placement-breaks : (r : PlacementAnswer) → Placement-says (text-shown text-between) 2 1 r → Placement-says (text-shown text-between) 3 1 r → ⊥
 unfolding Holds placed-is padded same-bytes
-reused-placement-breaks r a b = differ (padded 8 (1 ∷ 0 ∷ [])) (padded 8 (0 ∷ 1 ∷ [])) refl (sym (between-at-2 r .0 a .2) ∙ between-at-3 r .0 b .2)
+reused-placement-breaks r a b = other-separations _ 1 (1 ∷ 0 ∷ []) (0 ∷ 1 ∷ []) (1 ∷ 0 ∷ 0 ∷ []) r refl (between-at-2 .1 r .0 a .2) (between-at-3 .1 r .0 b)
 
 -- EACH CHANNEL'S LEAST SEPARATION ALONE, and added: A is each channel of B by itself
-pub added-alone-breaks : (q r : SpreadAnswer) → Spread-says (text-shown text-a) 5 q → r .total .0 ≡ q .total .0 + q .total .0 → Spread-says (text-shown text-b) 5 r → ⊥
-unfolding Holds placed-is
-added-alone-breaks q r a w b = omega (arith, a-at-5 q .0 a .1, b-at-5 r .0 b .1)
+pub added-alone-breaks : (q r : TotalAnswer) → Total-says (text-shown text-a) 5 q → r .total .0 ≡ q .total .0 + q .total .0 → Total-says (text-shown text-b) 5 r → ⊥
+unfolding Holds total-told
+added-alone-breaks q r a w b = omega (arith, a-at-5 .0 q .0 a .1, b-at-5 .0 r .0 b .1)
 
 -- A PAGE COUNTED ONE COLUMN EARLY: A's first path runs on track 1 from column 0 on, where document 02's runs on track 0 to column 1
 pub early-count-breaks : (r : TableAnswer) (o x : List ℕ) → length o ≡ 207 →
@@ -231,27 +298,47 @@ a-drawn-at-4 : Drawable (stack-in (text-shown text-a)) 4 (2 ∷ []) (0 ∷ 0 ∷
 unfolding reading replying all-rising rising rises-above
 a-drawn-at-4 = legal-drawable (stack-in (text-shown text-a)) 4 (2 ∷ []) (0 ∷ 0 ∷ []) refl refl
 
-pub smaller-drawn-without-floor : (r : SpreadAnswer) → Spread-says (text-shown text-a-3) 4 r → Drawable (stack-in (text-shown text-a)) 4 (2 ∷ []) (0 ∷ 0 ∷ []) × (2 < r .total .0)
-unfolding Holds placed-is
-smaller-drawn-without-floor r a = (a-drawn-at-4, omega (arith, a-3-at-4 r .0 a .1))
+pub smaller-drawn-without-floor : (r : TotalAnswer) → Total-says (text-shown text-a-3) 4 r → Drawable (stack-in (text-shown text-a)) 4 (2 ∷ []) (0 ∷ 0 ∷ []) × (2 < r .total .0)
+unfolding Holds total-told
+smaller-drawn-without-floor r a = (a-drawn-at-4, omega (arith, a-3-at-4 .0 r .0 a .1))
 
 pub not-drawn-with-floor : Drawable (stack-in (text-shown text-a-3)) 4 (2 ∷ []) (0 ∷ 0 ∷ []) → ⊥
 unfolding reading paths.Channels-drawn
 not-drawn-with-floor d = omega (arith, d .drawn .0)
 
-pub floor-ignored-breaks : (r : SpreadAnswer) → tracks-of (r .separations) ≡ padded 8 (2 ∷ []) → Spread-says (text-shown text-a-3) 4 r → ⊥
-unfolding Holds placed-is padded same-bytes
-floor-ignored-breaks r w a = differ (padded 8 (2 ∷ [])) (padded 8 (3 ∷ [])) refl (sym w ∙ a-3-at-4 r .0 a .2)
+pub floor-ignored-breaks-total : (r : TotalAnswer) → r .total .0 ≡ 2 → Total-says (text-shown text-a-3) 4 r → ⊥
+unfolding Holds total-told
+floor-ignored-breaks-total r w a = omega (arith, a-3-at-4 .0 r .0 a .1)
+
+pub floor-ignored-breaks : (r : PlacementAnswer) → tracks-of (r .separations) ≡ padded 8 (2 ∷ []) → Placement-says (text-shown text-a-3) 4 3 r → ⊥
+unfolding Holds padded same-bytes
+floor-ignored-breaks r w a = other-separations _ _ (2 ∷ []) (3 ∷ []) _ r refl w (a-3-at-4 .1 r .0 a)
+
+pub floor-ignored-breaks-below : (r : PlacementAnswer) → tracks-of (r .separations) ≡ padded 8 (2 ∷ []) → Placement-says (text-shown text-a-3) 4 2 r → ⊥
+unfolding Holds padded same-bytes
+floor-ignored-breaks-below r w a = other-separations _ _ (2 ∷ []) [] _ r refl w (a-3-4-for-2 r .0 a)
 
 -- THE FLOOR IGNORED IN ONE CHANNEL, the second of B
-pub one-floor-ignored-breaks : (r : SpreadAnswer) → tracks-of (r .separations) ≡ padded 8 (2 ∷ 0 ∷ []) → Spread-says (text-shown text-b-2-5) 9 r → ⊥
-unfolding Holds placed-is padded same-bytes
-one-floor-ignored-breaks r w a = differ (padded 8 (2 ∷ 0 ∷ [])) (padded 8 (2 ∷ 5 ∷ [])) refl (sym w ∙ b-2-5-at-9 r .0 a .2)
+pub one-floor-ignored-breaks-total : (r : TotalAnswer) → r .total .0 ≡ 2 → Total-says (text-shown text-b-2-5) 9 r → ⊥
+unfolding Holds total-told
+one-floor-ignored-breaks-total r w a = omega (arith, b-2-5-at-9 .0 r .0 a .1)
+
+pub one-floor-ignored-breaks : (r : PlacementAnswer) → tracks-of (r .separations) ≡ padded 8 (2 ∷ 0 ∷ []) → Placement-says (text-shown text-b-2-5) 9 7 r → ⊥
+unfolding Holds padded same-bytes
+one-floor-ignored-breaks r w a = other-separations _ _ (2 ∷ 0 ∷ []) (2 ∷ 5 ∷ []) _ r refl w (b-2-5-at-9 .1 r .0 a)
+
+pub one-floor-ignored-breaks-below : (r : PlacementAnswer) → tracks-of (r .separations) ≡ padded 8 (2 ∷ 4 ∷ []) → Placement-says (text-shown text-b-2-5) 9 6 r → ⊥
+unfolding Holds padded same-bytes
+one-floor-ignored-breaks-below r w a = other-separations _ _ (2 ∷ 4 ∷ []) [] _ r refl w (b-2-5-for-6 r .0 a)
 
 -- THE FLOOR ADDED to the separation that the pairs need: 2 and 3
-pub floor-added-breaks : (r : SpreadAnswer) → tracks-of (r .separations) ≡ padded 8 (5 ∷ []) → Spread-says (text-shown text-a-3) 4 r → ⊥
-unfolding Holds placed-is padded same-bytes
-floor-added-breaks r w a = differ (padded 8 (5 ∷ [])) (padded 8 (3 ∷ [])) refl (sym w ∙ a-3-at-4 r .0 a .2)
+pub floor-added-breaks-total : (r : TotalAnswer) → r .total .0 ≡ 5 → Total-says (text-shown text-a-3) 4 r → ⊥
+unfolding Holds total-told
+floor-added-breaks-total r w a = omega (arith, a-3-at-4 .0 r .0 a .1)
+
+pub floor-added-breaks : (r : PlacementAnswer) → tracks-of (r .separations) ≡ padded 8 (5 ∷ []) → Placement-says (text-shown text-a-3) 4 3 r → ⊥
+unfolding Holds padded same-bytes
+floor-added-breaks r w a = other-separations _ _ (5 ∷ []) (3 ∷ []) _ r refl w (a-3-at-4 .1 r .0 a)
 
 -- THE GREATEST TOTAL: eight channels with floor 64. It is a specimen too, but one that takes too long to compute: the floors are the answer
 floors-answered : Answer (stack-in (text-shown text-512)) 1 (replicate 8 64) (replicate 9 0)
@@ -259,11 +346,92 @@ unfolding reading replying floors-of all-covered zeros-of
 floors-answered = floors-answer (stack-in (text-shown text-512)) 1 (accepted-within (text-shown text-512) refl) (omega arith) refl
 
 pub greatest-total : Holds (spread-gives text-512 1 512 (replicate 8 64) (replicate 9 0))
-unfolding reading replying Holds Spread-says Answered sum
-greatest-total r =
+unfolding reading replying Holds Total-says Placement-says Placed-or
+greatest-total =
     let k = stack-in (text-shown text-512) in (
-      (λ a.
-          let same = answer-alone k 1 (a .0) (a .1) (replicate 8 64) (replicate 9 0) (a .2) floors-answered in
-          rw (same .0, same .1) at (a .3)),
-      (λ p. (replicate 8 64, replicate 9 0, floors-answered, p)),
+      (λ r. least-told fine k 1 r 512 (answer-total-is k 1 _ _ floors-answered)),
+      (λ r. placement-told k 1 512 r _ _ (answer-placed k 1 512 _ _ floors-answered refl)),
     )
+
+-- A TOTAL ABOVE THE LEAST from least_total
+pub greater-total-breaks : (r : TotalAnswer) → 2 < r .total .0 → Total-says (text-shown text-b) 6 r → ⊥
+unfolding Holds total-told
+greater-total-breaks r w a = omega (arith, b-at-6 .0 r .0 a .1)
+
+-- THE STATED TOTAL IGNORED: no one placement serves totals 2 and 3
+pub ignored-total-breaks : (r : PlacementAnswer) → Placement-says (text-shown text-b) 6 2 r → Placement-says (text-shown text-b) 6 3 r → ⊥
+unfolding Holds placed-is
+ignored-total-breaks r a b = omega (arith, b-at-6 .1 r .0 a .1, b-6-for-3 r .0 b .1)
+
+-- A PLACEMENT WITH ANOTHER TOTAL than the stated one, for every text, spread and stated total
+pub other-than-stated-breaks : (bs : List ℕ) (s v : ℕ) (r : PlacementAnswer) → refusal-of (r .outcome) .number ≡ 0 → (sum (tracks-of (r .separations)) ≡ v → ⊥) →
+    Placement-says bs s v r → ⊥
+other-than-stated-breaks bs s v r z w a = w (placement-best bs s v r a .total-is z .1)
+
+-- OTHER SEPARATIONS FOR TOTAL 3 than 0 and 3, B at spread 6: a placement with a smaller total, and two that are legal and have that total, but are later
+other-for-3-breaks : (ts : List ℕ) (r : PlacementAnswer) → same-bytes (padded 8 ts) (padded 8 (0 ∷ 3 ∷ [])) ≡ false → tracks-of (r .separations) ≡ padded 8 ts →
+    Placement-says (text-shown text-b) 6 3 r → ⊥
+unfolding Holds
+other-for-3-breaks ts r d w a = other-separations _ _ ts (0 ∷ 3 ∷ []) _ r d w (b-6-for-3 r .0 a)
+
+pub smaller-total-breaks : (r : PlacementAnswer) → tracks-of (r .separations) ≡ padded 8 (0 ∷ 2 ∷ []) → Placement-says (text-shown text-b) 6 3 r → ⊥
+unfolding padded same-bytes
+smaller-total-breaks r w a = other-for-3-breaks (0 ∷ 2 ∷ []) r refl w a
+
+pub surplus-in-first-breaks : (r : PlacementAnswer) → tracks-of (r .separations) ≡ padded 8 (3 ∷ 0 ∷ []) → Placement-says (text-shown text-b) 6 3 r → ⊥
+unfolding padded same-bytes
+surplus-in-first-breaks r w a = other-for-3-breaks (3 ∷ 0 ∷ []) r refl w a
+
+pub surplus-added-first-breaks : (r : PlacementAnswer) → tracks-of (r .separations) ≡ padded 8 (1 ∷ 2 ∷ []) → Placement-says (text-shown text-b) 6 3 r → ⊥
+unfolding padded same-bytes
+surplus-added-first-breaks r w a = other-for-3-breaks (1 ∷ 2 ∷ []) r refl w a
+
+pub later-legal : let k = stack-in (text-shown text-b) in
+    (legal k 6 (3 ∷ 0 ∷ []) (0 ∷ 2 ∷ 0 ∷ []) ≡ true) × (legal k 6 (1 ∷ 2 ∷ []) (1 ∷ 0 ∷ 0 ∷ []) ≡ true)
+unfolding reading replying
+later-legal = (refl, refl)
+
+-- THE SURPLUS ADDED TO THE ANSWER'S LAST SEPARATION: legal, but for one track more a smaller first separation serves
+pub surplus-added-last-breaks : (r : PlacementAnswer) → tracks-of (r .separations) ≡ padded 8 (1 ∷ 1 ∷ []) → Placement-says (text-shown text-moved) 2 2 r → ⊥
+unfolding Holds padded same-bytes
+surplus-added-last-breaks r w a = other-separations _ _ (1 ∷ 1 ∷ []) (0 ∷ 2 ∷ []) _ r refl w (moved-for-2 r .0 a)
+
+pub surplus-added-last-legal : legal (stack-in (text-shown text-moved)) 2 (1 ∷ 1 ∷ []) (0 ∷ 1 ∷ 0 ∷ []) ≡ true
+unfolding reading replying
+surplus-added-last-legal = refl
+
+-- THE ANSWER'S POSITIONS KEPT: legal for a greater total too, but later
+pub kept-positions-breaks : (r : PlacementAnswer) → columns-of (r .positions) ≡ padded 9 (1 ∷ 0 ∷ []) → Placement-says (text-shown text-a) 5 2 r → ⊥
+unfolding Holds placed-is padded same-bytes
+kept-positions-breaks r w a = differ (padded 9 (1 ∷ 0 ∷ [])) (padded 9 (0 ∷ 0 ∷ [])) refl (sym w ∙ a-5-for-2 r .0 a .3)
+
+pub kept-positions-legal : legal (stack-in (text-shown text-a)) 5 (2 ∷ []) (1 ∷ 0 ∷ []) ≡ true
+unfolding reading replying
+kept-positions-legal = refl
+
+-- THE LEAST TOTAL REFUSED, and a total below it not refused
+pub least-refused-breaks : (r : PlacementAnswer) → refusal-of (r .outcome) .number ≡ 10 → Placement-says (text-shown text-b) 6 2 r → ⊥
+unfolding Holds placed-is
+least-refused-breaks r w a = omega (arith, number-told 0 0 0 _ (b-at-6 .1 r .0 a .0))
+
+pub below-not-refused-breaks : (r : PlacementAnswer) → refusal-of (r .outcome) .number ≡ 0 → Placement-says (text-shown text-b) 6 1 r → ⊥
+unfolding Holds placed-is
+below-not-refused-breaks r w a = omega (arith, number-told 10 0 0 _ (b-6-for-1 r .0 a .0))
+
+-- 9 BEFORE 10, and 9 at all: a spread above 63 is too broad for a page alone
+pub broad-first-breaks : (r : PlacementAnswer) → refusal-of (r .outcome) .number ≡ 9 → Placement-says (text-shown text-a-3) 100 2 r → ⊥
+unfolding Holds placed-is
+broad-first-breaks r w a = omega (arith, number-told 10 0 0 _ (a-3-100-for-2 r .0 a .0))
+
+pub broad-breaks : (r : PlacementAnswer) → refusal-of (r .outcome) .number ≡ 9 → Placement-says (text-shown text-a) 100 7 r → ⊥
+unfolding Holds placed-is
+broad-breaks r w a = omega (arith, number-told 0 0 0 _ (a-100-for-7 r .0 a .0))
+
+-- 10 BEFORE 7, and before a refusal of the text, whatever the total
+pub unmet-before-narrow-breaks : (v : ℕ) (r : PlacementAnswer) → refusal-of (r .outcome) .number ≡ 10 → Placement-says (text-shown text-a) 3 v r → ⊥
+unfolding Holds placed-is
+unmet-before-narrow-breaks v r w a = omega (arith, number-told 7 0 0 _ (a-at-3 .1 v r .0 a .0))
+
+pub unmet-before-text-breaks : (v : ℕ) (r : PlacementAnswer) → refusal-of (r .outcome) .number ≡ 10 → Placement-says (text-shown text-e) 100 v r → ⊥
+unfolding Holds placed-is
+unmet-before-text-breaks v r w a = omega (arith, number-told 2 1 0 _ (e-at-100 .1 v r .0 a .0))

@@ -13,26 +13,39 @@ use Rattle.routing.specs.Paths.{Drawable}
 use Rattle.text.specs.Text.{text-refusal, stack-in}
 use Rattle.text.specs.Outcome.{refusal-of}
 use Rattle.trial.specs.Legal.{all-zero}
-use Rattle.nabetsu.specs.Entry.{Spread-says, Table-says, Trial-says, Table-coded, Spread-coded}
+use Rattle.nabetsu.specs.Entry.{Total-says, Placement-says, Table-says, Trial-says, Total-coded, Table-coded, Placement-coded}
 use Rattle.nabetsu.specs.Pages.{Page-says, Page-coded}
-use Rattle.nabetsu.specs.declared.SpreadAnswer.{SpreadAnswer}
+use Rattle.nabetsu.specs.declared.PlacementAnswer.{PlacementAnswer}
 use Rattle.nabetsu.specs.declared.TableAnswer.{TableAnswer}
+use Rattle.nabetsu.specs.declared.TotalAnswer.{TotalAnswer}
 use Rattle.nabetsu.specs.declared.TrialAnswer.{TrialAnswer}
 
--- ONE SPREAD: refusal, total, separations and positions
-pub record Same-spread (r q : SpreadAnswer) : Type 0 where
+-- THE LEAST TOTAL: refusal and total
+pub record Same-total (r q : TotalAnswer) : Type 0 where
+  pub refusals : refusal-of (r .outcome) ≡ refusal-of (q .outcome)
+  pub totals : r .total .0 ≡ q .total .0
+
+unfoldable pub Total-says-alone : Type 0
+Total-says-alone = (bs : List ℕ) (s : ℕ) (r q : TotalAnswer) → Total-says bs s r → Total-says bs s q → Same-total r q
+
+-- the same in one number
+unfoldable pub Total-coded-alone : Type 0
+Total-coded-alone = (bs : List ℕ) (s r q : ℕ) → Total-coded bs s r → Total-coded bs s q → r ≡ q
+
+-- THE PLACEMENT FOR A TOTAL: refusal, total, separations and positions
+pub record Same-placement (r q : PlacementAnswer) : Type 0 where
   pub refusals : refusal-of (r .outcome) ≡ refusal-of (q .outcome)
   pub totals : r .total .0 ≡ q .total .0
   pub separations : tracks-of (r .separations) ≡ tracks-of (q .separations)
   pub positions : columns-of (r .positions) ≡ columns-of (q .positions)
 
-unfoldable pub Spread-alone : Type 0
-Spread-alone = (bs : List ℕ) (s : ℕ) (r q : SpreadAnswer) → Spread-says bs s r → Spread-says bs s q → Same-spread r q
+unfoldable pub Placement-says-alone : Type 0
+Placement-says-alone = (bs : List ℕ) (s v : ℕ) (r q : PlacementAnswer) → Placement-says bs s v r → Placement-says bs s v q → Same-placement r q
 
 -- the same in numbers
-unfoldable pub Spread-coded-alone : Type 0
-Spread-coded-alone =
-    (bs : List ℕ) (s r q : ℕ) (o p x y : List ℕ) → length o ≡ length p → Spread-coded bs s r o x → Spread-coded bs s q p y → (r ≡ q) × (x ≡ y)
+unfoldable pub Placement-coded-alone : Type 0
+Placement-coded-alone =
+    (bs : List ℕ) (s v r q : ℕ) (o p x y : List ℕ) → length o ≡ length p → Placement-coded bs s v r o x → Placement-coded bs s v q p y → (r ≡ q) × (x ≡ y)
 
 -- THE TABLE: refusal, bytes written and every byte of the output
 pub record Same-table (r q : TableAnswer) (x y : List ℕ) : Type 0 where

@@ -5,10 +5,10 @@ use mathlib.Core.List.{List, [], _++_}
 use Prim.Native.Nat.{ℕ, zero, suc, _-_}
 use lib.Dec.{leb, eqb}
 use lib.ListN.{length, replicate}
-use Rattle.stack.specs.Stack.{Stack, sum}
+use Rattle.stack.specs.Stack.{Stack}
 use Rattle.lines.specs.Lines.{same-bytes}
-use Rattle.text.specs.Text.{Refusal, refusal, text-refusal, stack-in}
-use Rattle.answer.specs.Solve.{answer-separations, answer-positions}
+use Rattle.text.specs.Text.{Refusal, refusal, fine, text-refusal, stack-in}
+use Rattle.answer.specs.Solve.{answer-total, separations-for, positions-for, answer-separations, answer-positions}
 use Rattle.rows.specs.Walk.{rows-of}
 use Rattle.writing.specs.TableText.{table-text}
 use Rattle.page.specs.Page.{channel-page}
@@ -18,27 +18,49 @@ use Rattle.nabetsu.specs.Pages.{page-refusal}
 unfoldable pub same-refusal : (a b : Refusal) → Bool
 same-refusal a b = eqb (a .number) (b .number) && (eqb (a .line) (b .line) && eqb (a .field) (b .field))
 
--- ONE SPREAD
-pub record Spread-reply : Type 0 where
+-- THE LEAST TOTAL
+pub record Total-reply : Type 0 where
+  pub refused : Refusal
+  pub total : ℕ
+
+unfoldable pub total-is : Refusal → (total : ℕ) → Total-reply
+total-is f v = record { refused = f; total = v }
+
+unfoldable pub same-total : (a b : Total-reply) → Bool
+same-total a b = same-refusal (a .refused) (b .refused) && eqb (a .total) (b .total)
+
+unfoldable pub total-for : (number : ℕ) → Refusal → Stack → (s : ℕ) → Total-reply
+total-for zero f k s = total-is f (answer-total k s)
+total-for (suc n) f k s = total-is f 0
+
+unfoldable pub total-reply : List ℕ → (s : ℕ) → Total-reply
+total-reply bs s = total-for (spread-refusal bs s .number) (spread-refusal bs s) (stack-in bs) s
+
+-- THE PLACEMENT FOR A TOTAL
+pub record Placement-reply : Type 0 where
   pub refused : Refusal
   pub total : ℕ
   pub separations : List ℕ
   pub positions : List ℕ
 
-unfoldable pub placement : Refusal → (total : ℕ) → (ts xs : List ℕ) → Spread-reply
+unfoldable pub placement : Refusal → (total : ℕ) → (ts xs : List ℕ) → Placement-reply
 placement f v ts xs = record { refused = f; total = v; separations = ts; positions = xs }
 
-unfoldable pub same-placement : (a b : Spread-reply) → Bool
+unfoldable pub same-placement : (a b : Placement-reply) → Bool
 same-placement a b =
     same-refusal (a .refused) (b .refused)
     && (eqb (a .total) (b .total) && (same-bytes (a .separations) (b .separations) && same-bytes (a .positions) (b .positions)))
 
-unfoldable pub placement-for : (number : ℕ) → Refusal → Stack → (s : ℕ) → Spread-reply
-placement-for zero f k s = placement f (sum (answer-separations k s)) (answer-separations k s) (answer-positions k s)
-placement-for (suc n) f k s = placement f 0 [] []
+unfoldable pub if-met : (met : Bool) → Stack → (s v : ℕ) → Placement-reply
+if-met true k s v = placement fine v (separations-for k s v) (positions-for k s v)
+if-met false k s v = placement (refusal 10 0 0) 0 [] []
 
-unfoldable pub spread-reply : List ℕ → (s : ℕ) → Spread-reply
-spread-reply bs s = placement-for (spread-refusal bs s .number) (spread-refusal bs s) (stack-in bs) s
+unfoldable pub placement-for : (number : ℕ) → Refusal → Stack → (s v : ℕ) → Placement-reply
+placement-for zero f k s v = if-met (leb (answer-total k s) v) k s v
+placement-for (suc n) f k s v = placement f 0 [] []
+
+unfoldable pub placement-reply : List ℕ → (s v : ℕ) → Placement-reply
+placement-reply bs s v = placement-for (spread-refusal bs s .number) (spread-refusal bs s) (stack-in bs) s v
 
 -- THE TABLE
 pub record Table-reply : Type 0 where

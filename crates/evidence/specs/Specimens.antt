@@ -1,5 +1,5 @@
 -- TRUSTED. Document 01's specimen cards: one table of texts, questions and replies, and what each says of an entry's result. proofs/Specimens.antt proves all
--- of them. Document 01, "Specimen cards"; their pages by document 02, P1, and with floors by P2. Assumes nothing: these are definitions.
+-- of them. Document 01, "Specimen cards"; their pages by document 02, P1, with floors by P2, and for a stated total by P3. Assumes nothing: these are definitions.
 use mathlib.Core.Path.{_≡_}
 use mathlib.Core.Bool.{Bool, true, false, cond}
 use mathlib.Core.List.{List, [], _∷_, _++_}
@@ -12,10 +12,11 @@ use lib.ListN.{length, replicate}
 use Rattle.numbers.specs.Lists.{padded}
 use Rattle.text.specs.Text.{refusal}
 use Rattle.text.specs.Outcome.{refusal-of}
-use Rattle.nabetsu.specs.Entry.{placed-is, table-told, Spread-says, Table-says, Trial-says}
+use Rattle.nabetsu.specs.Entry.{total-told, Total-says, placed-is, Placement-says, table-told, Table-says, Trial-says}
 use Rattle.nabetsu.specs.Pages.{Page-says}
-use Rattle.nabetsu.specs.declared.SpreadAnswer.{SpreadAnswer}
+use Rattle.nabetsu.specs.declared.PlacementAnswer.{PlacementAnswer}
 use Rattle.nabetsu.specs.declared.TableAnswer.{TableAnswer}
+use Rattle.nabetsu.specs.declared.TotalAnswer.{TotalAnswer}
 use Rattle.nabetsu.specs.declared.TrialAnswer.{TrialAnswer}
 
 -- TEXTS as document 01 prints them: a list of lines, tabs shown as spaces
@@ -39,10 +40,13 @@ unfoldable pub page-shown : List String → List ℕ
 page-shown [] = []
 page-shown (l ∷ ls) = dotted l 68 ++ page-shown ls
 
--- a SPECIMEN: a text, what is asked of it, and the reply
+-- a SPECIMEN: a text, what is asked of it, and the reply. Of a spread both questions are asked: the least total, and the placement for it, or for any total where
+-- the spread is refused
 pub data Specimen : Type 0 where
   spread-gives : (text : List String) → (s : ℕ) → (total : ℕ) → (separations positions : List ℕ) → Specimen
   spread-refused : (text : List String) → (s : ℕ) → (number line field : ℕ) → Specimen
+  place-gives : (text : List String) → (s total : ℕ) → (separations positions : List ℕ) → Specimen
+  place-refused : (text : List String) → (s total : ℕ) → (number line field : ℕ) → Specimen
   table-gives : (text : List String) → (space : ℕ) → (table : List String) → Specimen
   table-refused : (text : List String) → (space : ℕ) → (number line field : ℕ) → Specimen
   trial-gives : (text : List String) → (s : ℕ) → (separations positions : List ℕ) → (verdict : Bool) → Specimen
@@ -52,8 +56,14 @@ pub data Specimen : Type 0 where
 
 -- what a specimen says of an entry: a result is promised exactly if it is the reply
 unfoldable pub Holds : Specimen → Type 0
-Holds (spread-gives t s v ts xs) = (r : SpreadAnswer) → Spread-says (text-shown t) s r ↔ placed-is (refusal 0 0 0) v ts xs r
-Holds (spread-refused t s n l f) = (r : SpreadAnswer) → Spread-says (text-shown t) s r ↔ placed-is (refusal n l f) 0 [] [] r
+Holds (spread-gives t s v ts xs) =
+    ((r : TotalAnswer) → Total-says (text-shown t) s r ↔ total-told (refusal 0 0 0) v r)
+    × ((r : PlacementAnswer) → Placement-says (text-shown t) s v r ↔ placed-is (refusal 0 0 0) v ts xs r)
+Holds (spread-refused t s n l f) =
+    ((r : TotalAnswer) → Total-says (text-shown t) s r ↔ total-told (refusal n l f) 0 r)
+    × ((v : ℕ) (r : PlacementAnswer) → Placement-says (text-shown t) s v r ↔ placed-is (refusal n l f) 0 [] [] r)
+Holds (place-gives t s v ts xs) = (r : PlacementAnswer) → Placement-says (text-shown t) s v r ↔ placed-is (refusal 0 0 0) v ts xs r
+Holds (place-refused t s v n l f) = (r : PlacementAnswer) → Placement-says (text-shown t) s v r ↔ placed-is (refusal n l f) 0 [] [] r
 Holds (table-gives t n a) =
     (r : TableAnswer) (o x : List ℕ) → length o ≡ n →
     Table-says (text-shown t) r o x
@@ -149,6 +159,10 @@ text-between = "STACK 2" ∷ "PART 2" ∷ "PART 1" ∷ "PART 1" ∷ "NETS 0 1" �
 
 abbrev pub table-between : List String
 table-between = "TABLE 2" ∷ "ROW 2 1 1 0 0 1 0" ∷ "ROW 4 0 0 0 2 1 0" ∷ []
+
+-- nor this: at spread 2 the answer has 1 track in channel 1, but the placement for one track more has none there
+abbrev pub text-moved : List String
+text-moved = "STACK 2" ∷ "PART 1" ∷ "PART 1" ∷ "PART 2" ∷ "NETS 0 1" ∷ "NETS 0 1 1 2" ∷ []
 
 -- A'S PAGE at spread 4: separation 2, both strips at 0
 abbrev pub page-a : List String
@@ -328,6 +342,44 @@ specimens =
     ∷ table-refused (with-lines text-a-1 ("GAP 1 1" ∷ [])) 50 6 6 2
     ∷ table-refused (with-lines text-a-1 ("GAP 1 65" ∷ [])) 50 3 6 3
     ∷ table-refused (with-lines text-b ("GAP 2 1" ∷ "GAP 1 1" ∷ [])) 50 6 8 2
+    -- STATED TOTALS. Of A: below the least, above it, where a greater separation leaves the strips further left, and the greatest
+    ∷ place-refused text-a 4 0 10 0 0
+    ∷ place-refused text-a 4 1 10 0 0
+    ∷ place-gives text-a 4 3 (3 ∷ []) (0 ∷ 0 ∷ [])
+    ∷ place-gives text-a 4 4294967295 (4294967295 ∷ []) (0 ∷ 0 ∷ [])
+    ∷ place-gives text-a 5 2 (2 ∷ []) (0 ∷ 0 ∷ [])
+    ∷ place-gives text-a 6 1 (1 ∷ []) (1 ∷ 0 ∷ [])
+    ∷ place-gives text-a 100 7 (7 ∷ []) (0 ∷ 0 ∷ [])
+    -- of B: what is left over goes into the last channel
+    ∷ place-refused text-b 5 2 10 0 0
+    ∷ place-gives text-b 5 4 (1 ∷ 3 ∷ []) (1 ∷ 0 ∷ 0 ∷ [])
+    ∷ place-gives text-b 5 5 (1 ∷ 4 ∷ []) (1 ∷ 0 ∷ 0 ∷ [])
+    ∷ place-refused text-b 6 1 10 0 0
+    ∷ place-gives text-b 6 2 (0 ∷ 2 ∷ []) (2 ∷ 0 ∷ 0 ∷ [])
+    ∷ place-gives text-b 6 3 (0 ∷ 3 ∷ []) (2 ∷ 0 ∷ 0 ∷ [])
+    ∷ place-gives text-b 6 5 (0 ∷ 5 ∷ []) (2 ∷ 0 ∷ 0 ∷ [])
+    ∷ place-gives text-b 6 4294967295 (0 ∷ 4294967295 ∷ []) (2 ∷ 0 ∷ 0 ∷ [])
+    ∷ place-gives text-b 7 2 (0 ∷ 2 ∷ []) (2 ∷ 0 ∷ 0 ∷ [])
+    -- of C, without pairs, and of D
+    ∷ place-gives text-c 5 3 (3 ∷ []) (0 ∷ 0 ∷ [])
+    ∷ place-refused text-d 1 0 10 0 0
+    ∷ place-gives text-d 2 1 (1 ∷ []) (0 ∷ 0 ∷ [])
+    -- a greater total moves strips, and lessens the first separation
+    ∷ place-gives text-between 2 2 (1 ∷ 1 ∷ []) (0 ∷ 0 ∷ 0 ∷ [])
+    ∷ spread-gives text-moved 2 1 (1 ∷ 0 ∷ []) (0 ∷ 1 ∷ 0 ∷ [])
+    ∷ place-gives text-moved 2 2 (0 ∷ 2 ∷ []) (1 ∷ 0 ∷ 0 ∷ [])
+    -- with floors; at a spread too broad for a page a total below the floor is 10
+    ∷ place-refused text-a-3 4 2 10 0 0
+    ∷ place-gives text-a-3 4 4 (4 ∷ []) (0 ∷ 0 ∷ [])
+    ∷ place-refused text-a-3 100 2 10 0 0
+    ∷ place-gives text-b-1 6 3 (1 ∷ 2 ∷ []) (1 ∷ 0 ∷ 0 ∷ [])
+    ∷ place-refused text-b-2-5 9 6 10 0 0
+    ∷ place-gives text-b-2-5 9 8 (2 ∷ 6 ∷ []) (0 ∷ 0 ∷ 0 ∷ [])
+    -- 1 to 6, then 7, before 10
+    ∷ place-refused text-e 100 0 2 1 0
+    ∷ place-refused text-h 3 0 6 4 4
+    ∷ place-refused text-a 3 0 7 0 0
+    ∷ place-refused text-a 3 4294967295 7 0 0
     ∷ []
 
 -- every one of them holds
