@@ -314,6 +314,7 @@ pub floor-ignored-breaks : (r : PlacementAnswer) → tracks-of (r .separations) 
 unfolding Holds padded same-bytes
 floor-ignored-breaks r w a = other-separations _ _ (2 ∷ []) (3 ∷ []) _ r refl w (a-3-at-4 .1 r .0 a)
 
+-- and where the stated total is below the floor
 pub floor-ignored-breaks-below : (r : PlacementAnswer) → tracks-of (r .separations) ≡ padded 8 (2 ∷ []) → Placement-says (text-shown text-a-3) 4 2 r → ⊥
 unfolding Holds padded same-bytes
 floor-ignored-breaks-below r w a = other-separations _ _ (2 ∷ []) [] _ r refl w (a-3-4-for-2 r .0 a)

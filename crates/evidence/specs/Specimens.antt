@@ -1,5 +1,5 @@
 -- TRUSTED. Document 01's specimen cards: one table of texts, questions and replies, and what each says of an entry's result. proofs/Specimens.antt proves all
--- of them. Document 01, "Specimen cards"; their pages by document 02, P1, with floors by P2, and for a stated total by P3. Assumes nothing: these are definitions.
+-- of them. Document 01, "Specimen cards"; document 02: their pages by P1, floors by P2, stated totals by P3. Assumes nothing: these are definitions.
 use mathlib.Core.Path.{_≡_}
 use mathlib.Core.Bool.{Bool, true, false, cond}
 use mathlib.Core.List.{List, [], _∷_, _++_}
@@ -40,8 +40,8 @@ unfoldable pub page-shown : List String → List ℕ
 page-shown [] = []
 page-shown (l ∷ ls) = dotted l 68 ++ page-shown ls
 
--- a SPECIMEN: a text, what is asked of it, and the reply. Of a spread both questions are asked: the least total, and the placement for it, or for any total where
--- the spread is refused
+-- a SPECIMEN: a text, what is asked of it, and the reply. spread-gives and spread-refused are about two questions: the least total in a spread, and the placement
+-- for it, or for any total where the spread is refused
 pub data Specimen : Type 0 where
   spread-gives : (text : List String) → (s : ℕ) → (total : ℕ) → (separations positions : List ℕ) → Specimen
   spread-refused : (text : List String) → (s : ℕ) → (number line field : ℕ) → Specimen
@@ -160,7 +160,7 @@ text-between = "STACK 2" ∷ "PART 2" ∷ "PART 1" ∷ "PART 1" ∷ "NETS 0 1" �
 abbrev pub table-between : List String
 table-between = "TABLE 2" ∷ "ROW 2 1 1 0 0 1 0" ∷ "ROW 4 0 0 0 2 1 0" ∷ []
 
--- nor this: at spread 2 the answer has 1 track in channel 1, but the placement for one track more has none there
+-- not of document 01: at spread 2 the answer has a track in channel 1, and the placement for one track more has none there
 abbrev pub text-moved : List String
 text-moved = "STACK 2" ∷ "PART 1" ∷ "PART 1" ∷ "PART 2" ∷ "NETS 0 1" ∷ "NETS 0 1 1 2" ∷ []
 
@@ -342,7 +342,7 @@ specimens =
     ∷ table-refused (with-lines text-a-1 ("GAP 1 1" ∷ [])) 50 6 6 2
     ∷ table-refused (with-lines text-a-1 ("GAP 1 65" ∷ [])) 50 3 6 3
     ∷ table-refused (with-lines text-b ("GAP 2 1" ∷ "GAP 1 1" ∷ [])) 50 6 8 2
-    -- STATED TOTALS. Of A: below the least, above it, where a greater separation leaves the strips further left, and the greatest
+    -- stated totals of A: below the least one and above it, up to the greatest number; with a greater separation strips can be further left
     ∷ place-refused text-a 4 0 10 0 0
     ∷ place-refused text-a 4 1 10 0 0
     ∷ place-gives text-a 4 3 (3 ∷ []) (0 ∷ 0 ∷ [])
@@ -350,7 +350,7 @@ specimens =
     ∷ place-gives text-a 5 2 (2 ∷ []) (0 ∷ 0 ∷ [])
     ∷ place-gives text-a 6 1 (1 ∷ []) (1 ∷ 0 ∷ [])
     ∷ place-gives text-a 100 7 (7 ∷ []) (0 ∷ 0 ∷ [])
-    -- of B: what is left over goes into the last channel
+    -- of B: all that can be is in the last channel
     ∷ place-refused text-b 5 2 10 0 0
     ∷ place-gives text-b 5 4 (1 ∷ 3 ∷ []) (1 ∷ 0 ∷ 0 ∷ [])
     ∷ place-gives text-b 5 5 (1 ∷ 4 ∷ []) (1 ∷ 0 ∷ 0 ∷ [])
@@ -364,7 +364,7 @@ specimens =
     ∷ place-gives text-c 5 3 (3 ∷ []) (0 ∷ 0 ∷ [])
     ∷ place-refused text-d 1 0 10 0 0
     ∷ place-gives text-d 2 1 (1 ∷ []) (0 ∷ 0 ∷ [])
-    -- a greater total moves strips, and lessens the first separation
+    -- for a greater total strips move, or the first separation is smaller
     ∷ place-gives text-between 2 2 (1 ∷ 1 ∷ []) (0 ∷ 0 ∷ 0 ∷ [])
     ∷ spread-gives text-moved 2 1 (1 ∷ 0 ∷ []) (0 ∷ 1 ∷ 0 ∷ [])
     ∷ place-gives text-moved 2 2 (0 ∷ 2 ∷ []) (1 ∷ 0 ∷ 0 ∷ [])
