@@ -102,10 +102,11 @@ pub fn place_total(text: &[u8], spread: u32, total: Tracks) -> PlacementAnswer
         return refused_placement(outcome);
     }
     let stated = placement_in(stack, spread, total);
-    if !stated.met {
+    let met = stated.met;
+    let placement = stated.placement;
+    if !met {
         return refused_placement(Outcome::refused(Refusal::Unmet, 0, 0));
     }
-    let placement = stated.placement;
     let separations = placement.separations;
     let positions = placement.positions;
     PlacementAnswer {

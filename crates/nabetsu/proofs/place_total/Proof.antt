@@ -59,7 +59,7 @@ returns-2 c =
 
 returns-3 : tie.Need-returns-3
 returns-3 c =
-    let t = c .before .before .before in
+    let t = c .before .before in
     let p = t .before .before in
     let e = p .before in
     let u = e .before .before in
