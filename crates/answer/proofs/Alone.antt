@@ -64,6 +64,10 @@ module _ (k : Stack) (s : ℕ) where
       let same : ts ≡ us = not-later-both ts us (omega arith) (a .first us ys (b .is-legal) (b .exact)) (b .first ts xs (a .is-legal) (a .exact)) in
       (same, not-later-both xs ys (omega arith) (a .first-places ys (rw (← same) at (b .is-legal))) (b .first-places xs (rw same at (a .is-legal))))
 
+  -- a total that has a placement is met
+  pub placement-met : (v : ℕ) (ts xs : List ℕ) → Placement k s v ts xs → Total-met k s v
+  placement-met v ts xs p = record { separations = ts; positions = xs; is-legal = p .is-legal; exact = p .exact }
+
   -- THE ANSWER IS BOTH TOGETHER
   pub both-answer : (v : ℕ) (ts xs : List ℕ) → Least-total k s v → Placement k s v ts xs → Answer k s ts xs
   both-answer v ts xs l p =

@@ -1,10 +1,10 @@
 -- The solver's total is the least total of Stack.antt, and its separations and positions for a total are the placement, whatever bias of at least s + 32 they are
 -- worked out with: for every spread from the longest strip upward, and every total from the least one on. Assumes nothing.
-use mathlib.Core.Path.{_≡_, refl, ap, _∙_}
+use mathlib.Core.Path.{_≡_}
 use mathlib.Core.Bool.{true, _&&_}
 use mathlib.Core.List.{List, [], _∷_}
 use mathlib.Core.Logic.{_↔_}
-use Prim.Native.Nat.{ℕ, suc, _+_, _≤_}
+use Prim.Native.Nat.{ℕ, _+_, _≤_}
 use native.Mathlib.Omega.{arith}
 use lib.ListN.{length}
 use borrow.Author.Tests.{leb-true}
@@ -17,7 +17,7 @@ use Rattle.spans.proofs.Total.{no-smaller-total, least-total-at-most, least-tot
 use Rattle.spans.proofs.Chosen.{chosen}
 use Rattle.answer.specs.Solve.{last-use, window, stack-levels, bottom, levels-of, total-with, separations-with, positions-with, answer-total, separations-for, positions-for, answer-separations, answer-positions}
 use Rattle.answer.proofs.Legal.{longest-bounds, in-window, legal-placed, placed-legal, stack-widening, channel-fits-open}
-use Rattle.answer.proofs.Alone.{legal-wide, total-alone, placement-alone, both-answer}
+use Rattle.answer.proofs.Alone.{legal-wide, total-alone, placement-alone, placement-met, both-answer}
 
 -- every strip at 0 and every separation the last of use
 unfoldable pub lasts-of : List Channel → List ℕ
@@ -178,5 +178,4 @@ module _ (k : Stack) (s : ℕ) (e : within-limits k ≡ true) where
       up : v ≤ w → Total-met k s w
       up m =
           let h = legal-wide k s (l .met .separations) (l .met .positions) (l .met .is-legal) in
-          let p = placement-there h w (omega (arith, total-alone k s _ _ l (least-there h))) in
-          record { separations = _; positions = _; is-legal = p .is-legal; exact = p .exact }
+          placement-met k s w _ _ (placement-there h w (omega (arith, total-alone k s _ _ l (least-there h))))

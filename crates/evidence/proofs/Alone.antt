@@ -9,13 +9,13 @@ use lib.ListN.{length, getD, take, replicate}
 use Rattle.stack.specs.Value.{tracks-of, columns-of}
 use Rattle.numbers.specs.Lists.{tabulate}
 use Rattle.numbers.proofs.Bools.{ands}
-use Rattle.stack.specs.Stack.{Stack, Total-met, Placement}
+use Rattle.stack.specs.Stack.{Stack}
 use Rattle.stack.specs.Limits.{all-rising}
 use Rattle.stack.proofs.Within.{within-rising}
 use Rattle.routing.proofs.Drawable.{drawable-legal, legal-drawable}
 use Rattle.text.specs.Text.{Refusal, refusal, fine, stack-in}
 use Rattle.text.proofs.Within.{accepted-within}
-use Rattle.answer.proofs.Alone.{total-alone, placement-alone, answer-alone}
+use Rattle.answer.proofs.Alone.{total-alone, placement-alone, placement-met, answer-alone}
 use Rattle.rows.proofs.Rows.{rows-alone}
 use Rattle.writing.specs.TableText.{table-text}
 use Rattle.trial.specs.Legal.{is-legal}
@@ -52,10 +52,6 @@ placed-alone : (f : Refusal) (v : ℕ) (ts xs : List ℕ) (r q : PlacementAnswer
 unfolding placed-is
 placed-alone f v ts xs r q a b =
     record { refusals = a .0 ∙ sym (b .0); totals = a .1 ∙ sym (b .1); separations = a .2 ∙ sym (b .2); positions = a .3 ∙ sym (b .3) }
-
--- a total that has a placement is met
-pub placement-met : (k : Stack) (s v : ℕ) (ts xs : List ℕ) → Placement k s v ts xs → Total-met k s v
-placement-met k s v ts xs p = record { separations = ts; positions = xs; is-legal = p .is-legal; exact = p .exact }
 
 placed-for-alone : (k : Stack) (s v : ℕ) (r q : PlacementAnswer) → Placed-for k s v r → Placed-for k s v q → Same-placement r q
 placed-for-alone k s v r q (placed ts xs a c) (placed us ys b d) =

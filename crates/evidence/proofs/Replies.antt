@@ -16,7 +16,7 @@ use Rattle.lines.specs.Lines.{same-bytes}
 use Rattle.text.specs.Text.{Refusal, refusal, fine, text-refusal, stack-in}
 use Rattle.text.proofs.Within.{accepted-within}
 use Rattle.answer.specs.Solve.{answer-total, separations-for, positions-for, answer-separations, answer-positions}
-use Rattle.answer.proofs.Alone.{total-alone, placement-alone, answer-alone}
+use Rattle.answer.proofs.Alone.{total-alone, placement-alone, placement-met, answer-alone}
 use Rattle.answer.proofs.Answers.{least-there, placement-there, met-from-least}
 use Rattle.rows.specs.Walk.{rows-of}
 use Rattle.rows.proofs.Rows.{rows-are, rows-alone}
@@ -30,7 +30,6 @@ use Rattle.nabetsu.specs.declared.PlacementAnswer.{PlacementAnswer}
 use Rattle.nabetsu.specs.declared.TableAnswer.{TableAnswer}
 use Rattle.nabetsu.specs.declared.TotalAnswer.{TotalAnswer}
 use Rattle.evidence.specs.Replies.{same-refusal, Total-reply, total-is, same-total, total-for, total-reply, Placement-reply, placement, same-placement, if-met, placement-for, placement-reply, Table-reply, writes, refuses, same-table, if-fits, table-for, table-reply, page-for, page-reply}
-use Rattle.evidence.proofs.Alone.{placement-met}
 
 -- WHAT TESTS THE SAME IS THE SAME
 bytes-equal : (a b : List ℕ) → same-bytes a b ≡ true → a ≡ b

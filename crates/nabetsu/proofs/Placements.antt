@@ -1,5 +1,5 @@
 -- The laws of place_total: a refused text or spread, a total that is not met, and the placement; and the third demand said of what it returns. Assumes nothing.
-use mathlib.Core.Path.{_≡_, refl, sym, ap, _∙_}
+use mathlib.Core.Path.{_≡_, refl, ap, _∙_}
 use mathlib.Core.Bool.{true, false}
 use mathlib.Core.List.{List, [], _∷_, _++_}
 use Prim.Native.Nat.{ℕ, zero, suc, _+_, _-_, _≤_, _<_, max}
@@ -27,7 +27,7 @@ use Rattle.solver.specs.declared.Placement.{Placement as Placement-struct}
 use Rattle.answer.specs.Solve.{answer-total, separations-for, positions-for}
 use Rattle.answer.specs.Arrays.{Placed-is}
 use Rattle.answer.proofs.Alone.{legal-lengths}
-use Rattle.answer.proofs.Answers.{least-there, placement-there}
+use Rattle.answer.proofs.Answers.{least-there, placement-there, met-from-least}
 use Rattle.nabetsu.specs.Entry.{narrow-refusal, spread-refusal, placed-is, Placed-for, placed, unmet, Placed-or, Placement-says}
 use Rattle.nabetsu.specs.Best.{Drawn-with, Placement-best}
 use Rattle.nabetsu.specs.Parts.{Refused-placement}
@@ -46,7 +46,7 @@ refused-zeros u f r z e = (ap refusal-of (z .outcome-is) ∙ e, z .total-zero, z
 
 -- a total below the least one is not met
 below-unmet : (k : Stack) (s v : ℕ) → within-limits k ≡ true → longest (k .strips) ≤ s → v < answer-total k s → Total-met k s v → ⊥
-below-unmet k s v w h l m = omega (arith, least-there k s w h .least (m .separations) (m .positions) (m .is-legal), m .exact)
+below-unmet k s v w h l m = omega (arith, met-from-least k s w (answer-total k s) v (least-there k s w h) .0 m)
 
 module _ (bs : List ℕ) (s v : ℕ) (g : Reading) (d : Stack-read bs g) (u : Outcome) (q : refusal-of u ≡ or-else (refusal-of (g .outcome)) (narrow-refusal (stack-of (g .stack)) s)) (r : PlacementAnswer) where
   pub placement-refused : is-accepted u ≡ false → Refused-placement u r → Placement-says bs s v r

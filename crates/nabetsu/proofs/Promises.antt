@@ -23,7 +23,7 @@ use Rattle.nabetsu.specs.Entry.{spread-refusal, total-told, Totalled, To
 use Rattle.nabetsu.specs.Best.{Answered, Spread-says}
 use Rattle.nabetsu.specs.declared.PlacementAnswer.{PlacementAnswer}
 use Rattle.nabetsu.specs.declared.TotalAnswer.{TotalAnswer}
-use Rattle.nabetsu.specs.Promise.{accepted, Answer-drawable, None-smaller, Answer-there, Answer-alone, Total-there, Total-alone, Totals-met, Placement-there, Placement-alone, Placement-drawable, Answer-is-both, Both-together, Rows-there}
+use Rattle.nabetsu.specs.Promise.{accepted, Answer-drawable, None-smaller, Answer-there, Answer-alone, Total-there, Total-alone, Totals-met, Placement-there, Placement-alone, Placement-drawn, Answer-is-both, Both-together, Rows-there}
 
 pub stack-within : (bs : List ℕ) → accepted bs ≡ true → within-limits (stack-in bs) ≡ true
 unfolding accepted
@@ -72,9 +72,9 @@ pub placement-alone : Placement-alone
 unfolding Placement-alone
 placement-alone bs s v ts xs us ys e a b = alone.placement-alone (stack-in bs) s v ts xs us ys a b
 
-pub placement-drawable : Placement-drawable
-unfolding Placement-drawable
-placement-drawable bs s v ts xs e a = legal-drawable (stack-in bs) s ts xs (stack-rises bs e) (a .is-legal)
+pub placement-drawn : Placement-drawn
+unfolding Placement-drawn
+placement-drawn bs s v ts xs e a = legal-drawable (stack-in bs) s ts xs (stack-rises bs e) (a .is-legal)
 
 pub answer-is-both : Answer-is-both
 unfolding Answer-is-both

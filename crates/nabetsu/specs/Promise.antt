@@ -65,8 +65,8 @@ Placement-alone =
     (bs : List ℕ) (s v : ℕ) (ts xs us ys : List ℕ) → accepted bs ≡ true → Placement (stack-in bs) s v ts xs → Placement (stack-in bs) s v us ys →
     (ts ≡ us) × (xs ≡ ys)
 
-unfoldable pub Placement-drawable : Type 0
-Placement-drawable =
+unfoldable pub Placement-drawn : Type 0
+Placement-drawn =
     (bs : List ℕ) (s v : ℕ) (ts xs : List ℕ) → accepted bs ≡ true → Placement (stack-in bs) s v ts xs → Drawable (stack-in bs) s ts xs
 
 -- THE ANSWER IS BOTH TOGETHER, the least total and the placement for it; so are the entries' results

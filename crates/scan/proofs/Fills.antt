@@ -1,10 +1,10 @@
 -- The laws of carrying the table on to greater totals: the scan's, with a jump of which nothing is asked. Assumes nothing.
 use mathlib.Core.Path.{_≡_}
 use mathlib.Core.List.{List}
-use Prim.Native.Nat.{ℕ, suc, _+_, _≤_, _<_}
+use Prim.Native.Nat.{ℕ, _+_, _<_}
 use native.Mathlib.Omega.{arith}
 use Rattle.spans.specs.Solver.{most}
-use Rattle.arrays.specs.Arrays.{bias, Given, levels, Filled}
+use Rattle.arrays.specs.Arrays.{Given, levels, Filled}
 use Rattle.scan.specs.Scan.{Scanning}
 
 module _ (g : Given) (k : ℕ) (table : List (List (List ℕ))) where

@@ -9,10 +9,6 @@ use Rattle.plot.proofs.Ends.{reached-by}
 use borrow.Author.Needs.{needs}
 use Rattle.plot.proofs.fill_arrivals.Statement.{statement}
 use Rattle.plot.proofs.fill_arrivals.Tie as tie
-use Rattle.plot.proofs.fill_arrivals.Reads as reads
-use Rattle.plot.proofs.fill_arrivals.Lts as lts
-use Rattle.plot.proofs.arrival.Reads as arrival-reads
-use Rattle.plot.proofs.within.Reads as within-reads
 
 abbrev Inv-loop : tie.InvT-loop
 Inv-loop at₀ ahead back upto y behind j₀ at j = (j ≤ 32) × (behind ≡ min y 32) × (length at ≡ 32) × ((i : ℕ) → i < j → getD at i 0 ≡ reached ahead back upto y i)

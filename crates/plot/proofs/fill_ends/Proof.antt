@@ -6,9 +6,6 @@ use Rattle.plot.proofs.Ends.{levels-start, levels-step, levels-done}
 use borrow.Author.Needs.{needs}
 use Rattle.plot.proofs.fill_ends.Statement.{statement}
 use Rattle.plot.proofs.fill_ends.Tie as tie
-use Rattle.plot.proofs.fill_ends.Reads as reads
-use Rattle.plot.proofs.fill_ends.Lts as lts
-use Rattle.plot.proofs.column.Reads as column-reads
 
 abbrev Inv-loop : tie.InvT-loop
 Inv-loop lower upper ahead₀ back₀ upto₀ ps qs j₀ j-end ahead back upto j = (j ≤ j-end) × (j-end ≤ 32) × Levels-filled ps qs (lower .0) (upper .0) j ahead back upto

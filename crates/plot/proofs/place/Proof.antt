@@ -4,9 +4,6 @@ use Rattle.plot.proofs.Lines.{place-digit, place-one, place-space}
 use borrow.Author.Needs.{needs}
 use Rattle.plot.proofs.place.Statement.{statement}
 use Rattle.plot.proofs.place.Tie as tie
-use Rattle.plot.proofs.place.Reads as reads
-use Rattle.plot.proofs.place.Lts as lts
-use Rattle.plot.proofs.digit.Reads as digit-reads
 
 -- src/lib.rt:228:9
 digit-requires : tie.Need-digit-requires

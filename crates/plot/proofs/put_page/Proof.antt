@@ -6,10 +6,6 @@ use Rattle.plot.proofs.Lines.{page-left-out, page-whole}
 use borrow.Author.Needs.{needs}
 use Rattle.plot.proofs.put_page.Statement.{statement}
 use Rattle.plot.proofs.put_page.Tie as tie
-use Rattle.plot.proofs.put_page.Reads as reads
-use Rattle.plot.proofs.put_page.Lts as lts
-use Rattle.plot.proofs.fill_ends.Reads as fill-ends-reads
-use Rattle.plot.proofs.put_tracks.Reads as put-tracks-reads
 
 -- src/lib.rt:357:13
 cast-t : tie.Need-cast-t

@@ -10,10 +10,6 @@ use Rattle.plot.proofs.Lines.{lines-start, lines-end, track-step, rule-
 use borrow.Author.Needs.{needs}
 use Rattle.plot.proofs.put_tracks.Statement.{statement}
 use Rattle.plot.proofs.put_tracks.Tie as tie
-use Rattle.plot.proofs.put_tracks.Reads as reads
-use Rattle.plot.proofs.put_tracks.Lts as lts
-use Rattle.plot.proofs.fill_arrivals.Reads as fill-arrivals-reads
-use Rattle.plot.proofs.put_track.Reads as put-track-reads
 
 abbrev Inv-loop : tie.InvT-loop
 Inv-loop out₀ ahead back upto m t starts₀ at₀ y₀ out starts at y = Lines-put (λ y c. track-drawn ahead back upto m t y c) t at y out₀ out × (starts ≡ tabulate 32 0 (λ j. reached ahead back upto y j))

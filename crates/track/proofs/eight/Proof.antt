@@ -3,9 +3,6 @@ use Rattle.track.proofs.Rows.{eight-is}
 use borrow.Author.Needs.{needs}
 use Rattle.track.proofs.eight.Statement.{statement}
 use Rattle.track.proofs.eight.Tie as tie
-use Rattle.track.proofs.eight.Reads as reads
-use Rattle.track.proofs.eight.Lts as lts
-use Rattle.track.proofs.two.Reads as two-reads
 
 -- src/lib.rt:164:17
 element-copy-out-two : tie.Need-element-copy-out-two

@@ -9,8 +9,6 @@ use Rattle.track.proofs.Rows.{rule-long, filling-starts, filling-steps,
 use borrow.Author.Needs.{needs}
 use Rattle.track.proofs.fill.Statement.{statement}
 use Rattle.track.proofs.fill.Tie as tie
-use Rattle.track.proofs.fill.Reads as reads
-use Rattle.track.proofs.fill.Lts as lts
 
 abbrev Inv-loop : tie.InvT-loop
 Inv-loop row₀ from upto character c₀ row c = (from ≤ c) × (c ≤ max from upto) × (row ≡ tabulate 64 0 (λ i. filled-to from c character i (getD row₀ i 0)))

@@ -2,8 +2,6 @@
 use Rattle.track.proofs.Rows.{upward-same, upward-other}
 use Rattle.track.proofs.mark.Statement.{statement}
 use Rattle.track.proofs.mark.Tie as tie
-use Rattle.track.proofs.mark.Reads as reads
-use Rattle.track.proofs.mark.Lts as lts
 
 -- src/lib.rt:176:1
 returns : tie.Need-returns

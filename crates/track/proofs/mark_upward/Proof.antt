@@ -8,9 +8,6 @@ use Rattle.track.proofs.Rows.{front-step, front-long, front-end}
 use borrow.Author.Needs.{needs}
 use Rattle.track.proofs.mark_upward.Statement.{statement}
 use Rattle.track.proofs.mark_upward.Tie as tie
-use Rattle.track.proofs.mark_upward.Reads as reads
-use Rattle.track.proofs.mark_upward.Lts as lts
-use Rattle.track.proofs.mark.Reads as mark-reads
 
 abbrev Inv-loop : tie.InvT-loop
 Inv-loop marks₀ starts ends j₀ marks j = (j ≤ 32) × (length marks ≡ 32) × ((i : ℕ) → i < j → getD marks i 0 ≡ upward (getD starts i 0) (getD ends i 0))

@@ -5,12 +5,6 @@ use Rattle.track.proofs.Rows.{none-run, eight-marked, eight-run}
 use borrow.Author.Needs.{needs}
 use Rattle.track.proofs.put_eight.Statement.{statement}
 use Rattle.track.proofs.put_eight.Tie as tie
-use Rattle.track.proofs.put_eight.Reads as reads
-use Rattle.track.proofs.put_eight.Lts as lts
-use Rattle.track.proofs.character.Reads as character-reads
-use Rattle.track.proofs.eight.Reads as eight-reads
-use Rattle.track.proofs.put_paths.Reads as put-paths-reads
-use Rattle.track.proofs.put_uprights.Reads as put-uprights-reads
 
 -- src/lib.rt:205:8
 eight-requires : tie.Need-eight-requires

@@ -3,9 +3,6 @@ use Rattle.track.proofs.Rows.{point-drawn}
 use borrow.Author.Needs.{needs}
 use Rattle.track.proofs.put_path.Statement.{statement}
 use Rattle.track.proofs.put_path.Tie as tie
-use Rattle.track.proofs.put_path.Reads as reads
-use Rattle.track.proofs.put_path.Lts as lts
-use Rattle.track.proofs.put_run.Reads as put-run-reads
 
 -- src/lib.rt:119:9
 slice-write-row : tie.Need-slice-write-row

@@ -9,10 +9,6 @@ use Rattle.track.proofs.Rows.{rule-long, runs-start, runs-step, runs-en
 use borrow.Author.Needs.{needs}
 use Rattle.track.proofs.put_paths.Statement.{statement}
 use Rattle.track.proofs.put_paths.Tie as tie
-use Rattle.track.proofs.put_paths.Reads as reads
-use Rattle.track.proofs.put_paths.Lts as lts
-use Rattle.track.proofs.character.Reads as character-reads
-use Rattle.track.proofs.put_path.Reads as put-path-reads
 
 abbrev Inv-loop : tie.InvT-loop
 Inv-loop row₀ starts ends from upto up down upright j₀ row j = (from ≤ j) × (j ≤ max from upto) × (row ≡ tabulate 64 0 (λ c. painted (λ i. getD starts i 0) (λ i. getD ends i 0) up down from (j - from) c (getD row₀ c 0)))

@@ -10,12 +10,6 @@ use Rattle.track.proofs.Rows.{rule-long, row-starts, row-joins, row-end
 use borrow.Author.Needs.{needs}
 use Rattle.track.proofs.put_row.Statement.{statement}
 use Rattle.track.proofs.put_row.Tie as tie
-use Rattle.track.proofs.put_row.Reads as reads
-use Rattle.track.proofs.put_row.Lts as lts
-use Rattle.track.proofs.fill.Reads as fill-reads
-use Rattle.track.proofs.mark_upward.Reads as mark-upward-reads
-use Rattle.track.proofs.put_eight.Reads as put-eight-reads
-use Rattle.track.proofs.put_paths.Reads as put-paths-reads
 
 abbrev Inv-loop : tie.InvT-loop
 Inv-loop row₀ starts ends m up down marks j₀ row j = (j ≤ m) × (marks ≡ tabulate 32 0 (λ i. upward (getD starts i 0) (getD ends i 0))) × (row ≡ tabulate 64 0 (λ c. painted (λ i. getD starts i 0) (λ i. getD ends i 0) up down 0 j c 46))

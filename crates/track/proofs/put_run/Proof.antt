@@ -5,12 +5,6 @@ use Rattle.track.proofs.Rows.{rule-long, run-drawn}
 use borrow.Author.Needs.{needs}
 use Rattle.track.proofs.put_run.Statement.{statement}
 use Rattle.track.proofs.put_run.Tie as tie
-use Rattle.track.proofs.put_run.Reads as reads
-use Rattle.track.proofs.put_run.Lts as lts
-use Rattle.track.proofs.character.Reads as character-reads
-use Rattle.track.proofs.fill.Reads as fill-reads
-use Rattle.track.proofs.greater.Reads as greater-reads
-use Rattle.track.proofs.lesser.Reads as lesser-reads
 
 -- src/lib.rt:105:9
 lesser-requires : tie.Need-lesser-requires

@@ -9,8 +9,6 @@ use Rattle.track.proofs.Rows.{rule-long, marks-start, marks-step, marks
 use borrow.Author.Needs.{needs}
 use Rattle.track.proofs.put_uprights.Statement.{statement}
 use Rattle.track.proofs.put_uprights.Tie as tie
-use Rattle.track.proofs.put_uprights.Reads as reads
-use Rattle.track.proofs.put_uprights.Lts as lts
 
 abbrev Inv-loop : tie.InvT-loop
 Inv-loop row₀ ends from character i₀ row i = (i ≤ 8) × (row ≡ tabulate 64 0 (λ c. marked (λ j. getD ends j 0) character from i c (getD row₀ c 0)))
