@@ -18,7 +18,7 @@ use Rattle.text.specs.declared.Reading.{Reading}
 use Rattle.text.proofs.Refusals.{accepted-fine}
 use Rattle.answer.specs.Solve.{answer-total}
 use Rattle.answer.proofs.Answers.{least-there}
-use Rattle.nabetsu.specs.Entry.{narrow-refusal, spread-refusal, total-told, Totalled, Total-says, Total-coded, code}
+use Rattle.nabetsu.specs.Entry.{narrow-refusal, spread-refusal, total-told, Totalled, Total-says}
 use Rattle.nabetsu.specs.Best.{Drawn-with, Total-best}
 use Rattle.nabetsu.specs.declared.TotalAnswer.{TotalAnswer}
 use Rattle.nabetsu.proofs.Spreads.{spread-within, spread-outcome-is, spread-refused-number, spread-fine, spread-stack, stack-wide}
@@ -64,7 +64,3 @@ total-best bs s r t = record { drawn = λ e. best e .0; none-smaller = λ e. bes
   where
     best : spread-refusal bs s .number ≡ 0 → Drawn-with (stack-in bs) s (r .total .0) × ((us ys : List ℕ) → Drawable (stack-in bs) s us ys → r .total .0 ≤ sum us)
     best e = best-of (stack-in bs) s (spread-within bs s e) (spread-refusal bs s .number) (spread-refusal bs s) r e t
-
--- in one number
-pub total-coded : (bs : List ℕ) (s : ℕ) (a : TotalAnswer) (r : ℕ) → Total-says bs s a → r ≡ code (refusal-of (a .outcome)) (a .total .0) → Total-coded bs s r
-total-coded bs s a r t e = record { answer = a; says = t; coded = e }
