@@ -1,5 +1,5 @@
 //! The independent program: documents 01 and 02 by plain formulas and by trying, sharing no code with the proved one.
-//! `channels`, `table`, `spread`, `page` and `trial` print what the proved programs must print for the same input.
+//! `channels`, `table`, `total`, `place`, `spread`, `page` and `trial` print what the proved programs must print for the same input.
 
 mod channel;
 mod page;
@@ -14,6 +14,8 @@ use std::io::{Read, Write};
 
 const USAGE: &str = "usage: reference channels < crates/channel_test/stdin
        reference table < STACK
+       reference total SPREAD < STACK
+       reference place SPREAD TOTAL < STACK
        reference spread SPREAD < STACK
        reference page SPREAD CHANNEL < STACK
        reference trial SPREAD SEPARATION.. POSITION.. < STACK    (k separations, k + 1 positions)
@@ -50,24 +52,52 @@ fn refusal_text(r: Refusal) -> String {
     format!("{}\t{}\t{}\n", r.0, r.1, r.2)
 }
 
+fn text_or_refusal(text: Result<String, Refusal>) -> String {
+    text.unwrap_or_else(refusal_text)
+}
+
 fn table(text: &[u8]) -> String {
-    match reader::read(text) {
-        Ok(stack) => solver::table_text(&stack, &solver::rows(&stack, solver::small(&stack))),
-        Err(r) => refusal_text(r),
+    text_or_refusal(reader::read(text).map(|stack| solver::table_text(&stack, &solver::rows(&stack, solver::small(&stack)))))
+}
+
+/// Whether every position is tried: where that is soon done.
+fn brute(stack: &Stack, spread: i64) -> bool {
+    solver::small(stack) && spread <= solver::widest(stack) + 3
+}
+
+/// The stack in a text, if a spread is not below its longest strip.
+fn read_for(text: &[u8], spread: i64) -> Result<Stack, Refusal> {
+    let stack = reader::read(text)?;
+    if spread < solver::longest(&stack) {
+        return Err((7, 0, 0));
     }
+    Ok(stack)
 }
 
-/// The answer for a spread from the longest strip upward; every position is tried where that is soon done.
-fn answer(stack: &Stack, spread: i64) -> solver::Answer {
-    solver::answer(stack, spread, solver::small(stack) && spread <= solver::widest(stack) + 3)
+/// The least total at a spread.
+fn total(text: &[u8], spread: i64) -> Result<usize, Refusal> {
+    let stack = read_for(text, spread)?;
+    Ok(solver::least_total(&stack, spread, brute(&stack, spread)))
 }
 
+/// The row of the placement at a spread for a stated total.
+fn place(text: &[u8], spread: i64, total: usize) -> Result<String, Refusal> {
+    let stack = read_for(text, spread)?;
+    let placed = solver::place(&stack, spread, total, brute(&stack, spread)).ok_or((10, 0, 0))?;
+    Ok(solver::row_text(spread, &placed))
+}
+
+fn total_text(text: &[u8], spread: i64) -> String {
+    text_or_refusal(total(text, spread).map(|total| format!("{}\n", total)))
+}
+
+fn place_text(text: &[u8], spread: i64, total: usize) -> String {
+    text_or_refusal(place(text, spread, total))
+}
+
+/// The total and the placement together.
 fn spread(text: &[u8], spread: i64) -> String {
-    match reader::read(text) {
-        Ok(stack) if spread < solver::longest(&stack) => refusal_text((7, 0, 0)),
-        Ok(stack) => solver::row_text(spread, &answer(&stack, spread)),
-        Err(r) => refusal_text(r),
-    }
+    text_or_refusal(total(text, spread).and_then(|total| place(text, spread, total)))
 }
 
 fn page(text: &[u8], spread: i64, channel: i64) -> String {
@@ -77,7 +107,7 @@ fn page(text: &[u8], spread: i64, channel: i64) -> String {
     };
     match page::refusal(&stack, spread, channel) {
         Some(r) => refusal_text(r),
-        None => page::page(&stack, &answer(&stack, spread), spread, channel as usize),
+        None => page::page(&stack, &solver::answer(&stack, spread, brute(&stack, spread)), spread, channel as usize),
     }
 }
 
@@ -95,6 +125,12 @@ fn trial(text: &[u8], spread: i64, placement: &[u32]) -> Option<String> {
     let positions: Vec<i64> = placement[k..].iter().map(|x| *x as i64).collect();
     let legal = solver::legal(&stack, spread, &separations, &positions);
     Some(if legal { "legal\n" } else { "not legal\n" }.to_string())
+}
+
+/// What `total` prints where `spread` prints this line: the row's total, or the refusal.
+fn total_in(line: &str) -> String {
+    let total = line.strip_prefix("ROW ").and_then(|row| row.split(' ').nth(1));
+    total.map_or(specimens::tabbed(line), |total| format!("{}\n", total))
 }
 
 /// Every specimen; prints those that differ and says whether none does.
@@ -115,7 +151,12 @@ fn check_specimens() -> bool {
         check(name, table(text.as_bytes()), due);
     }
     for (name, text, at, due) in specimens::SPREADS {
-        check(name, spread(specimens::tabbed(text).as_bytes(), at as i64), specimens::tabbed(due));
+        let text = specimens::tabbed(text);
+        check(name, total_text(text.as_bytes(), at as i64), total_in(due));
+        check(name, spread(text.as_bytes(), at as i64), specimens::tabbed(due));
+    }
+    for (name, text, at, total, due) in specimens::PLACES {
+        check(name, place_text(specimens::tabbed(text).as_bytes(), at as i64, total as usize), specimens::tabbed(due));
     }
     for (name, text, at, channel, due) in specimens::PAGES {
         let due = due.map_or_else(refusal_text, specimens::page);
@@ -133,21 +174,34 @@ fn check_specimens() -> bool {
     good
 }
 
-/// The two ways to place strips, at every spread of random small stacks; the first stack at which they differ.
-fn check_agreement(seed: u64, count: usize) -> Result<usize, Vec<u8>> {
+/// Totals about the least, about the sum of the least separations that are feasible at every offset, and the greatest that can be stated.
+fn some_totals(stack: &Stack, least: usize) -> Vec<usize> {
+    let free: usize = (0..stack.channels.len()).map(|i| solver::least_free(stack, i)).sum();
+    let mut totals: Vec<usize> = (least.saturating_sub(2)..least + 5).chain(free.saturating_sub(1)..free + 2).collect();
+    totals.push(u32::MAX as usize);
+    totals
+}
+
+/// The two ways to place strips, at every spread of random small stacks and for several totals; how many spreads and placements, or the first stack at which
+/// they differ.
+fn check_agreement(seed: u64, count: usize) -> Result<(usize, usize), Vec<u8>> {
     let mut random = Random(seed);
-    let mut spreads = 0;
+    let (mut spreads, mut placements) = (0, 0);
     for _ in 0..count {
         let k = 1 + random.below(3);
         let stack = random.stack(k, 12 - 2 * k as i64, 4);
         for spread in solver::longest(&stack)..=solver::widest(&stack) + 3 {
-            if solver::answer(&stack, spread, true) != solver::answer(&stack, spread, false) {
+            let least = solver::least_total(&stack, spread, true);
+            let totals = some_totals(&stack, least);
+            let same = |total: &usize| solver::place(&stack, spread, *total, true) == solver::place(&stack, spread, *total, false);
+            if least != solver::least_total(&stack, spread, false) || !totals.iter().all(same) {
                 return Err(random.text(&stack));
             }
             spreads += 1;
+            placements += totals.len();
         }
     }
-    Ok(spreads)
+    Ok((spreads, placements))
 }
 
 fn read_input() -> Vec<u8> {
@@ -169,6 +223,11 @@ fn run(words: &[String]) -> Option<(String, bool)> {
             Some((String::new(), true))
         }
         ("table", 0) => Some((table(&read_input()), true)),
+        ("total", 1) => Some((total_text(&read_input(), numbers(rest)?[0] as i64), true)),
+        ("place", 2) => {
+            let given = numbers(rest)?;
+            Some((place_text(&read_input(), given[0] as i64, given[1] as usize), true))
+        }
         ("spread", 1) => Some((spread(&read_input(), numbers(rest)?[0] as i64), true)),
         ("page", 2) => {
             let given = numbers(rest)?;
@@ -183,7 +242,9 @@ fn run(words: &[String]) -> Option<(String, bool)> {
             Some((if good { "specimens: no difference\n" } else { "" }.to_string(), good))
         }
         ("agree", 2) => match check_agreement(rest[0].parse().ok()?, rest[1].parse().ok()?) {
-            Ok(spreads) => Some((format!("{} stacks, {} spreads: no difference\n", rest[1], spreads), true)),
+            Ok((spreads, placements)) => {
+                Some((format!("{} stacks, {} spreads, {} placements: no difference\n", rest[1], spreads, placements), true))
+            }
             Err(text) => Some((format!("a difference:\n{}", String::from_utf8(text).unwrap()), false)),
         },
         _ => None,

@@ -1,8 +1,10 @@
-//! The answer for a spread by trying separations: in order of their total, then in dictionary order; for each the positions, strip 0 first.
+//! The least total in a spread and the placement for a stated total, by trying: totals from 0 on; the separations of a total in dictionary order; for each
+//! the positions, strip 0 first.
 
 use crate::channel::{feasible, left_limit, right_limit, Pair};
 use crate::reader::Stack;
 
+/// A placement and its total.
 #[derive(Clone, Debug, PartialEq)]
 pub struct Answer {
     pub total: usize,
@@ -73,18 +75,19 @@ fn least_open(stack: &Stack, i: usize) -> usize {
 }
 
 /// The least separation of a channel that is feasible at every offset.
-fn least_free(stack: &Stack, i: usize) -> usize {
+pub fn least_free(stack: &Stack, i: usize) -> usize {
     stack.channels[i].len().max(stack.floors[i])
 }
 
-/// The separations of a total in dictionary order, each from the channel's floor to the least that is feasible at every offset.
+/// So much of a total is little: `brute` then tries all of it in each channel.
+const LITTLE: usize = 12;
+
+/// The separations of a total in dictionary order, each from the channel's floor. The last channel gets all that the others leave. Where an earlier one has
+/// more than the least that is feasible at every offset, one less there and one more in the last channel is legal too and comes before: so no more is tried.
 /// Unless every position is to be tried, those are passed over that leave too little for the channels above, or place no strips so far.
 fn try_total(stack: &Stack, spread: i64, left: usize, chosen: &mut Vec<usize>, brute: bool) -> Option<Vec<i64>> {
     let i = chosen.len();
     if i == stack.channels.len() {
-        if left > 0 {
-            return None;
-        }
         if brute {
             let mut placed = Vec::new();
             return place_by_trying(stack, spread, chosen, &mut placed).then_some(placed);
@@ -94,13 +97,16 @@ fn try_total(stack: &Stack, spread: i64, left: usize, chosen: &mut Vec<usize>, b
     if !brute && place_by_ranges(stack, spread, chosen).is_none() {
         return None;
     }
-    let rest = i + 1..stack.channels.len();
-    let most: usize = rest.clone().map(|c| least_free(stack, c)).sum();
-    let least: usize = rest.map(|c| if brute { stack.floors[c] } else { least_open(stack, c) }).sum();
-    if left < least {
-        return None;
-    }
-    for t in left.saturating_sub(most).max(stack.floors[i])..=(left - least).min(least_free(stack, i)) {
+    let above = i + 1..stack.channels.len();
+    let is_last = above.is_empty();
+    let least: usize = above.map(|c| if brute { stack.floors[c] } else { least_open(stack, c) }).sum();
+    let most = left.checked_sub(least)?;
+    let tried = match is_last {
+        true => left..=left,
+        _ if brute && left <= LITTLE => 0..=most,
+        _ => stack.floors[i]..=most.min(least_free(stack, i)),
+    };
+    for t in tried {
         chosen.push(t);
         if let Some(placed) = try_total(stack, spread, left - t, chosen, brute) {
             return Some(placed);
@@ -123,25 +129,31 @@ pub fn small(stack: &Stack) -> bool {
     stack.channels.len() <= 3 && longest(stack) <= 12 && stack.channels.iter().all(|c| c.len() <= 4)
 }
 
-/// For a spread from the longest strip upward; `brute` tries every position.
+/// The placement in a spread for a stated total, by the tie rule, or None if no legal placement has that total; `brute` tries every position.
+pub fn place(stack: &Stack, spread: i64, total: usize, brute: bool) -> Option<Answer> {
+    let mut separations = Vec::new();
+    let positions = try_total(stack, spread, total, &mut separations, brute)?;
+    Some(Answer { total, separations, positions })
+}
+
+/// The least total that a legal placement has, in a spread from the longest strip upward.
+pub fn least_total(stack: &Stack, spread: i64, brute: bool) -> usize {
+    // With separations that are feasible at every offset each strip may stand at the left, so some total is met.
+    (0..).find(|total| place(stack, spread, *total, brute).is_some()).expect("a total")
+}
+
+/// The two together: the placement with the least total.
 pub fn answer(stack: &Stack, spread: i64, brute: bool) -> Answer {
-    let most: usize = (0..stack.channels.len()).map(|i| least_free(stack, i)).sum();
-    for total in 0..=most {
-        let mut separations = Vec::new();
-        if let Some(positions) = try_total(stack, spread, total, &mut separations, brute) {
-            return Answer { total, separations, positions };
-        }
-    }
-    unreachable!("with separations that are feasible at every offset each strip may stand at the left")
+    place(stack, spread, least_total(stack, spread, brute), brute).expect("a placement with the least total")
 }
 
 /// The rows of the table: every spread up to past the sum of the lengths is tried, beyond which nothing falls.
 pub fn rows(stack: &Stack, brute: bool) -> Vec<(i64, Answer)> {
     let mut rows: Vec<(i64, Answer)> = Vec::new();
     for spread in longest(stack)..=widest(stack) + 3 {
-        let found = answer(stack, spread, brute);
-        if rows.last().map_or(true, |(_, last)| found.total < last.total) {
-            rows.push((spread, found));
+        let total = least_total(stack, spread, brute);
+        if rows.last().map_or(true, |(_, last)| total < last.total) {
+            rows.push((spread, place(stack, spread, total, brute).expect("a placement with the least total")));
         }
     }
     rows

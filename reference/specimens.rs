@@ -1,4 +1,5 @@
-//! The specimens of document 01: a stack's text with what it is answered, their pages by document 02 too; then with floors, by P2.
+//! The specimens of document 01: a stack's text with what it is answered, their pages by document 02 too; then with floors, by P2, and for greater totals,
+//! by P3.
 //! Tabs are written as spaces here.
 
 /// Specimen A's text, and lines behind it.
@@ -69,6 +70,72 @@ pub const SPREADS: [(&str, &str, u32, &str); 9] = [
     ("A, floor 64, at 3", FLOOR_64, 3, "7 0 0\n"),
     ("B, floor 1 below, at 8", FLOOR_BELOW, 8, "ROW 8 1 1 0 3 2 0\n"),
     ("B, floor 1 above, at 8", FLOOR_ABOVE, 8, "ROW 8 1 0 1 3 1 0\n"),
+];
+
+/// The least total at spread 6 has channel 1 at 1, so that strip 1 stands at 1 and channel 2 is straight. With one track more channel 1 is straight, and
+/// channel 2 needs two: the surplus goes into the middle, and none into the last channel, which has no pairs.
+const MIDDLE: &str = "STACK 3\nPART 4\nPART 4\nPART 4\nPART 4\nNETS 0 2 2 4\nNETS 1 2 2 3\nNETS\n";
+
+/// The text, a spread, a stated total, and the row or the refusal's line.
+pub const PLACES: [(&str, &str, u32, u32, &str); 58] = [
+    ("A at 4", TABLES[0].1, 4, 2, "ROW 4 2 2 0 0\n"),
+    ("A at 4, one below", TABLES[0].1, 4, 1, "10 0 0\n"),
+    ("A at 4, none", TABLES[0].1, 4, 0, "10 0 0\n"),
+    ("A at 4, one more", TABLES[0].1, 4, 3, "ROW 4 3 3 0 0\n"),
+    ("A at 4, many more", TABLES[0].1, 4, 1000, "ROW 4 1000 1000 0 0\n"),
+    ("A at 4, the most", TABLES[0].1, 4, u32::MAX, "ROW 4 4294967295 4294967295 0 0\n"),
+    ("A at 5, none", TABLES[0].1, 5, 0, "10 0 0\n"),
+    ("A at 5", TABLES[0].1, 5, 1, "ROW 5 1 1 1 0\n"),
+    ("A at 5, one more", TABLES[0].1, 5, 2, "ROW 5 2 2 0 0\n"),
+    ("A at 6", TABLES[0].1, 6, 0, "ROW 6 0 0 2 0\n"),
+    ("A at 6, one more", TABLES[0].1, 6, 1, "ROW 6 1 1 1 0\n"),
+    ("A at 6, two more", TABLES[0].1, 6, 2, "ROW 6 2 2 0 0\n"),
+    ("A at 100, one more", TABLES[0].1, 100, 1, "ROW 100 1 1 1 0\n"),
+    ("A at the widest, the most", TABLES[0].1, u32::MAX, u32::MAX, "ROW 4294967295 4294967295 4294967295 0 0\n"),
+    ("A at 3, none: 7 before 10", TABLES[0].1, 3, 0, "7 0 0\n"),
+    ("A at 3", TABLES[0].1, 3, 2, "7 0 0\n"),
+    ("B at 4, one below", TABLES[1].1, 4, 3, "10 0 0\n"),
+    ("B at 4", TABLES[1].1, 4, 4, "ROW 4 4 2 2 0 0 0\n"),
+    ("B at 4, one more", TABLES[1].1, 4, 5, "ROW 4 5 2 3 0 0 0\n"),
+    ("B at 5, one below", TABLES[1].1, 5, 2, "10 0 0\n"),
+    ("B at 5", TABLES[1].1, 5, 3, "ROW 5 3 1 2 1 0 0\n"),
+    ("B at 5, one more", TABLES[1].1, 5, 4, "ROW 5 4 1 3 1 0 0\n"),
+    ("B at 6, one below", TABLES[1].1, 6, 1, "10 0 0\n"),
+    ("B at 6", TABLES[1].1, 6, 2, "ROW 6 2 0 2 2 0 0\n"),
+    ("B at 6, one more", TABLES[1].1, 6, 3, "ROW 6 3 0 3 2 0 0\n"),
+    ("B at 6, three more", TABLES[1].1, 6, 5, "ROW 6 5 0 5 2 0 0\n"),
+    ("B at 6, the most", TABLES[1].1, 6, u32::MAX, "ROW 6 4294967295 0 4294967295 2 0 0\n"),
+    ("B at 7", TABLES[1].1, 7, 1, "ROW 7 1 0 1 3 1 0\n"),
+    ("B at 7, one more", TABLES[1].1, 7, 2, "ROW 7 2 0 2 2 0 0\n"),
+    ("B at 8", TABLES[1].1, 8, 0, "ROW 8 0 0 0 4 2 0\n"),
+    ("B at 8, one more", TABLES[1].1, 8, 1, "ROW 8 1 0 1 3 1 0\n"),
+    ("B at 8, two more", TABLES[1].1, 8, 2, "ROW 8 2 0 2 2 0 0\n"),
+    ("C at 5", TABLES[2].1, 5, 0, "ROW 5 0 0 0 0\n"),
+    ("C at 5, nine more", TABLES[2].1, 5, 9, "ROW 5 9 9 0 0\n"),
+    ("D at 1, none", TABLES[3].1, 1, 0, "10 0 0\n"),
+    ("D at 1", TABLES[3].1, 1, 1, "ROW 1 1 1 0 0\n"),
+    ("D at 2", TABLES[3].1, 2, 0, "ROW 2 0 0 0 1\n"),
+    ("D at 2, one more", TABLES[3].1, 2, 1, "ROW 2 1 1 0 0\n"),
+    ("E: 2 before 7 and 10", TABLES[4].1, 0, 0, "2 1 0\n"),
+    ("H: 6 before 7 and 10", TABLES[7].1, 3, 0, "6 4 4\n"),
+    ("middle at 6, none", MIDDLE, 6, 0, "10 0 0\n"),
+    ("middle at 6", MIDDLE, 6, 1, "ROW 6 1 1 0 0 2 1 0 0\n"),
+    ("middle at 6, one more", MIDDLE, 6, 2, "ROW 6 2 0 2 0 2 0 0 0\n"),
+    ("middle at 6, two more", MIDDLE, 6, 3, "ROW 6 3 0 2 1 2 0 0 0\n"),
+    ("middle at 6, the most", MIDDLE, 6, u32::MAX, "ROW 6 4294967295 0 2 4294967293 2 0 0 0\n"),
+    ("A, floor 1, at 6, none", FLOOR_1, 6, 0, "10 0 0\n"),
+    ("A, floor 1, at 6", FLOOR_1, 6, 1, "ROW 6 1 1 1 0\n"),
+    ("A, floor 1, at 6, one more", FLOOR_1, 6, 2, "ROW 6 2 2 0 0\n"),
+    ("A, floor 1, at 64, none: 9 is of pages", FLOOR_1, 64, 0, "10 0 0\n"),
+    ("A, floor 64, at 4, one below", FLOOR_64, 4, 63, "10 0 0\n"),
+    ("A, floor 64, at 4", FLOOR_64, 4, 64, "ROW 4 64 64 0 0\n"),
+    ("A, floor 64, at 4, one more", FLOOR_64, 4, 65, "ROW 4 65 65 0 0\n"),
+    ("B, floor 1 below, at 8", FLOOR_BELOW, 8, 1, "ROW 8 1 1 0 3 2 0\n"),
+    ("B, floor 1 below, at 8, one more", FLOOR_BELOW, 8, 2, "ROW 8 2 1 1 2 1 0\n"),
+    ("B, floor 1 below, at 8, two more", FLOOR_BELOW, 8, 3, "ROW 8 3 1 2 1 0 0\n"),
+    ("B, floor 1 above, at 8, none", FLOOR_ABOVE, 8, 0, "10 0 0\n"),
+    ("C, floor 3, at 5, one below", NO_PAIRS, 5, 2, "10 0 0\n"),
+    ("C, floor 3, at 5, four more", NO_PAIRS, 5, 7, "ROW 5 7 7 0 0\n"),
 ];
 
 /// The text, a spread, separations and positions, and whether they are legal.
