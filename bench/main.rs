@@ -1,4 +1,4 @@
-//! `table`, `spread` and `page` print what the proved programs print; `generate` and `sized` make the inputs of the comparison.
+//! `table`, `total`, `place`, `spread` and `page` print what the proved programs print; `generate` and `sized` make the inputs of the comparison.
 
 mod inputs;
 mod page;
@@ -7,6 +7,8 @@ mod solver;
 use std::io::{Read, Write};
 
 const USAGE: &str = "usage: plain table < STACK
+       plain total SPREAD < STACK
+       plain place SPREAD TOTAL < STACK
        plain spread SPREAD < STACK
        plain page SPREAD CHANNEL < STACK
        plain generate FOLDER
@@ -31,11 +33,15 @@ fn written(write: impl FnOnce(&mut [u8]) -> Result<usize, solver::Refusal>) -> V
     }
 }
 
-fn spread(text: &[u8], spread: u32) -> Vec<u8> {
-    match solver::answer(text, spread) {
-        Ok(answer) => {
+fn total(text: &[u8], spread: u32) -> Vec<u8> {
+    solver::total(text, spread).map_or_else(refusal_text, |total| format!("{}\n", total).into_bytes())
+}
+
+fn place(text: &[u8], spread: u32, total: u32) -> Vec<u8> {
+    match solver::place(text, spread, total) {
+        Ok(placement) => {
             let k = text[6] as usize - 48;
-            let used = [&answer[..=k], &answer[9..=9 + k]].concat();
+            let used = [&placement[..=k], &placement[9..=9 + k]].concat();
             let numbers: String = used.iter().map(|v| format!("\t{}", v)).collect();
             format!("ROW\t{}{}\n", spread, numbers).into_bytes()
         }
@@ -43,9 +49,16 @@ fn spread(text: &[u8], spread: u32) -> Vec<u8> {
     }
 }
 
+/// The total and the placement together.
+fn spread(text: &[u8], spread: u32) -> Vec<u8> {
+    solver::total(text, spread).map_or_else(refusal_text, |total| place(text, spread, total))
+}
+
 fn run(words: &[String]) -> Option<Vec<u8>> {
     match words {
         [command] if command == "table" => Some(written(|out| solver::table(&read_input(), out))),
+        [command, number] if command == "total" => Some(total(&read_input(), number.parse().ok()?)),
+        [command, number, stated] if command == "place" => Some(place(&read_input(), number.parse().ok()?, stated.parse().ok()?)),
         [command, number] if command == "spread" => Some(spread(&read_input(), number.parse().ok()?)),
         [command, number, channel] if command == "page" => {
             let (number, channel) = (number.parse().ok()?, channel.parse().ok()?);

@@ -1,4 +1,5 @@
-//! The proved library's job written for speed in plain Rust: a stack's text in, its table or its answer for one spread out; pages are in page.rs.
+//! The proved library's job written for speed in plain Rust: a stack's text in; its table, or for one spread its least total or its placement for a total
+//! out; pages are in page.rs.
 //! It shares no code with reference/.
 
 const CHANNELS: usize = 8;
@@ -151,7 +152,7 @@ pub fn read(text: &[u8]) -> Result<Stack, Refusal> {
 // left out, so floors cost nothing.
 
 /// The limits of one channel, that of separation t in place PAIRS - 1 - t, so that limits and spans run the same way when a total is
-/// parted between a separation and the channels above. At a separation of `count` every offset is feasible.
+/// parted between a separation and the channels above. From a separation of `count` on every offset is feasible.
 #[derive(Clone, Copy)]
 struct Limits {
     low: [i16; PAIRS],
@@ -180,7 +181,7 @@ fn limits(p: &[i16], q: &[i16], floor: usize) -> Limits {
 
 impl Limits {
     fn at(&self, t: usize) -> (i16, i16) {
-        if t == self.count {
+        if t >= self.count {
             return (-CLOSED, CLOSED);
         }
         (self.low[PAIRS - 1 - t], self.high[PAIRS - 1 - t])
@@ -301,11 +302,15 @@ impl Solver {
         }
     }
 
-    /// The first total that fits in a spread, and by how much the spread must grow before a smaller one may.
-    fn scan(&mut self, spread: i16) -> (usize, i16) {
+    fn set_windows(&mut self, spread: i16) {
         for i in 0..=self.k {
             self.windows[i] = spread + 1 - self.lengths[i];
         }
+    }
+
+    /// The first total that fits in a spread, and by how much the spread must grow before a smaller one may.
+    fn scan(&mut self, spread: i16) -> (usize, i16) {
+        self.set_windows(spread);
         let top = (0, self.windows[self.k]);
         let mut jump = NOWHERE;
         for v in 0..=self.most[0] {
@@ -322,7 +327,33 @@ impl Solver {
         unreachable!("at the sum of the counts every position serves")
     }
 
-    /// The placement for the total that a scan has found, by the tie rule, with the floors added.
+    /// Whether a total fits in a spread. Fills the spans that its placement needs: none where every channel may have its count.
+    fn fill(&mut self, spread: i16, total: usize) -> bool {
+        self.set_windows(spread);
+        if total >= self.most[0] {
+            return true;
+        }
+        let top = (0, self.windows[self.k]);
+        for v in 0..=total {
+            self.spans[self.k].set(v, top);
+            for i in (1..self.k).rev() {
+                self.cell(i, v);
+            }
+        }
+        self.cell(0, total);
+        self.spans[0].is_open(total)
+    }
+
+    /// The span of a strip for a total: all of its window where the channels above may have their counts.
+    fn span(&self, i: usize, v: usize) -> (i16, i16) {
+        if v >= self.most[i] {
+            return (0, self.windows[i]);
+        }
+        self.spans[i].at(v)
+    }
+
+    /// The placement for a total that fits, by the tie rule, with the floors added, from the spans of a scan or of `fill`. A channel but the last never gets
+    /// more than its count: one track less there and one more in the last serves too, and comes before.
     fn place(&self, total: usize) -> Placement {
         let k = self.k;
         let mut placement = Placement { total, separations: [0; CHANNELS], positions: [0; STRIPS] };
@@ -333,7 +364,7 @@ impl Solver {
             let mut t = limits.least;
             loop {
                 let (low, high) = limits.at(t);
-                let (from, upto) = self.spans[i + 1].at(left - t);
+                let (from, upto) = self.span(i + 1, left - t);
                 if from.max(span.0 + low) < upto.min(span.1 + high) {
                     span = ((span.0 + low).max(0), (span.1 + high).min(self.windows[i + 1]));
                     break;
@@ -362,29 +393,49 @@ impl Solver {
     }
 }
 
-/// The placement at a spread.
-pub fn placement(stack: &Stack, spread: u32) -> Result<Placement, Refusal> {
-    let mut solver = Solver::new(stack);
+/// A stack's solver, and the spread as far as it matters: leftmost placements never reach beyond the sum of the lengths.
+fn solver_at(stack: &Stack, spread: u32) -> Result<(Solver, i16), Refusal> {
+    let solver = Solver::new(stack);
     if spread < solver.longest() as u32 {
         return Err((7, 0, 0));
     }
-    // Leftmost placements never reach beyond the sum of the lengths.
-    let (total, _) = solver.scan(spread.min(solver.widest() as u32) as i16);
+    let spread = spread.min(solver.widest() as u32) as i16;
+    Ok((solver, spread))
+}
+
+/// The placement with the least total at a spread.
+pub fn placement(stack: &Stack, spread: u32) -> Result<Placement, Refusal> {
+    let (mut solver, spread) = solver_at(stack, spread)?;
+    let (total, _) = solver.scan(spread);
     Ok(solver.place(total))
 }
 
-/// The total, eight separations and nine positions at a spread; zeros in unused places.
-pub fn answer(text: &[u8], spread: u32) -> Result<[u32; 18], Refusal> {
-    let placement = placement(&read(text)?, spread)?;
-    let mut answer = [0; 18];
-    answer[0] = placement.total as u32;
-    for (place, t) in answer[1..9].iter_mut().zip(placement.separations) {
+/// The least total at a spread.
+pub fn total(text: &[u8], spread: u32) -> Result<u32, Refusal> {
+    let stack = read(text)?;
+    let (mut solver, spread) = solver_at(&stack, spread)?;
+    let (total, _) = solver.scan(spread);
+    Ok((total + stack.floors.iter().sum::<usize>()) as u32)
+}
+
+/// The stated total, eight separations and nine positions at a spread; zeros in unused places.
+pub fn place(text: &[u8], spread: u32, total: u32) -> Result<[u32; 18], Refusal> {
+    let stack = read(text)?;
+    let (mut solver, spread) = solver_at(&stack, spread)?;
+    let above = (total as usize).checked_sub(stack.floors.iter().sum()).ok_or((10, 0, 0))?;
+    if !solver.fill(spread, above) {
+        return Err((10, 0, 0));
+    }
+    let placement = solver.place(above);
+    let mut numbers = [0; 18];
+    numbers[0] = total;
+    for (place, t) in numbers[1..9].iter_mut().zip(placement.separations) {
         *place = t as u32;
     }
-    for (place, x) in answer[9..].iter_mut().zip(placement.positions) {
+    for (place, x) in numbers[9..].iter_mut().zip(placement.positions) {
         *place = x as u32;
     }
-    Ok(answer)
+    Ok(numbers)
 }
 
 /// A line being written, no longer than a row can be.
