@@ -11,13 +11,9 @@ mod reader;
 #[path = "../reference/specimens.rs"]
 mod specimens;
 
-use reader::Refusal;
+use library::{code, Refusal};
 
 const A: &str = "STACK\t1\nPART\t4\nPART\t4\nNETS\t0\t2\t2\t4\n";
-
-fn code(r: Refusal) -> u64 {
-    ((r.0 as u64) << 40) + ((r.1 as u64) << 20) + r.2 as u64
-}
 
 fn fail(what: &str, text: &[u8], found: String, due: String) -> ! {
     println!("{}: found {}, due {}; the text:\n{}", what, found, due, text.escape_ascii());
@@ -30,6 +26,17 @@ fn same<T: PartialEq + std::fmt::Debug>(what: &str, text: &[u8], found: T, due: 
     }
 }
 
+/// What a call with a space must tell and leave there, where this is to be written: zeros behind it, or in the whole space for a refusal and short space.
+fn in_space<T: Clone + Default>(due: &Result<Vec<T>, Refusal>, told: u64, space: usize) -> (u64, Vec<T>) {
+    let (told, mut left) = match due {
+        Ok(all) if all.len() <= space => (told, all.clone()),
+        Ok(_) => (code((8, 0, 0)), Vec::new()),
+        Err(r) => (code(*r), Vec::new()),
+    };
+    left.resize(space, T::default());
+    (told, left)
+}
+
 /// The table in a space of 255s: its code, and the space behind it.
 fn table_in(text: &[u8], space: usize) -> (u64, Vec<u8>) {
     let mut output = vec![255; space];
@@ -40,12 +47,9 @@ fn table_in(text: &[u8], space: usize) -> (u64, Vec<u8>) {
 /// A table with zeros behind it in every longer space, and short space with zeros in every shorter one.
 fn check_table(name: &str, text: &[u8], table: &str) {
     let length = table.len();
+    let due = Ok(table.as_bytes().to_vec());
     for space in [0, 1, length - 1, length, length + 1, length + 100, 21082] {
-        let due = if space < length {
-            (code((8, 0, 0)), vec![0; space])
-        } else {
-            (length as u64, [table.as_bytes(), &vec![0; space - length]].concat())
-        };
+        let due = in_space(&due, length as u64, space);
         same(&format!("{}, table in {} bytes", name, space), text, table_in(text, space), due);
     }
 }
@@ -60,14 +64,55 @@ fn page_in(text: &[u8], spread: u32, channel: u32, space: usize) -> (u64, Vec<u8
 /// A page with zeros behind it in every longer space, and short space with zeros in every shorter one; or its refusal in every space.
 fn check_page(name: &str, text: &str, spread: u32, channel: u32, due: Result<String, Refusal>) {
     let length = due.as_ref().map_or(69, |page| page.len());
+    let due = due.map(String::into_bytes);
     for space in [0, 1, length - 1, length, length + 1, 4485, 5000] {
-        let due = match &due {
-            Err(r) => (code(*r), vec![0; space]),
-            Ok(_) if space < length => (code((8, 0, 0)), vec![0; space]),
-            Ok(page) => (length as u64, [page.as_bytes(), &vec![0; space - length]].concat()),
-        };
+        let due = in_space(&due, length as u64, space);
         let what = format!("{}, page {} at {} in {} bytes", name, channel, spread, space);
         same(&what, text.as_bytes(), page_in(text.as_bytes(), spread, channel, space), due);
+    }
+}
+
+/// A placement in a space of so many numbers, none of them zero before: its code, and the space behind it.
+fn placed_in(text: &[u8], spread: u32, total: u32, space: usize) -> (u64, Vec<u32>) {
+    let mut output: Vec<u32> = (0..space as u32).map(|i| u32::MAX - i).collect();
+    let told = library::place_in(text, spread, total, &mut output);
+    (told, output)
+}
+
+/// The placement for a stated total with zeros behind it in every longer space, and short space with zeros in every shorter one; or its refusal in every
+/// space. A placement is legal by a trial.
+fn check_place(name: &str, text: &[u8], spread: u32, total: u32, due: Result<[u32; 18], Refusal>) {
+    let what = format!("{} at {}, placed with {}", name, spread, total);
+    let due = due.map(|numbers| numbers.to_vec());
+    for space in [0, 1, 17, 18, 19, 40] {
+        same(&format!("{}, in {} numbers", what, space), text, placed_in(text, spread, total, space), in_space(&due, 0, space));
+    }
+    if let Ok(numbers) = due {
+        same(&format!("{}, trial", what), text, library::try_numbers(text, spread, &numbers[1..]), 1);
+        same(&format!("{}, the sum", what), text, numbers[1..9].iter().sum(), total);
+    }
+}
+
+/// The least total, or the refusal; then 10 for totals below it.
+fn check_total(name: &str, text: &[u8], spread: u32, due: Result<u32, Refusal>) {
+    same(
+        &format!("{} at {}, least total", name, spread),
+        text,
+        library::least_total(text, spread),
+        due.map_or_else(code, |total| total as u64),
+    );
+    if let Ok(total @ 1..) = due {
+        for below in [0, total / 2, total - 1] {
+            check_place(name, text, spread, below, Err((10, 0, 0)));
+        }
+    }
+}
+
+/// A refusal of the total, and of the placement for every total.
+fn check_refused_spread(name: &str, text: &[u8], spread: u32, due: Refusal) {
+    check_total(name, text, spread, Err(due));
+    for total in [0, 2, 1000, u32::MAX] {
+        check_place(name, text, spread, total, Err(due));
     }
 }
 
@@ -78,9 +123,7 @@ fn check_refused(name: &str, text: &[u8], due: Refusal) {
         same(&format!("{}, table in {} bytes", name, space), text, table_in(text, space), (code(due), vec![0; space]));
     }
     for spread in [0, 4, 1000, u32::MAX] {
-        let mut answer = [255; 18];
-        let told = library::answer_spread(text, spread, &mut answer);
-        same(&format!("{}, spread {}", name, spread), text, (told, answer), (code(due), [0; 18]));
+        check_refused_spread(name, text, spread, due);
         same(&format!("{}, trial at {}", name, spread), text, library::try_placement(text, spread, &[0; 17]), code(due));
         for channel in [0, 1, 9] {
             let what = format!("{}, page {} at {}", name, channel, spread);
@@ -89,24 +132,14 @@ fn check_refused(name: &str, text: &[u8], due: Refusal) {
     }
 }
 
-/// The answer for a spread: total, separations, positions.
+/// The least total at a spread, and its placement: separations, positions.
 fn check_answer(name: &str, text: &str, spread: u32, total: u32, separations: &[u32], positions: &[u32]) {
-    let mut due = [0; 18];
-    due[0] = total;
-    due[1..=separations.len()].copy_from_slice(separations);
-    due[9..9 + positions.len()].copy_from_slice(positions);
-    let mut answer = [255; 18];
-    let told = library::answer_spread(text.as_bytes(), spread, &mut answer);
-    same(&format!("{} at {}", name, spread), text.as_bytes(), (told, answer), (0, due));
-    let mut placement = [0; 17];
-    placement.copy_from_slice(&due[1..]);
-    same(&format!("{} at {}, trial", name, spread), text.as_bytes(), library::try_placement(text.as_bytes(), spread, &placement), 1);
+    check_total(name, text.as_bytes(), spread, Ok(total));
+    check_place(name, text.as_bytes(), spread, total, Ok(library::numbers(total, separations, positions)));
 }
 
 fn check_narrow(name: &str, text: &str, spread: u32) {
-    let mut answer = [255; 18];
-    let told = library::answer_spread(text.as_bytes(), spread, &mut answer);
-    same(&format!("{} at {}", name, spread), text.as_bytes(), (told, answer), (code((7, 0, 0)), [0; 18]));
+    check_refused_spread(name, text.as_bytes(), spread, (7, 0, 0));
 }
 
 /// A text of k channels without pairs between strips of one length.
@@ -212,8 +245,8 @@ fn refused_gaps() -> Vec<(&'static str, Vec<u8>, Refusal)> {
     all.extend(BEHIND_A.map(|(name, lines, due)| (name, behind(A, lines), due)));
     all.extend(BEHIND_B.map(|(name, lines, due)| (name, behind(&b, lines), due)));
     for (name, text, due) in &specimens::TABLES[4..8] {
-        let due: Vec<u32> = due.split_whitespace().map(|n| n.parse().expect("a number")).collect();
-        all.push((*name, behind(&specimens::tabbed(text), "GAP 0 65\nGAP\n"), (due[0], due[1], due[2])));
+        let due = library::refusal_in(due).expect("a refusal");
+        all.push((*name, behind(&specimens::tabbed(text), "GAP 0 65\nGAP\n"), due));
     }
     let eight = bare(8, 1) + &gaps(&[0; 8]);
     all.push(("a ninth GAP line, channel 9", behind(&eight, "GAP 9 0\n"), (3, 27, 2)));
@@ -477,20 +510,89 @@ fn check_trials() {
     }
 }
 
-/// An output of another length than eighteen: short space, or zeros behind.
-fn check_spaces() {
-    for length in [0, 1, 17, 18, 19, 40] {
-        let mut output = vec![255; length];
-        let told = library::answer_in(A.as_bytes(), 6, &mut output);
-        let mut due = vec![0; length];
-        if length >= 18 {
-            due[9] = 2;
-        }
-        same("A at 6 in another space", A.as_bytes(), (told, output), (if length < 18 { code((8, 0, 0)) } else { 0 }, due));
+/// Stated totals: small ones, about the greatest floor, about the greatest sums of pairs and of floors, and up to the greatest number.
+const STATED: [u32; 28] = [
+    0, 1, 2, 3, 4, 5, 6, 31, 32, 33, 63, 64, 65, 255, 256, 257, 511, 512, 513, 1000, 65535, 65536, 2147483647, 2147483648, 2147483649,
+    4294967293, 4294967294, 4294967295,
+];
+
+/// Every stated total at a spread: from the least on what `first` puts into the channels but the last for it, the rest in the last, and the positions.
+fn check_stated(name: &str, text: &str, spread: u32, least: u32, first: impl Fn(u32) -> (Vec<u32>, Vec<u32>)) {
+    check_total(name, text.as_bytes(), spread, Ok(least));
+    for total in STATED.into_iter().chain([least, least + 1, least + 2]) {
+        let due = if total < least {
+            Err((10, 0, 0))
+        } else {
+            let (mut separations, positions) = first(total);
+            separations.push(total - separations.iter().sum::<u32>());
+            Ok(library::numbers(total, &separations, &positions))
+        };
+        check_place(name, text.as_bytes(), spread, total, due);
     }
-    let mut output = [255; 3];
-    same("narrow before short space", A.as_bytes(), library::answer_in(A.as_bytes(), 3, &mut output), code((7, 0, 0)));
-    same("narrow before short space", A.as_bytes(), output, [0; 3]);
+}
+
+/// The specimens' placements for stated totals, and every stated total of the specimens.
+fn check_places() {
+    for (name, text, spread, due) in specimens::SPREADS {
+        let text = specimens::tabbed(text).into_bytes();
+        let due = library::placement_in(due);
+        check_total(name, &text, spread, due.map(|numbers| numbers[0]));
+        check_place(name, &text, spread, due.map_or(0, |numbers| numbers[0]), due);
+    }
+    for (name, text, spread, total, due) in specimens::PLACES {
+        check_place(name, specimens::tabbed(text).as_bytes(), spread, total, library::placement_in(due));
+    }
+    // A's channel alone: straight two columns to the left, with one track one to three columns to the left, with two anywhere.
+    let a = |total: u32| (vec![], vec![2 - total.min(2), 0]);
+    for (spread, least) in [(4, 2), (5, 1), (6, 0), (7, 0), (63, 0), (64, 0), (1000, 0), (u32::MAX, 0)] {
+        check_stated("A", A, spread, least, a);
+        for floor in [1, 2, 3, 64] {
+            check_stated("A with a floor", &(A.to_string() + &gaps(&[floor])), spread, floor.max(least), a);
+        }
+    }
+    let [b, c, d] = [1, 2, 3].map(|n: usize| specimens::tabbed(specimens::TABLES[n].1));
+    for (spread, least, first) in [(4, 4, 2), (5, 3, 1), (6, 2, 0), (7, 1, 0), (8, 0, 0), (9, 0, 0), (64, 0, 0), (u32::MAX, 0, 0)] {
+        // Channel 1 has what the spread asks for, channel 2 the rest; with t tracks the lower strip stands 2 - t columns to the right, or 0.
+        let due =
+            |first: u32| move |total: u32| (vec![first], vec![4 - first.min(2) - (total - first).min(2), 2 - (total - first).min(2), 0]);
+        check_stated("B", &b, spread, least, due(first));
+        // With a floor of 1 below and 3 above: the floors, where the spread asks for less.
+        let first = first.max(1);
+        check_stated("B with floors", &(b.clone() + &gaps(&[1, 3])), spread, first + 3, due(first));
+    }
+    for spread in [5, 6, 64, u32::MAX] {
+        check_stated("C", &c, spread, 0, |_| (vec![], vec![0, 0]));
+        check_stated("C with a floor", &(c.clone() + &gaps(&[3])), spread, 3, |_| (vec![], vec![0, 0]));
+    }
+    check_stated("D", &d, 1, 1, |_| (vec![], vec![0, 0]));
+    for spread in [2, 3, 64, u32::MAX] {
+        check_stated("D", &d, spread, 0, |total| (vec![], vec![0, (total == 0) as u32]));
+    }
+}
+
+/// Stated totals of stacks at the limits: no pairs, eight floors of 64, 32 pairs in one channel and in each of eight; strips longer than a page shows.
+fn check_places_at_limits() {
+    for spread in [1, 63, 64, u32::MAX] {
+        check_stated("eight without pairs", &bare(8, 1), spread, 0, |_| (vec![0; 7], vec![0; 9]));
+        check_stated("eight floors of 64", &(bare(8, 1) + &gaps(&[64; 8])), spread, 512, |_| (vec![64; 7], vec![0; 9]));
+        check_stated("floors 1 to 7", &(bare(8, 1) + &gaps(&[1, 2, 3, 4, 5, 6, 7])), spread, 28, |_| ((1..=7).collect(), vec![0; 9]));
+    }
+    for right in [true, false] {
+        let (text, _) = bundle(32, right);
+        check_stated("bundle", &text, 63, 32, |_| (vec![], vec![0, 0]));
+        check_stated("bundle with a floor", &(text.clone() + &gaps(&[64])), 63, 64, |_| (vec![], vec![0, 0]));
+        let lines: Vec<&str> = text.lines().collect();
+        let eight = format!("STACK\t8\n{}{}", format!("{}\n", lines[1]).repeat(9), format!("{}\n", lines[3]).repeat(8));
+        check_stated("eight bundles", &eight, 63, 256, |_| (vec![32; 7], vec![0; 9]));
+        check_stated("eight bundles with floors", &(eight + &gaps(&[64; 8])), 63, 512, |_| (vec![64; 7], vec![0; 9]));
+    }
+    let long = "STACK\t2\nPART\t100\nPART\t4\nPART\t1000\nNETS\nNETS\nGAP\t1\t5\nGAP\t2\t2\n";
+    for spread in [0, 4, 63, 64, 100, 999] {
+        check_narrow("long", long, spread);
+    }
+    for spread in [1000, 1001, 2000, u32::MAX] {
+        check_stated("long", long, spread, 7, |_| (vec![5], vec![0; 3]));
+    }
 }
 
 /// m pairs whose paths each go m columns right, or left, between strips just long enough: each has a run on a track of its own, so m tracks are
@@ -595,12 +697,13 @@ fn main() {
     check_floors();
     check_trials();
     check_floor_trials();
-    check_spaces();
+    check_places();
+    check_places_at_limits();
     check_pages();
     check_tall_pages();
     check_page_refusals();
     println!(
-        "entries: {} refused texts, {} tables, answers, trials and pages of the specimens: no difference",
+        "entries: {} refused texts, {} tables, totals, placements, trials and pages of the specimens: no difference",
         refused.len(),
         accepted.len()
     );
