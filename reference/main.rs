@@ -174,14 +174,6 @@ fn check_specimens() -> bool {
     good
 }
 
-/// Totals about the least, about the sum of the least separations that are feasible at every offset, and the greatest that can be stated.
-fn some_totals(stack: &Stack, least: usize) -> Vec<usize> {
-    let free: usize = (0..stack.channels.len()).map(|i| solver::least_free(stack, i)).sum();
-    let mut totals: Vec<usize> = (least.saturating_sub(2)..least + 5).chain(free.saturating_sub(1)..free + 2).collect();
-    totals.push(u32::MAX as usize);
-    totals
-}
-
 /// The two ways to place strips, at every spread of random small stacks and for several totals; how many spreads and placements, or the first stack at which
 /// they differ.
 fn check_agreement(seed: u64, count: usize) -> Result<(usize, usize), Vec<u8>> {
@@ -192,8 +184,9 @@ fn check_agreement(seed: u64, count: usize) -> Result<(usize, usize), Vec<u8>> {
         let stack = random.stack(k, 12 - 2 * k as i64, 4);
         for spread in solver::longest(&stack)..=solver::widest(&stack) + 3 {
             let least = solver::least_total(&stack, spread, true);
-            let totals = some_totals(&stack, least);
-            let same = |total: &usize| solver::place(&stack, spread, *total, true) == solver::place(&stack, spread, *total, false);
+            let totals = random.totals(&stack, least as u32);
+            let place = |total: &u32, brute: bool| solver::place(&stack, spread, *total as usize, brute);
+            let same = |total: &u32| place(total, true) == place(total, false);
             if least != solver::least_total(&stack, spread, false) || !totals.iter().all(same) {
                 return Err(random.text(&stack));
             }

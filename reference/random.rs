@@ -1,7 +1,8 @@
-//! Random stacks and their texts, each from a seed. Half of the stacks have floors.
+//! Random stacks, their texts and totals, each from a seed. Half of the stacks have floors.
 
 use crate::channel::Pair;
 use crate::reader::Stack;
+use crate::solver::free_total;
 
 /// SplitMix64.
 pub struct Random(pub u64);
@@ -111,6 +112,17 @@ impl Random {
             floors[one] = floors[one].max(1);
         }
         Stack { lengths, channels, floors }
+    }
+
+    /// Totals to be stated, where this is the least: about it, about the sum of the separations that are feasible at every offset, anywhere, and the greatest.
+    pub fn totals(&mut self, stack: &Stack, least: u32) -> Vec<u32> {
+        let free = free_total(stack) as u32;
+        let mut all: Vec<u32> = (least.saturating_sub(2)..=least + 3).chain(free.saturating_sub(1)..=free + 1).collect();
+        let far = self.next() as u32;
+        all.extend([0, far >> self.below(24), far, u32::MAX]);
+        all.sort();
+        all.dedup();
+        all
     }
 
     /// The text of a stack; floors of 0 are left out, or now and then some of them are written.

@@ -75,8 +75,13 @@ fn least_open(stack: &Stack, i: usize) -> usize {
 }
 
 /// The least separation of a channel that is feasible at every offset.
-pub fn least_free(stack: &Stack, i: usize) -> usize {
+fn least_free(stack: &Stack, i: usize) -> usize {
     stack.channels[i].len().max(stack.floors[i])
+}
+
+/// The sum of these over the channels: from such a total on nothing keeps a strip from the left.
+pub fn free_total(stack: &Stack) -> usize {
+    (0..stack.channels.len()).map(|i| least_free(stack, i)).sum()
 }
 
 /// So much of a total is little: `brute` then tries all of it in each channel.

@@ -73,8 +73,8 @@ pub const SPREADS: [(&str, &str, u32, &str); 9] = [
 ];
 
 /// The least total at spread 6 has channel 1 at 1, so that strip 1 stands at 1 and channel 2 is straight. With one track more channel 1 is straight, and
-/// channel 2 needs two: the surplus goes into the middle, and none into the last channel, which has no pairs.
-const MIDDLE: &str = "STACK 3\nPART 4\nPART 4\nPART 4\nPART 4\nNETS 0 2 2 4\nNETS 1 2 2 3\nNETS\n";
+/// channel 2 needs two: the surplus goes into the middle, and none into the last channel, which is straight both times.
+const MIDDLE: &str = "STACK 3\nPART 4\nPART 4\nPART 4\nPART 4\nNETS 0 2 2 4\nNETS 1 2 2 3\nNETS 0 0\n";
 
 /// The text, a spread, a stated total, and the row or the refusal's line.
 pub const PLACES: [(&str, &str, u32, u32, &str); 58] = [

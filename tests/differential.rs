@@ -12,7 +12,7 @@ mod plain {
     pub mod page;
     pub mod solver;
     pub use page::page;
-    pub use solver::{answer, table};
+    pub use solver::{place, table, total};
 }
 #[path = "../reference/random.rs"]
 mod random;
@@ -23,8 +23,9 @@ mod solver;
 #[path = "../reference/specimens.rs"]
 mod specimens;
 
+use library::{code, Refusal};
 use random::Random;
-use reader::{Refusal, Stack};
+use reader::Stack;
 use std::collections::BTreeMap;
 
 const USAGE: &str =
@@ -34,12 +35,21 @@ const USAGE: &str =
 const COUNTS: [u64; 5] = [4000, 1500, 50000, 50, 2000];
 
 /// What is counted and must have been met, in a run of at least the usual counts.
-const MET: [&str; 12] = [
+const MET: [&str; 21] = [
     "stacks with floors",
     "stacks with a floor on a channel without pairs",
     "stacks with a floor of 0 written",
-    "answers, total raised by a floor",
-    "answers, total not raised by a floor",
+    "least totals, raised by a floor",
+    "least totals, not raised by a floor",
+    "placements, total above the least",
+    "placements, total above the sum of last separations of use",
+    "placements, 4294967295 stated",
+    "placements, a channel before the last with less than at the least",
+    "placements, a channel before the last with more than at the least",
+    "placements, other positions than at the least",
+    "placements, refused 7 before 10",
+    "placements, refused 10",
+    "placements, refused 10 at a spread above 63",
     "pages, tracks above the pairs' own",
     "trials, not legal by a floor alone",
     "refusal 2 of a GAP line",
@@ -54,10 +64,6 @@ const SPACE: usize = 32768;
 
 /// What was due and what was found, in words.
 type Checked = Result<(), String>;
-
-fn code(r: Refusal) -> u64 {
-    ((r.0 as u64) << 40) + ((r.1 as u64) << 20) + r.2 as u64
-}
 
 fn in_words(code: u64) -> String {
     match code >> 40 {
@@ -75,15 +81,9 @@ fn same_code(what: &str, found: u64, due: u64) -> Checked {
 
 /// The total, eight separations and nine positions.
 fn padded(answer: &solver::Answer) -> [u32; 18] {
-    let mut all = [0; 18];
-    all[0] = answer.total as u32;
-    for (i, t) in answer.separations.iter().enumerate() {
-        all[1 + i] = *t as u32;
-    }
-    for (i, x) in answer.positions.iter().enumerate() {
-        all[9 + i] = *x as u32;
-    }
-    all
+    let separations: Vec<u32> = answer.separations.iter().map(|t| *t as u32).collect();
+    let positions: Vec<u32> = answer.positions.iter().map(|x| *x as u32).collect();
+    library::numbers(answer.total as u32, &separations, &positions)
 }
 
 /// The answer that these numbers give.
@@ -176,6 +176,52 @@ fn judged(stack: &Stack, spread: u32, placement: &[u32; 17]) -> bool {
     unused && solver::legal(stack, spread as i64, &separations, &positions)
 }
 
+/// The placement in a total, eight separations and nine positions, if it is legal and adds up.
+fn judged_sum(stack: &Stack, spread: u32, numbers: &[u32; 18]) -> Result<[u32; 17], String> {
+    let mut placement = [0; 17];
+    placement.copy_from_slice(&numbers[1..]);
+    let sum: u64 = placement[..8].iter().map(|t| *t as u64).sum();
+    if !judged(stack, spread, &placement) || sum != numbers[0] as u64 {
+        return Err(format!("placement at spread {}: {:?} is not legal or does not add up", spread, numbers));
+    }
+    Ok(placement)
+}
+
+/// A placement for a stated total, or the refusal.
+type Placed = Result<[u32; 18], Refusal>;
+
+/// The placement by the reference, at a spread that is not narrow.
+fn placed_by_trying(stack: &Stack, spread: u32, total: u32, brute: bool) -> Placed {
+    solver::place(stack, spread as i64, total as usize, brute).map(|answer| padded(&answer)).ok_or((10, 0, 0))
+}
+
+/// The placement of a stack with many pairs: by the reference, where the total is enough for every channel so that it soon ends, else by the plain program.
+fn placed_of_many(stack: &Stack, text: &[u8], spread: u32, total: u32) -> Placed {
+    if total as usize >= solver::free_total(stack) {
+        return placed_by_trying(stack, spread, total, false);
+    }
+    plain::place(text, spread, total)
+}
+
+/// What is counted of a placement for a greater total than the least: where it differs from the least one's.
+fn greater_place(stack: &Stack, least: &[u32; 18], placed: &[u32; 18]) -> Vec<&'static str> {
+    let before_last = 1..stack.channels.len();
+    let mut all = vec!["placements, total above the least"];
+    if placed[0] as usize > solver::free_total(stack) {
+        all.push("placements, total above the sum of last separations of use");
+    }
+    if before_last.clone().any(|i| placed[i] < least[i]) {
+        all.push("placements, a channel before the last with less than at the least");
+    }
+    if before_last.clone().any(|i| placed[i] > least[i]) {
+        all.push("placements, a channel before the last with more than at the least");
+    }
+    if placed[9..] != least[9..] {
+        all.push("placements, other positions than at the least");
+    }
+    all
+}
+
 fn plain_table(text: &[u8]) -> Result<Vec<u8>, String> {
     let mut table = vec![0; SPACE];
     let length = plain::table(text, &mut table).map_err(|r| format!("the plain program refuses: {:?}", r))?;
@@ -265,36 +311,105 @@ impl Run {
         }
     }
 
-    fn answer(&mut self, text: &[u8], spread: u32, due: Result<[u32; 18], Refusal>) -> Checked {
-        self.count("answers");
-        let mut space = [u32::MAX; 34];
-        let answer: &mut [u32; 18] = (&mut space[8..26]).try_into().unwrap();
-        let told = library::answer_spread(text, spread, answer);
-        same_code(&format!("answer at spread {}", spread), told, due.map_or_else(code, |_| 0))?;
-        let numbers = due.unwrap_or([0; 18]);
-        if *answer != numbers {
-            return Err(format!("answer at spread {}: found {:?}, due {:?}", spread, answer, numbers));
-        }
-        if space[..8].iter().chain(&space[26..]).any(|v| *v != u32::MAX) {
-            return Err(format!("answer at spread {}: numbers beside the space are changed", spread));
-        }
+    /// The least total of both programs.
+    fn total(&mut self, text: &[u8], spread: u32, due: Result<u32, Refusal>) -> Checked {
+        self.count("least totals");
+        let what = format!("least total at spread {}", spread);
+        same_code(&what, library::least_total(text, spread), due.map_or_else(code, |total| total as u64))?;
         self.raised(text, spread, &due)?;
-        match plain::answer(text, spread) {
+        match plain::total(text, spread) {
             found if found == due => Ok(()),
-            found => Err(format!("the plain program's answer at spread {}: {:?}, due {:?}", spread, found, due)),
+            found => Err(format!("the plain program's {}: {:?}, due {:?}", what, found, due)),
         }
     }
 
     /// Floors never lower a total: the plain program has that of the stack without them.
-    fn raised(&mut self, text: &[u8], spread: u32, due: &Result<[u32; 18], Refusal>) -> Checked {
+    fn raised(&mut self, text: &[u8], spread: u32, due: &Result<u32, Refusal>) -> Checked {
         let (Some(bare), Ok(due)) = (without_gaps(text), due) else {
             return Ok(());
         };
-        let without = plain::answer(bare, spread).map_err(|r| format!("the plain program refuses without GAP lines: {:?}", r))?;
-        if due[0] < without[0] {
-            return Err(format!("answer at spread {}: {} with floors, {} without", spread, due[0], without[0]));
+        let without = plain::total(bare, spread).map_err(|r| format!("the plain program refuses without GAP lines: {:?}", r))?;
+        if *due < without {
+            return Err(format!("least total at spread {}: {} with floors, {} without", spread, due, without));
         }
-        self.count(if due[0] > without[0] { "answers, total raised by a floor" } else { "answers, total not raised by a floor" });
+        self.count(if *due > without { "least totals, raised by a floor" } else { "least totals, not raised by a floor" });
+        Ok(())
+    }
+
+    /// The placement of both programs for a stated total.
+    fn place(&mut self, text: &[u8], spread: u32, total: u32, due: Placed) -> Checked {
+        self.count("placements");
+        match due {
+            Err((7, ..)) => self.count("placements, refused 7 before 10"),
+            Err((10, ..)) => self.count("placements, refused 10"),
+            _ => (),
+        }
+        let what = format!("placement at spread {} for total {}", spread, total);
+        // Eighteen numbers, or now and then fewer or more, between eight on each side that must stay.
+        let length = if self.random.chance(8) { self.random.below(40) } else { 18 };
+        let mut space = vec![u32::MAX; length + 16];
+        let told = library::place_in(text, spread, total, &mut space[8..8 + length]);
+        let put = if length < 18 { due.and(Err((8, 0, 0))) } else { due };
+        same_code(&format!("{} in {} numbers", what, length), told, put.map_or_else(code, |_| 0))?;
+        let mut numbers = put.unwrap_or([0; 18]).to_vec();
+        numbers.resize(length, 0);
+        if space[8..8 + length] != numbers {
+            return Err(format!("{} in {} numbers: found {:?}, due {:?}", what, length, &space[8..8 + length], numbers));
+        }
+        if space[..8].iter().chain(&space[8 + length..]).any(|v| *v != u32::MAX) {
+            return Err(format!("{} in {} numbers: numbers beside the space are changed", what, length));
+        }
+        match plain::place(text, spread, total) {
+            found if found == due => Ok(()),
+            found => Err(format!("the plain program's {}: {:?}, due {:?}", what, found, due)),
+        }
+    }
+
+    /// The placement for a stated total where this is the placement with the least: its sum, its trial, and its trial with a separation lowered.
+    fn stated(&mut self, stack: &Stack, text: &[u8], spread: u32, total: u32, least: &[u32; 18], due: Placed) -> Checked {
+        self.place(text, spread, total, due)?;
+        if due.is_err() && spread > 63 {
+            self.count("placements, refused 10 at a spread above 63");
+        }
+        let Ok(placed) = due else {
+            return Ok(());
+        };
+        if total == u32::MAX {
+            self.count("placements, 4294967295 stated");
+        }
+        if total > least[0] {
+            greater_place(stack, least, &placed).into_iter().for_each(|what| self.count(what));
+        }
+        let mut placement = judged_sum(stack, spread, &placed)?;
+        self.try_on(stack, text, spread, &placement)?;
+        let lowered = self.random.below(stack.channels.len());
+        if placement[lowered] > 0 {
+            placement[lowered] -= 1;
+            self.try_on(stack, text, spread, &placement)?;
+        }
+        Ok(())
+    }
+
+    /// The least total at a spread, its placement, and the placements for other totals, which `place` gives: all that are about, or some.
+    fn answers(&mut self, stack: &Stack, text: &[u8], spread: u32, least: &[u32; 18], all: bool, place: impl Fn(u32) -> Placed) -> Checked {
+        self.total(text, spread, Ok(least[0]))?;
+        self.stated(stack, text, spread, least[0], least, Ok(*least))?;
+        let mut totals = self.random.totals(stack, least[0]);
+        while !all && totals.len() > 2 {
+            totals.remove(self.random.below(totals.len()));
+        }
+        for total in totals {
+            self.stated(stack, text, spread, total, least, place(total))?;
+        }
+        Ok(())
+    }
+
+    /// What is refused for a spread or a text: the total, and the placements for two totals.
+    fn refused(&mut self, text: &[u8], spread: u32, r: Refusal) -> Checked {
+        self.total(text, spread, Err(r))?;
+        for total in [[0, u32::MAX][self.random.below(2)], self.random.below(600) as u32] {
+            self.place(text, spread, total, Err(r))?;
+        }
         Ok(())
     }
 
@@ -321,14 +436,10 @@ impl Run {
         same_code(&format!("trial at spread {} of {:?}", spread, placement), told, code)
     }
 
-    /// Trials of an answer's placement and of what is next to it.
+    /// Trials of a placement and of what is next to it.
     fn neighbours(&mut self, stack: &Stack, text: &[u8], spread: u32, answer: &[u32; 18]) -> Checked {
         let k = stack.channels.len();
-        let mut base = [0; 17];
-        base.copy_from_slice(&answer[1..]);
-        if !judged(stack, spread, &base) || answer[0] != base[..8].iter().sum::<u32>() {
-            return Err(format!("answer at spread {}: {:?} is not legal or does not add up", spread, answer));
-        }
+        let base = judged_sum(stack, spread, answer)?;
         let mut all = Vec::new();
         for spread in [spread, spread - 1, spread.wrapping_add(1), 0, u32::MAX] {
             all.push((spread, base));
@@ -420,7 +531,7 @@ impl Run {
         for spread in self.spreads(stack, &row_spreads) {
             let channel = self.channel(stack);
             if (spread as i64) < solver::longest(stack) {
-                self.answer(text, spread, Err((7, 0, 0)))?;
+                self.refused(text, spread, (7, 0, 0))?;
                 self.page(stack, text, spread, channel, None)?;
                 self.placements(stack, text, spread, 1)?;
                 continue;
@@ -428,10 +539,11 @@ impl Run {
             let tried = brute && spread as i64 <= solver::widest(stack) + 3;
             let answer = solver::answer(stack, spread as i64, tried);
             let due = padded(&answer);
-            self.answer(text, spread, Ok(due))?;
+            let is_row = row_spreads.contains(&spread);
+            self.answers(stack, text, spread, &due, is_row, |total| placed_by_trying(stack, spread, total, tried))?;
             self.page(stack, text, spread, channel, Some(&answer))?;
             self.placements(stack, text, spread, 3)?;
-            if row_spreads.contains(&spread) || self.random.chance(4) {
+            if is_row || self.random.chance(4) {
                 self.neighbours(stack, text, spread, &due)?;
             }
         }
@@ -450,18 +562,29 @@ impl Run {
         let mut some: Vec<u32> = (0..3).map(|_| rows[self.random.below(rows.len())]).collect();
         some.push(rows[rows.len() - 1]);
         for spread in self.spreads(stack, &some) {
-            let due = plain::answer(text, spread);
-            self.answer(text, spread, due)?;
-            let answer = due.ok().map(|due| unpadded(stack, &due));
+            let due = self.answers_of_many(stack, text, spread)?;
+            let answer = due.map(|due| unpadded(stack, &due));
             for channel in [self.channel(stack), 0, 9] {
                 self.page(stack, text, spread, channel, answer.as_ref())?;
             }
-            if let Ok(due) = due {
+            if let Some(due) = due {
                 self.neighbours(stack, text, spread, &due)?;
             }
         }
         let spread = solver::widest(stack) + self.random.between(0, 9);
-        self.answer(text, spread as u32, Ok(padded(&solver::answer(stack, spread, false))))
+        let least = padded(&solver::answer(stack, spread, false));
+        self.answers(stack, text, spread as u32, &least, true, |total| placed_of_many(stack, text, spread as u32, total))
+    }
+
+    /// Totals and placements of a stack with many pairs at any spread, by the plain program's least; that placement, if the spread is not narrow.
+    fn answers_of_many(&mut self, stack: &Stack, text: &[u8], spread: u32) -> Result<Option<[u32; 18]>, String> {
+        match plain::total(text, spread).and_then(|total| plain::place(text, spread, total)) {
+            Ok(least) => {
+                self.answers(stack, text, spread, &least, false, |total| placed_of_many(stack, text, spread, total))?;
+                Ok(Some(least))
+            }
+            Err(_) => self.refused(text, spread, (7, 0, 0)).map(|_| None),
+        }
     }
 
     /// Every page of a stack at the longest strip, at the last spread that is shown and between, by the plain program's answers; other
@@ -469,12 +592,8 @@ impl Run {
     fn stack_for_pages(&mut self, stack: &Stack, text: &[u8]) -> Checked {
         let (k, longest) = (stack.channels.len() as u32, solver::longest(stack));
         for spread in [longest, self.random.between(longest, 63), self.random.between(longest, 63), 63] {
-            let due = plain::answer(text, spread as u32);
-            self.answer(text, spread as u32, due)?;
-            let answer = due.map(|due| unpadded(stack, &due)).map_err(|r| format!("the plain program refuses: {:?}", r))?;
-            if !solver::legal(stack, spread, &answer.separations, &answer.positions) {
-                return Err(format!("answer at spread {}: {:?} is not legal", spread, answer));
-            }
+            let due = self.answers_of_many(stack, text, spread as u32)?.ok_or("the plain program refuses")?;
+            let answer = unpadded(stack, &due);
             for channel in 1..=k {
                 self.page(stack, text, spread as u32, channel, Some(&answer))?;
             }
@@ -500,10 +619,9 @@ impl Run {
                 let length = table.len();
                 self.table_in(text, length + 9, &Ok(table.clone()))?;
                 self.table_in(text, length - 1, &Ok(table))?;
-                let due = plain::answer(text, spread);
-                self.answer(text, spread, due)?;
+                let answer = self.answers_of_many(stack, text, spread)?.map(|due| unpadded(stack, &due));
                 let channel = self.channel(stack);
-                self.page(stack, text, spread, channel, due.ok().map(|due| unpadded(stack, &due)).as_ref())?;
+                self.page(stack, text, spread, channel, answer.as_ref())?;
                 self.placements(stack, text, spread, 1)
             }
             Err(r) => {
@@ -520,7 +638,7 @@ impl Run {
                     self.count(what);
                 }
                 self.table(text, &Err(*r))?;
-                self.answer(text, spread, Err(*r))?;
+                self.refused(text, spread, *r)?;
                 self.count("pages, text refused");
                 let (channel, space) = ([0, 1, 2, 9, u32::MAX][self.random.below(5)], self.random.below(150));
                 self.page_in(text, spread, channel, space, &Err(*r))?;
@@ -619,39 +737,31 @@ fn expect(kind: &str, text: &[u8], checked: Checked) {
 }
 
 fn check_specimens(run: &mut Run) {
-    let refusal = |line: &str| -> Option<Refusal> {
-        let numbers: Vec<u32> = line.split_whitespace().map(|w| w.parse().ok()).collect::<Option<_>>()?;
-        Some((numbers[0], numbers[1], numbers[2]))
-    };
     for (name, text, due) in specimens::TABLES {
         let text = specimens::tabbed(text).into_bytes();
-        let due = refusal(due).map_or_else(|| Ok(specimens::tabbed(due).into_bytes()), Err);
+        let due = library::refusal_in(due).map_or_else(|| Ok(specimens::tabbed(due).into_bytes()), Err);
         run.count("specimens");
         let checked = run.table(&text, &due);
         expect(name, &text, checked);
     }
     for (name, text, spread, due) in specimens::SPREADS {
-        let k = text.as_bytes()[6] as usize - 48;
         let text = specimens::tabbed(text).into_bytes();
-        let due = match refusal(due) {
-            Some(r) => Err(r),
-            None => {
-                let row: Vec<u32> = due[4..].split_whitespace().map(|w| w.parse().unwrap()).collect();
-                let mut answer = [0; 18];
-                answer[..=k].copy_from_slice(&row[1..=k + 1]);
-                answer[9..=9 + k].copy_from_slice(&row[k + 2..]);
-                Ok(answer)
-            }
-        };
+        let total = library::placement_in(due).map(|numbers| numbers[0]);
         run.count("specimens");
-        let checked = run.answer(&text, spread, due);
+        let checked = run.total(&text, spread, total);
+        expect(name, &text, checked);
+        let checked = run.place(&text, spread, total.unwrap_or(0), library::placement_in(due));
+        expect(name, &text, checked);
+    }
+    for (name, text, spread, total, due) in specimens::PLACES {
+        let text = specimens::tabbed(text).into_bytes();
+        run.count("specimens");
+        let checked = run.place(&text, spread, total, library::placement_in(due));
         expect(name, &text, checked);
     }
     for (name, text, spread, separations, positions, due) in specimens::TRIALS {
         let text = specimens::tabbed(text).into_bytes();
-        let mut placement = [0; 17];
-        placement[..separations.len()].copy_from_slice(separations);
-        placement[8..8 + positions.len()].copy_from_slice(positions);
+        let placement = library::numbers(0, separations, positions)[1..].try_into().expect("seventeen numbers");
         run.count("specimens");
         let checked = run.trial(&text, spread, &placement, Ok(due));
         expect(name, &text, checked);
