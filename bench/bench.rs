@@ -1,4 +1,4 @@
-//! Times of the proved library and of the plain program, per table, per one-spread answer and per page, side by side.
+//! Times of the proved library and of the plain program, per table, per least total, per placement for a total and per page, side by side.
 
 #[allow(dead_code)]
 #[path = "../tests/library.rs"]
@@ -10,9 +10,10 @@ use std::collections::HashMap;
 use std::hint::black_box;
 use std::time::Instant;
 
-const USAGE: &str = "usage: bench report COUNTS STACK..       tables and answers: times, beside the instructions in the file COUNTS
-       bench pages COUNTS STACK..        the same for the page of channel 1, the answer, and what the page takes besides
-       bench repeat PROGRAM JOB COUNT STACK    (proved or plain; table, answer or page)";
+const USAGE: &str =
+    "usage: bench report COUNTS STACK..       tables, totals and placements: times, beside the instructions in the file COUNTS
+       bench pages COUNTS STACK..        the same for the page of channel 1, the total, and what the page takes besides
+       bench repeat PROGRAM JOB COUNT STACK    (proved or plain; table, total, place, place+8, placemax or page)";
 
 /// Longer than every table.
 const SPACE: usize = 24576;
@@ -20,13 +21,26 @@ const SPACE: usize = 24576;
 const PAGE_SPACE: usize = 4485;
 const SAMPLES: usize = 31;
 const PROGRAMS: [&str; 2] = ["proved", "plain"];
-const JOBS: [&str; 3] = ["table", "answer", "page"];
+/// The placements are for the least total, for 8 more and for the greatest total that can be stated.
+const JOBS: [&str; 6] = ["table", "total", "place", "place+8", "placemax", "page"];
 
 struct Input {
     name: String,
     text: Vec<u8>,
-    /// The longest strip: there the total is greatest.
+    /// The longest strip: there the least total is greatest.
     spread: u32,
+    least: u32,
+}
+
+impl Input {
+    /// The total that a job states.
+    fn stated(&self, job: &str) -> u32 {
+        match job {
+            "place+8" => self.least + 8,
+            "placemax" => u32::MAX,
+            _ => self.least,
+        }
+    }
 }
 
 fn input(path: &str) -> Input {
@@ -34,50 +48,61 @@ fn input(path: &str) -> Input {
     let lengths = text.split(|b| *b == 10).filter_map(|l| l.strip_prefix(b"PART\t"));
     let spread = lengths.map(|l| std::str::from_utf8(l).unwrap().parse().unwrap()).max().expect("strips");
     let name = std::path::Path::new(path).file_stem().unwrap().to_string_lossy().into_owned();
-    Input { name, text, spread }
+    let least = solver::total(&text, spread).expect("a total");
+    Input { name, text, spread, least }
 }
 
 /// Does the job so many times, into buffers that are not cleared between.
 fn repeat(program: &str, job: &str, count: u64, input: &Input) {
     let mut space = vec![0; if job == "page" { PAGE_SPACE } else { SPACE }];
-    let text = &input.text[..];
+    let (text, spread, stated) = (&input.text[..], input.spread, input.stated(job));
     for _ in 0..count {
         match (program, job) {
             ("proved", "table") => {
                 black_box(library::write_table(black_box(text), black_box(&mut space)));
             }
             ("proved", "page") => {
-                black_box(library::write_page(black_box(text), black_box(input.spread), black_box(1), black_box(&mut space)));
+                black_box(library::write_page(black_box(text), black_box(spread), black_box(1), black_box(&mut space)));
+            }
+            ("proved", "total") => {
+                black_box(library::least_total(black_box(text), black_box(spread)));
             }
             ("proved", _) => {
-                let mut answer = [0; 18];
-                black_box(library::answer_spread(black_box(text), black_box(input.spread), black_box(&mut answer)));
+                let mut numbers = [0; 18];
+                black_box(library::place_in(black_box(text), black_box(spread), black_box(stated), black_box(&mut numbers)));
             }
             (_, "table") => {
                 black_box(solver::table(black_box(text), black_box(&mut space))).expect("a table");
             }
             (_, "page") => {
-                black_box(page::page(black_box(text), black_box(input.spread), black_box(1), black_box(&mut space))).expect("a page");
+                black_box(page::page(black_box(text), black_box(spread), black_box(1), black_box(&mut space))).expect("a page");
+            }
+            (_, "total") => {
+                black_box(solver::total(black_box(text), black_box(spread))).expect("a total");
             }
             _ => {
-                black_box(solver::answer(black_box(text), black_box(input.spread))).expect("an answer");
+                black_box(solver::place(black_box(text), black_box(spread), black_box(stated))).expect("a placement");
             }
         }
     }
 }
 
-/// Both programs must write the same.
+/// Both programs must answer the same.
 fn compare(input: &Input) {
+    let (text, spread) = (&input.text[..], input.spread);
     let (mut proved, mut plain) = (vec![255; SPACE], vec![255; SPACE]);
-    let told = library::write_table(&input.text, &mut proved);
-    assert_eq!(solver::table(&input.text, &mut plain), Ok(told as usize), "{}", input.name);
+    let told = library::write_table(text, &mut proved);
+    assert_eq!(solver::table(text, &mut plain), Ok(told as usize), "{}", input.name);
     assert!(proved == plain, "{}: the tables differ", input.name);
-    let mut answer = [0; 18];
-    library::answer_spread(&input.text, input.spread, &mut answer);
-    assert_eq!(solver::answer(&input.text, input.spread), Ok(answer), "{}", input.name);
-    let told = library::write_page(&input.text, input.spread, 1, &mut proved);
-    let found = page::page(&input.text, input.spread, 1, &mut plain);
-    assert_eq!(found.map_or_else(|r| (r.0 as u64) << 40, |length| length as u64), told, "{}", input.name);
+    assert_eq!(library::least_total(text, spread), input.least as u64, "{}", input.name);
+    for job in ["place", "place+8", "placemax"] {
+        let mut numbers = [255; 18];
+        let told = library::place_in(text, spread, input.stated(job), &mut numbers);
+        assert_eq!((told, solver::place(text, spread, input.stated(job))), (0, Ok(numbers)), "{}, {}", input.name, job);
+    }
+    let told = library::write_page(text, spread, 1, &mut proved);
+    let found = page::page(text, spread, 1, &mut plain);
+    assert_eq!(found.map_or_else(library::code, |length| length as u64), told, "{}", input.name);
     assert!(proved == plain, "{}: the pages differ", input.name);
 }
 
@@ -137,7 +162,7 @@ fn print_cost(name: &str, job: &str, cost: &Cost) {
     }
 }
 
-/// A line for each stack and job; with `pages` for each stack its page, its answer and the drawing, which is the difference.
+/// A line for each stack and job; with `pages` for each stack its page, its total, and what the page takes besides: placing the strips and drawing.
 fn report(counts: &str, paths: &[String], pages: bool) {
     let counts = instructions(counts);
     println!(
@@ -147,12 +172,16 @@ fn report(counts: &str, paths: &[String], pages: bool) {
     for path in paths {
         let input = input(path);
         compare(&input);
-        let first = if pages { "page" } else { "table" };
-        let (whole, answer) = (cost(&counts, first, &input), cost(&counts, "answer", &input));
-        print_cost(&input.name, first, &whole);
-        print_cost(&input.name, "answer", &answer);
+        let print = |job: &str| {
+            let cost = cost(&counts, job, &input);
+            print_cost(&input.name, job, &cost);
+            cost
+        };
         if pages {
-            print_cost(&input.name, "drawing", &difference(&whole, &answer));
+            let (whole, part) = (print("page"), print("total"));
+            print_cost(&input.name, "drawing", &difference(&whole, &part));
+        } else {
+            JOBS[..5].iter().for_each(|job| drop(print(job)));
         }
     }
 }

@@ -273,7 +273,16 @@ impl Solver {
         self.lengths.iter().sum()
     }
 
+    /// A spread as far as it matters: leftmost placements never reach beyond the sum of the lengths.
+    fn within(&self, spread: u32) -> Result<i16, Refusal> {
+        if spread < self.longest() as u32 {
+            return Err((7, 0, 0));
+        }
+        Ok(spread.min(self.widest() as u32) as i16)
+    }
+
     /// Writes the span of strip i for total v. Answers by how much it is short, NOWHERE if it is not or is far from open.
+    #[inline(always)]
     fn cell(&mut self, i: usize, v: usize) -> i16 {
         let (own, above) = self.spans.split_at_mut(i + 1);
         let (own, above) = (&mut own[i], &above[0]);
@@ -393,35 +402,26 @@ impl Solver {
     }
 }
 
-/// A stack's solver, and the spread as far as it matters: leftmost placements never reach beyond the sum of the lengths.
-fn solver_at(stack: &Stack, spread: u32) -> Result<(Solver, i16), Refusal> {
-    let solver = Solver::new(stack);
-    if spread < solver.longest() as u32 {
-        return Err((7, 0, 0));
-    }
-    let spread = spread.min(solver.widest() as u32) as i16;
-    Ok((solver, spread))
-}
-
 /// The placement with the least total at a spread.
 pub fn placement(stack: &Stack, spread: u32) -> Result<Placement, Refusal> {
-    let (mut solver, spread) = solver_at(stack, spread)?;
-    let (total, _) = solver.scan(spread);
+    let mut solver = Solver::new(stack);
+    let (total, _) = solver.scan(solver.within(spread)?);
     Ok(solver.place(total))
 }
 
 /// The least total at a spread.
 pub fn total(text: &[u8], spread: u32) -> Result<u32, Refusal> {
     let stack = read(text)?;
-    let (mut solver, spread) = solver_at(&stack, spread)?;
-    let (total, _) = solver.scan(spread);
+    let mut solver = Solver::new(&stack);
+    let (total, _) = solver.scan(solver.within(spread)?);
     Ok((total + stack.floors.iter().sum::<usize>()) as u32)
 }
 
 /// The stated total, eight separations and nine positions at a spread; zeros in unused places.
 pub fn place(text: &[u8], spread: u32, total: u32) -> Result<[u32; 18], Refusal> {
     let stack = read(text)?;
-    let (mut solver, spread) = solver_at(&stack, spread)?;
+    let mut solver = Solver::new(&stack);
+    let spread = solver.within(spread)?;
     let above = (total as usize).checked_sub(stack.floors.iter().sum()).ok_or((10, 0, 0))?;
     if !solver.fill(spread, above) {
         return Err((10, 0, 0));

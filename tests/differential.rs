@@ -35,7 +35,7 @@ const USAGE: &str =
 const COUNTS: [u64; 5] = [4000, 1500, 50000, 50, 2000];
 
 /// What is counted and must have been met, in a run of at least the usual counts.
-const MET: [&str; 21] = [
+const MET: [&str; 22] = [
     "stacks with floors",
     "stacks with a floor on a channel without pairs",
     "stacks with a floor of 0 written",
@@ -50,6 +50,7 @@ const MET: [&str; 21] = [
     "placements, refused 7 before 10",
     "placements, refused 10",
     "placements, refused 10 at a spread above 63",
+    "placements, refused 10 before 8",
     "pages, tracks above the pairs' own",
     "trials, not legal by a floor alone",
     "refusal 2 of a GAP line",
@@ -350,6 +351,9 @@ impl Run {
         let mut space = vec![u32::MAX; length + 16];
         let told = library::place_in(text, spread, total, &mut space[8..8 + length]);
         let put = if length < 18 { due.and(Err((8, 0, 0))) } else { due };
+        if length < 18 && due == Err((10, 0, 0)) {
+            self.count("placements, refused 10 before 8");
+        }
         same_code(&format!("{} in {} numbers", what, length), told, put.map_or_else(code, |_| 0))?;
         let mut numbers = put.unwrap_or([0; 18]).to_vec();
         numbers.resize(length, 0);
