@@ -17,7 +17,7 @@
 /* So many bytes are enough for every page. */
 #define NABETSU_PAGE_BYTES 4485
 
-/* The numbers of an answer: the total, eight separations, nine positions; and of a placement, the same without the total. */
+/* The numbers that are placed: the total, eight separations, nine positions; and those that are tried, the same without the total. */
 #define NABETSU_ANSWER_NUMBERS 18
 #define NABETSU_PLACEMENT_NUMBERS 17
 
@@ -30,12 +30,17 @@
  * the table is longer than the output, and zeros in the whole output. */
 uint64_t nabetsu_write_table(const uint8_t *text, size_t text_length, uint8_t *output, size_t output_length);
 
-/* The placement with the least total in a spread, by document 01's tie rule: 0, with total, separations and positions in the output, zeros in unused places
- * and behind them. Or a refusal, 1 to 6, then 7, then 8 where the output has fewer than 18 places, and zeros in the whole output. The placement can be
- * drawn with no channel below its floor, and no placement that can be drawn so in that spread has a smaller total; a total is at most 512. */
-uint64_t nabetsu_answer_spread(const uint8_t *text, size_t text_length, uint32_t spread, uint32_t *output, size_t output_length);
+/* The least total in a spread, at most 512. Or a refusal, 1 to 6, then 7. A placement with that total can be drawn in that spread with no channel below its floor,
+ * and no placement that can be drawn so has a smaller one. */
+uint64_t nabetsu_least_total(const uint8_t *text, size_t text_length, uint32_t spread);
 
-/* The page of a channel, from 1, in the answer for a spread of at most 63: a line of 69 bytes for each track, the highest first, and zeros in the rest of the
+/* The placement in a spread for a stated total: 0, with total, separations and positions in the output, zeros in unused places and behind them. Of the legal
+ * placements in that spread with exactly that total it is the one that document 01's tie rule picks, and it can be drawn with no channel below its floor. Or a
+ * refusal, 1 to 6, then 7, then 10 exactly if no legal placement in that spread has exactly that total, which is below the least total and nowhere else; then 8
+ * where the output has fewer than 18 places; and zeros in the whole output. */
+uint64_t nabetsu_place_total(const uint8_t *text, size_t text_length, uint32_t spread, uint32_t total, uint32_t *output, size_t output_length);
+
+/* The page of a channel, from 1, in the placement with the least total in a spread of at most 63: a line of 69 bytes for each track, the highest first, and zeros in the rest of the
  * output; answers how many bytes it has. Or a refusal: 1 to 6, then 3 without line and field where there is no such channel, 7, 9 where the spread is above 63, then 8
  * exactly if the page is longer than the output; and zeros in the whole output. The page shows one path for each pair of the channel, from terminal to terminal, no point
  * shared, none outside the spread; every point of a path has a character other than the dot, every other point the dot; and # never appears. */
