@@ -454,10 +454,8 @@ fn check_floors() {
 /// Trials of separations at a floor, below it and above.
 fn check_floor_trials() {
     let judge = |name: &str, text: &str, spread: u32, separations: &[u32], positions: &[u32], due: u64| {
-        let mut placement = [0; 17];
-        placement[..separations.len()].copy_from_slice(separations);
-        placement[8..8 + positions.len()].copy_from_slice(positions);
-        same(name, text.as_bytes(), library::try_placement(text.as_bytes(), spread, &placement), due);
+        let placement = &library::numbers(0, separations, positions)[1..];
+        same(name, text.as_bytes(), library::try_numbers(text.as_bytes(), spread, placement), due);
     };
     let floor = |floor: u32| A.to_string() + &gaps(&[floor]);
     judge("at floor 0", &floor(0), 6, &[0], &[2, 0], 1);
@@ -516,7 +514,8 @@ const STATED: [u32; 28] = [
     4294967293, 4294967294, 4294967295,
 ];
 
-/// Every stated total at a spread: from the least on what `first` puts into the channels but the last for it, the rest in the last, and the positions.
+/// Every stated total at a spread: 10 below the least; from there on `first` gives the separations of all channels but the last, which gets the rest, and the
+/// positions.
 fn check_stated(name: &str, text: &str, spread: u32, least: u32, first: impl Fn(u32) -> (Vec<u32>, Vec<u32>)) {
     check_total(name, text.as_bytes(), spread, Ok(least));
     for total in STATED.into_iter().chain([least, least + 1, least + 2]) {
