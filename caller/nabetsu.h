@@ -36,8 +36,8 @@ uint64_t nabetsu_least_total(const uint8_t *text, size_t text_length, uint32_t s
 
 /* The placement in a spread for a stated total: 0, with total, separations and positions in the output, zeros in unused places and behind them. Of the legal
  * placements in that spread with exactly that total it is the one that document 01's tie rule picks, and it can be drawn with no channel below its floor. Or a
- * refusal, 1 to 6, then 7, then 10 exactly if no legal placement in that spread has exactly that total, which is below the least total and nowhere else; then 8
- * where the output has fewer than 18 places; and zeros in the whole output. */
+ * refusal, 1 to 6, then 7, then 10 exactly if no legal placement in that spread has exactly that total, that is, if it is below the least total; then 8 where the
+ * output has fewer than 18 places; and zeros in the whole output. */
 uint64_t nabetsu_place_total(const uint8_t *text, size_t text_length, uint32_t spread, uint32_t total, uint32_t *output, size_t output_length);
 
 /* The page of a channel, from 1, in the placement with the least total in a spread of at most 63: a line of 69 bytes for each track, the highest first, and zeros in the rest of the
