@@ -1,5 +1,5 @@
 -- The laws of the loops that fill the solver's arrays for a stack, and that the arrays then stand for the stack's windows and limits. Assumes nothing.
-use mathlib.Core.Path.{_≡_, refl, ap, ap₂, _∙_}
+use mathlib.Core.Path.{_≡_, refl, sym, ap, ap₂, _∙_}
 use mathlib.Core.Bool.{true}
 use mathlib.Core.Logic.{_⊎_, inl, inr}
 use mathlib.Core.List.{List, [], _∷_}
@@ -7,11 +7,12 @@ use Prim.Native.Nat.{ℕ, zero, suc, _+_, _-_, _≤_, _<_, min, max}
 use native.Mathlib.Omega.{arith}
 use lib.ListN.{length, getD, set, drop, length-set, replicate, length-replicate, getD-replicate, drop-of-length-le}
 use lib.Seq.{getD-set-same, getD-set-other, set-set, drop-cons}
-use borrow.Author.Tests.{leb-true}
+use lib.Dec.{leb}
+use borrow.Author.Tests.{leb-true, le-leb, lt-leb}
 use Rattle.numbers.specs.Lists.{padded}
 use Rattle.numbers.proofs.Bools.{ands}
 use Rattle.numbers.proofs.Lists.{getD-tabulate}
-use Rattle.numbers.proofs.Orders.{lt-or-eq, eq-or-not}
+use Rattle.numbers.proofs.Orders.{lt-or-eq, eq-or-not, le-or-lt}
 use Rattle.stack.specs.Stack.{no-channel, channel-in, Stack, longest}
 use Rattle.stack.specs.Limits.{pairs-within, channel-within, channels-within, strips-within, within-limits}
 use Rattle.stack.specs.Value.{strip, no-terminals, floor-at, channel-at, stack-of}
@@ -22,15 +23,17 @@ use Rattle.stack.proofs.Within.{strips-length, channel-in-limits, few-channels,
 use Rattle.channel.specs.Limits.{low-floored, high-floored, Limits-of}
 use Rattle.channel.proofs.Floors.{high-floored-bounded}
 use Rattle.channel.specs.declared.Limits.{Limits}
-use Rattle.spans.specs.Solver.{level, most, least-total}
+use Rattle.spans.specs.Spans.{nonempty}
+use Rattle.spans.specs.Solver.{level, most, back, least-total}
+use Rattle.spans.proofs.Total.{span-from-least}
 use Rattle.plan.specs.Plan.{Lasts-ask, Planned}
-use Rattle.scan.specs.Scan.{Scan-asks, Scan-is, Fill-asks}
+use Rattle.scan.specs.Scan.{Scan-asks, Scan-is}
 use Rattle.scan.specs.declared.Scan.{Scan}
-use Rattle.scan.proofs.Scans.{cleared-upto}
+use Rattle.scan.proofs.Tables.{sized-zeros, zeros-empty}
+use Rattle.band.specs.Band.{Band-asks}
 use Rattle.solver.specs.declared.Placement.{Placement}
-use Rattle.arrays.proofs.Levels.{most-small}
-use Rattle.arrays.proofs.Levels.{above-at}
-use Rattle.arrays.specs.Arrays.{bias, entry, sides, lasts-in, sums-in, Given, given, low-of, high-of, last-of, window-of, limits-from, level-of, levels, Sized, sums, Sums-are, Plan-is, Stack-asks, Filled}
+use Rattle.arrays.proofs.Levels.{most-small, most-fewer, above-at}
+use Rattle.arrays.specs.Arrays.{bias, entry, sides, lasts-in, sums-in, Given, given, low-of, high-of, last-of, window-of, limits-from, level-of, levels, Sized, span-in, Plan-is, Stack-asks, Filled, In-band, Banded}
 use Rattle.separations.specs.Separations.{Separate-asks}
 use Rattle.solver.specs.Placing.{separations-of, Place-asks, Placement-is}
 use Rattle.answer.specs.Solve.{last-use, window, channel-limits, stack-levels, bottom, levels-of, total-with, separations-with, positions-with, answer-total, separations-for}
@@ -237,6 +240,13 @@ module _ (k : Stack) (s : ℕ) (g : Given) (st : Stands k s g) (fits : s < 42949
         exactly = rw (bottom-is k s g st, levels-are k s g st) (exactly-with bias s (omega arith) k (st .good) wide total e);
       }
 
+  -- a total of use has a span exactly if it is not below the least one
+  pub span-met : (u : ℕ) → u ≤ most (levels g 0 n) → nonempty (back bias (window-of g 0) (levels g 0 n) u) ≡ leb (total-with bias k s) u
+  unfolding total-with
+  span-met u h =
+      rw (bottom-is k s g st, levels-are k s g st)
+      (span-from-least bias (bottom k s) (levels-of bias k s) (widening-with bias s (omega arith) k (st .good) wide) u (rw (levels-are k s g st) at h))
+
   pub least-is : total-with bias k s ≡ answer-total k s
   least-is = total-any-bias k s (st .good) wide bias (omega arith)
 
@@ -252,23 +262,24 @@ module _ (k : Stack) (s : ℕ) (g : Given) (st : Stands k s g) (fits : s < 42949
         positions-are = p .positions-are ∙ ap (padded strips-held) (rw (bottom-is k s g st, levels-are k s g st) (one .1));
       }
 
--- a table that is filled for all that the channels above the first can use of a total serves for that total
-separate-asks : (g : Given) (k total cap : ℕ) (t : List (List (List ℕ))) → Stack-asks g k → Filled g k cap 0 t → min total (most (levels g 1 (k - 1))) ≤ cap → total < 4294967296 →
-    Separate-asks g k total t
-separate-asks g k total cap t a f h m =
-    record {
-      stack = a;
-      cap = cap;
-      table = record { sized = f .sized; filled = λ j n v i e c l. f .filled j n v (omega arith) e c l };
-      enough = h;
-      fits = m;
-    }
+-- a table that is filled for all that the channels above the first can use of a total is filled in its bands
+filled-banded : (g : Given) (k total cap : ℕ) (t : List (List (List ℕ))) → Filled g k cap 0 t → min total (most (levels g 1 (k - 1))) ≤ cap → Banded g k total 1 t
+filled-banded g k total cap t f h =
+    record { sized = f .sized; banded = λ j n u i e b. f .filled j n u (omega arith) e (capped j n u i e (b .0) (b .1)) (b .1) }
+  where
+    capped : (j n u : ℕ) → 1 ≤ j → j + n ≡ k → u ≤ total → u ≤ most (levels g j n) → u ≤ cap
+    capped j n u i e x y =
+        let z : 1 + (j - 1) ≡ j = omega arith in
+        let w : j - 1 + n ≡ k - 1 = omega arith in
+        omega (arith, rw (z, w) at (most-fewer g (j - 1) 1 n))
 
--- the channels above the first use no more than all do
-above-less : (lasts r : List ℕ) (k : ℕ) → Sums-are lasts k 0 r → 1 ≤ k → entry r 1 ≤ entry r 0
-unfolding sums
-above-less lasts r zero s h = absurd (omega arith)
-above-less lasts r (suc n) s h = omega (arith, s .sums-are 0 (suc n) (omega arith) (omega arith), s .sums-are 1 n (omega arith) (omega arith))
+-- a total that is at least the least one is so too where it is cut down to what is of use
+cut-test : (least total used all : ℕ) → used ≡ min total all → least ≤ all → leb least used ≡ leb least total
+cut-test least total used all e h = go (le-or-lt least total)
+  where
+    go : (least ≤ total) ⊎ (total < least) → leb least used ≡ leb least total
+    go (inl l) = le-leb least used (omega arith) ∙ sym (le-leb least total l)
+    go (inr l) = lt-leb least used (omega arith) ∙ sym (lt-leb least total l)
 
 -- what the plan is made from, and what is held then
 module _ (k : Stack-struct) (limits : List (List (List ℕ))) (lasts : List ℕ) (e : within-limits (stack-of k) ≡ true) (l : Limits-in (stack-of k) (k .count) limits lasts) where
@@ -310,13 +321,17 @@ module _ (k : Stack-struct) (s : ℕ) (limits : List (List (List ℕ))) (plan wi
   pub held-scan-asks : (cap : ℕ) (t : List (List (List ℕ))) → cap ≤ entry (sums-in plan) 0 → Sized t → Scan-asks made (k .count) cap t
   held-scan-asks cap t h z = record { stack = held-asks; total = cap-small cap h; of-use = cap-used cap h; sized = z }
 
-  -- a placement for a total from the least one on, with a table that is filled for what its channels can use
-  module _ (total cap : ℕ) (t : List (List (List ℕ))) (least : answer-total (stack-of k) s ≤ total) where
-    pub held-place-asks : total < 4294967296 → Filled made (k .count) cap 0 t → min total (most (levels made 1 (k .count - 1))) ≤ cap →
-        Place-asks made (k .count) total × Separate-asks made (k .count) total t
-    held-place-asks h f m = (
+  total-used : total-with bias (stack-of k) s ≤ most (levels made 0 (k .count))
+  total-used =
+      let m = total-most bias s (omega arith) (stack-of k) (held .good) wide in
+      omega (arith, ap most (rw (stack-channels k) at (levels-are (stack-of k) s made held-stands)))
+
+  -- a placement for a total from the least one on, with a table that is filled in its bands
+  module _ (total : ℕ) (t : List (List (List ℕ))) (least : answer-total (stack-of k) s ≤ total) where
+    pub held-place-asks : total < 4294967296 → Banded made (k .count) total 1 t → Place-asks made (k .count) total × Separate-asks made (k .count) total t
+    held-place-asks h f = (
       rw (stack-channels k) at (place-asks (stack-of k) s made held-stands fits wide total (omega (arith, least-is (stack-of k) s made held-stands fits wide)) h),
-      separate-asks made (k .count) total cap t held-asks f m h,
+      record { stack = held-asks; table = f; fits = h },
     )
 
     pub held-placed : (p : Placement) → Placement-is made (k .count) total p → Placed-is (stack-of k) s total p
@@ -327,10 +342,11 @@ module _ (k : Stack-struct) (s : ℕ) (limits : List (List (List ℕ))) (plan wi
     module _ (capped : cap ≤ entry (sums-in plan) 0) (found : r .total ≤ cap) (least : r .total ≡ answer-total (stack-of k) s) where
       pub found-place-asks : Place-asks made (k .count) (r .total) × Separate-asks made (k .count) (r .total) t
       found-place-asks =
-          held-place-asks (r .total) (min (r .total) cap) t (omega arith) (omega (arith, cap-small cap capped)) (i .table) (omega arith)
+          held-place-asks (r .total) t (omega arith) (omega (arith, cap-small cap capped))
+          (filled-banded made (k .count) (r .total) (min (r .total) cap) t (i .table) (omega arith))
 
       pub found-placed : (p : Placement) → Placement-is made (k .count) (r .total) p → Answer-is (stack-of k) s p
-      found-placed p q = rw (← least) (held-placed (r .total) cap t (omega arith) p q)
+      found-placed p q = rw (← least) (held-placed (r .total) t (omega arith) p q)
 
     -- a scan of all totals of use finds it
     module _ (whole : cap ≡ entry (sums-in plan) 0) where
@@ -341,36 +357,38 @@ module _ (k : Stack-struct) (s : ℕ) (limits : List (List (List ℕ))) (plan wi
       whole-least = whole-total ∙ least-is (stack-of k) s made held-stands fits wide
 
       pub whole-found : r .total ≤ cap
-      whole-found =
-          let m = total-most bias s (omega arith) (stack-of k) (held .good) wide in
-          omega (arith, whole-total, all-used, ap most (rw (stack-channels k) at (levels-are (stack-of k) s made held-stands)))
+      whole-found = omega (arith, whole-total, total-used, all-used)
 
       pub whole-small : r .total < 4294967296
       whole-small = omega (arith, whole-found, cap-small cap (omega arith))
 
-      -- the table can be carried on, as far as the channels above the first can use a total
-      pub whole-fill-asks : (upto : ℕ) → upto ≤ entry (sums-in plan) 1 → Fill-asks made (k .count) (r .total) upto t
-      whole-fill-asks upto h =
-          let l = above-less (lasts-in plan) (sums-in plan) (k .count) (held .planned .mosts) (held-asks .some) in
-          let m : min (r .total) cap ≡ r .total = omega (arith, whole-found) in
-          record {
-            stack = held-asks;
-            first = omega (arith, whole-found, cap-small cap (omega arith));
-            total = omega (arith, cap-small cap (omega arith));
-            table = rw m at (i .table);
-            clear = cleared-upto windows (k .count) (r .total + 1) cap upto t (omega arith) (i .rest);
-          }
+  -- the table filled in the bands of a stated total
+  pub held-band-asks : (total : ℕ) → total < 4294967296 → Band-asks made (k .count) total (replicate strips-held (replicate 2 (replicate totals-held 0)))
+  held-band-asks total h = record { stack = held-asks; fits = h; sized = sized-zeros; empty = zeros-empty }
 
-      -- and then it serves for the greater of a stated total and the least one
-      module _ (total placed upto : ℕ) (t′ : List (List (List ℕ))) (e : placed ≡ max total (r .total)) (u : upto ≡ min placed (entry (sums-in plan) 1))
-          (f : Filled made (k .count) (max (r .total) upto) 0 t′) where
-        enough : answer-total (stack-of k) s ≤ placed
-        enough = omega (arith, whole-least)
+  module _ (total used : ℕ) (t : List (List (List ℕ))) (b : Banded made (k .count) total 0 t) (e : used ≡ min total (entry (sums-in plan) 0)) where
+    bottom-band : In-band made (k .count) total 0 (k .count) used
+    bottom-band = (omega arith, omega (arith, all-used), go (le-or-lt (entry (sums-in plan) 0) total))
+      where
+        go : (entry (sums-in plan) 0 ≤ total) ⊎ (total < entry (sums-in plan) 0) →
+            (used ≡ most (levels made 0 (k .count))) ⊎ (total + most (levels made 0 (k .count)) ≤ used + (most (levels made 0 (k .count)) + 0))
+        go (inl h) = inl (omega (arith, all-used))
+        go (inr h) = inr (omega arith)
 
-        pub whole-place-asks : total < 4294967296 → Place-asks made (k .count) placed × Separate-asks made (k .count) placed t′
-        whole-place-asks h =
-            held-place-asks placed (max (r .total) upto) t′ enough (omega (arith, whole-small)) f
-            (omega (arith, above-at made (k .count) (held .planned) 1 (k .count - 1) (omega (arith, held-asks .some))))
+    -- THE TOTAL IS MET exactly if the bottom strip has a position
+    pub band-met : nonempty (span-in t 0 used) ≡ leb (answer-total (stack-of k) s) total
+    band-met =
+        let least = least-is (stack-of k) s made held-stands fits wide in
+        let here = b .banded 0 (k .count) used (omega arith) (omega arith) bottom-band in
+        let met = rw (stack-channels k) at (span-met (stack-of k) s made held-stands fits wide used (rw (stack-channels k) (omega (arith, all-used)))) in
+        ap nonempty here ∙ (met ∙ (ap (λ v. leb v used) least ∙ cut-test (answer-total (stack-of k) s) total used (entry (sums-in plan) 0) e (omega (arith, least, total-used, all-used))))
 
-        pub whole-placed : (p : Placement) → Placement-is made (k .count) placed p → Placed-is (stack-of k) s (max total (answer-total (stack-of k) s)) p
-        whole-placed p q = rw (← whole-least, ← e) (held-placed placed upto t′ enough p q)
+    -- and then it can be placed
+    module _ (h : leb (answer-total (stack-of k) s) total ≡ true) where
+      pub band-place-asks : total < 4294967296 → Place-asks made (k .count) total × Separate-asks made (k .count) total t
+      band-place-asks l =
+          held-place-asks total t (leb-true (answer-total (stack-of k) s) total h) l
+          (record { sized = b .sized; banded = λ j n u i q x. b .banded j n u (omega arith) q x })
+
+      pub band-placed : (p : Placement) → Placement-is made (k .count) total p → Placed-is (stack-of k) s total p
+      band-placed p q = held-placed total t (leb-true (answer-total (stack-of k) s) total h) p q

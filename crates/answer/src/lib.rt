@@ -2,26 +2,27 @@
 ghost use mathlib.Core.Path.{_≡_};
 ghost use mathlib.Core.Bool.{true};
 ghost use Prim.Native.Nat.{suc, _≤_, max};
-ghost use lib.Dec.{leb};
+ghost use lib.Dec.{ltb, leb};
 ghost use lib.ListN.{length};
 ghost use Rattle.stack.specs.Sizes.{strips-held};
 ghost use Rattle.stack.specs.Limits.{within-limits};
 ghost use Rattle.stack.specs.Value.{stack-of};
 ghost use Rattle.stack.specs.Stack.{longest};
-ghost use Rattle.answer.specs.Arrays.{Limits-in, Windows-in, Limits-sized, Held, Placed-is};
+ghost use Rattle.answer.specs.Arrays.{Limits-in, Windows-in, Limits-sized, Held, Placed-is, Answer-is};
 ghost use Rattle.answer.specs.Solve.{answer-total};
 use arrays::ABOVE;
+use arrays::FROM;
 use arrays::HIGH;
 use arrays::LOW;
 use arrays::Plan;
 use arrays::StackLimits;
+use arrays::UPTO;
 use arrays::Windows;
+use band::fill_band;
 use channel::channel_limits;
 use numbers::difference;
-use numbers::greater;
 use numbers::lesser;
 use plan::plan_for;
-use scan::fill_totals;
 use scan::scan_totals;
 use solver::Placement;
 use solver::place_in;
@@ -101,24 +102,11 @@ pub fn total_in(stack: Stack, spread: u32) -> Tracks
     Tracks(scan.total as u32)
 }
 
-// Whether a stated total is met where this is the least.
-fn is_met(least: usize, total: Tracks) -> bool
-    ensures { λ r. ⌜ r ≡ leb least (total .0) ⌝ }
-{
-    least <= total.0 as usize
-}
-
-// A placement, and whether it is the one for the stated total.
-pub struct StatedPlacement {
-    pub met: bool,
-    pub placement: Placement,
-}
-
-// The placement for a stated total in a spread from the longest strip upward; where the least total is greater, the placement for that one.
-pub fn placement_in(stack: Stack, spread: u32, total: Tracks) -> StatedPlacement
+// The placement for the least total in a spread from the longest strip upward.
+pub fn answer_in(stack: Stack, spread: u32) -> Placement
     requires { ⌜ within-limits (stack-of stack) ≡ true ⌝ }
     requires { ⌜ longest (stack-of stack .strips) ≤ spread ⌝ }
-    ensures { λ r. ⌜ (r .met ≡ leb (answer-total (stack-of stack) spread) (total .0)) × Placed-is (stack-of stack) spread (max (total .0) (answer-total (stack-of stack) spread)) (r .placement) ⌝ }
+    ensures { λ r. ⌜ Answer-is (stack-of stack) spread r ⌝ }
 {
     let k = stack.count;
     let mut limits = [[[0u64; Stack::SEPARATIONS]; 2]; Stack::MAX_CHANNELS];
@@ -127,13 +115,55 @@ pub fn placement_in(stack: Stack, spread: u32, total: Tracks) -> StatedPlacement
     let plan = fill_arrays(stack, spread, &mut limits, &mut windows);
     let cap = plan[ABOVE][0];
     let scan = scan_totals(&limits, &plan, &windows, k, cap, &mut table);
-    let least = scan.total;
-    let placed = greater(total.0 as u64, least as u64) as usize;
-    let upto = lesser(placed as u64, plan[ABOVE][1] as u64) as usize;
-    fill_totals(&limits, &plan, &windows, k, least, upto, &mut table);
-    let placement = place_in(&limits, &plan, &windows, k, placed, &table);
-    StatedPlacement {
-        met: is_met(least, total),
-        placement,
+    place_in(&limits, &plan, &windows, k, scan.total, &table)
+}
+
+// Whether a span has a position.
+fn has_position(from: u32, upto: u32) -> bool
+    ensures { λ r. ⌜ r ≡ ltb from upto ⌝ }
+{
+    0 < difference(upto as u64, from as u64)
+}
+
+// A placement with zeros everywhere.
+fn no_placement() -> Placement
+    ensures { λ r. ⌜ r .total .0 ≡ 0 ⌝ }
+{
+    Placement {
+        total: Tracks(0),
+        separations: [Tracks(0); Stack::MAX_CHANNELS],
+        positions: [Columns(0); Stack::STRIPS],
     }
+}
+
+// Whether a stated total is met, and its placement where it is.
+pub struct StatedPlacement {
+    pub met: bool,
+    pub placement: Placement,
+}
+
+// The placement for a stated total in a spread from the longest strip upward, if some legal placement there has that total. The least total is not looked for: the
+// total is met exactly if the bottom strip has a position for it.
+pub fn placement_in(stack: Stack, spread: u32, total: Tracks) -> StatedPlacement
+    requires { ⌜ within-limits (stack-of stack) ≡ true ⌝ }
+    requires { ⌜ longest (stack-of stack .strips) ≤ spread ⌝ }
+    ensures { λ r. ⌜ (r .met ≡ leb (answer-total (stack-of stack) spread) (total .0)) × (r .met ≡ true → Placed-is (stack-of stack) spread (total .0) (r .placement)) ⌝ }
+{
+    let k = stack.count;
+    let mut limits = [[[0u64; Stack::SEPARATIONS]; 2]; Stack::MAX_CHANNELS];
+    let mut windows = [[0u64; 2]; Stack::STRIPS];
+    let mut table = [[[0u32; Stack::TOTALS]; 2]; Stack::STRIPS];
+    let plan = fill_arrays(stack, spread, &mut limits, &mut windows);
+    let stated = total.0 as usize;
+    fill_band(&limits, &plan, &windows, k, stated, &mut table);
+    let used = lesser(stated as u64, plan[ABOVE][0] as u64) as usize;
+    let met = has_position(table[0][FROM][used], table[0][UPTO][used]);
+    if !met {
+        return StatedPlacement {
+            met,
+            placement: no_placement(),
+        };
+    }
+    let placement = place_in(&limits, &plan, &windows, k, stated, &table);
+    StatedPlacement { met, placement }
 }

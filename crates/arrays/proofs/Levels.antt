@@ -52,7 +52,7 @@ module _ (low high : ℕ → ℕ) where
   high-at-any m q = sym (high-capped (limits-from low high 0 (suc m)) q) ∙ rw (last-is m) (high-at-of m (min q m) (omega arith))
 
 -- a separation of use is in the list and leaves a total of use
-pub in-use : (o m a v j : ℕ) → v ≤ m + a → start o m a v ≤ j → j < start o m a v + (stop m v - start o m a v) → (j ≤ m) × (v - j ≤ v) × (v - j ≤ a)
+pub in-use : (o m a v j : ℕ) → v ≤ m + a → start o m a v ≤ j → j < start o m a v + (stop m v - start o m a v) → (j ≤ m) × (j ≤ v) × (v - j ≤ a)
 in-use o m a v j h k n = omega arith
 
 -- what depends on a function only within a range is the same for two that agree there
@@ -77,13 +77,13 @@ module _ (b : ℕ) (low₁ low₂ high₁ high₂ : ℕ → ℕ) where
       let e : _ = h q (omega arith) (omega arith) in
       rw (e .0, e .1, e .2) (gather-same f₁ f₂ (suc q) n _ (λ j k m. h j (omega arith) (omega arith)))
 
-  -- a cell depends on the limits up to the last separation, and on the spans above for totals of use
-  pub cell-same : (f₁ f₂ : ℕ → Span) (o m a : ℕ) (w : Span) (v : ℕ) → v ≤ m + a → ((q : ℕ) → q ≤ m → (low₁ q ≡ low₂ q) × (high₁ q ≡ high₂ q)) → ((u : ℕ) → u ≤ v → u ≤ a → f₁ u ≡ f₂ u) → cell b low₁ high₁ o m a f₁ w v ≡ cell b low₂ high₂ o m a f₂ w v
+  -- a cell depends on the limits up to the last separation, and on the spans above for what these leave of its total
+  pub cell-same : (f₁ f₂ : ℕ → Span) (o m a : ℕ) (w : Span) (v : ℕ) → v ≤ m + a → ((q : ℕ) → q ≤ m → (low₁ q ≡ low₂ q) × (high₁ q ≡ high₂ q)) → ((q : ℕ) → q ≤ m → q ≤ v → v - q ≤ a → f₁ (v - q) ≡ f₂ (v - q)) → cell b low₁ high₁ o m a f₁ w v ≡ cell b low₂ high₂ o m a f₂ w v
   unfolding cell
   cell-same f₁ f₂ o m a w v h l s =
       ap (cut w)
       (gather-same (λ q. f₁ (v - q)) (λ q. f₂ (v - q)) _ _ _
-      (λ j k n. let r : (j ≤ m) × (v - j ≤ v) × (v - j ≤ a) = in-use o m a v j h k n in (l j (r .0) .0, l j (r .0) .1, s (v - j) (r .1) (r .2))))
+      (λ j k n. let r : (j ≤ m) × (j ≤ v) × (v - j ≤ a) = in-use o m a v j h k n in (l j (r .0) .0, l j (r .0) .1, s j (r .0) (r .1) (r .2))))
 
 pub open-of : (low high : ℕ → ℕ) (m : ℕ) → first-open (low-at (limits-from low high 0 (suc m))) (high-at (limits-from low high 0 (suc m))) m ≡ first-open low high m
 unfolding first-open
@@ -125,7 +125,7 @@ abbrev above : (g : Given) (i n : ℕ) → ℕ
 above g i n = most (levels g (suc i) n)
 
 module _ (g : Given) (i n v : ℕ) (f : ℕ → Span) where
-  pub cell-back : v ≤ m g i + above g i n → ((u : ℕ) → u ≤ v → u ≤ above g i n → f u ≡ back bias (window-of g (suc i)) (levels g (suc i) n) u) → cell bias (low-of g i) (high-of g i) (first-open (low-of g i) (high-of g i) (m g i)) (m g i) (above g i n) f (window-of g i) v ≡ back bias (window-of g i) (levels g i (suc n)) v
+  pub cell-back : v ≤ m g i + above g i n → ((q : ℕ) → q ≤ m g i → q ≤ v → v - q ≤ above g i n → f (v - q) ≡ back bias (window-of g (suc i)) (levels g (suc i) n) (v - q)) → cell bias (low-of g i) (high-of g i) (first-open (low-of g i) (high-of g i) (m g i)) (m g i) (above g i n) f (window-of g i) v ≡ back bias (window-of g i) (levels g i (suc n)) v
   unfolding back levels
   cell-back h s =
       rw (last-is (low-of g i) (high-of g i) (m g i), open-of (low-of g i) (high-of g i) (m g i))
@@ -136,12 +136,16 @@ module _ (g : Given) (i n : ℕ) (f : ℕ → Span) (s : Span) (v : ℕ) where
   abbrev c : List Limit
   c = limits-from (low-of g i) (high-of g i) 0 (suc (last-of g i))
 
-  serves-back : ((u : ℕ) → u ≤ v → u ≤ above g i n → f u ≡ back bias (window-of g (suc i)) (levels g (suc i) n) u) → (q : ℕ) → q < stop (m g i) v → serves bias (low-at c) (high-at c) (above g i n) (λ u. back bias (window-of g (suc i)) (levels g (suc i) n) u) s v q ≡ serves bias (low-of g i) (high-of g i) (above g i n) f s v q
+  -- what a separation leaves of the total, or all that the levels above can use
+  abbrev left : (q : ℕ) → ℕ
+  left q = min (v - q) (above g i n)
+
+  serves-back : ((q : ℕ) → q ≤ m g i → q ≤ v → f (left q) ≡ back bias (window-of g (suc i)) (levels g (suc i) n) (left q)) → (q : ℕ) → q < stop (m g i) v → serves bias (low-at c) (high-at c) (above g i n) (λ u. back bias (window-of g (suc i)) (levels g (suc i) n) u) s v q ≡ serves bias (low-of g i) (high-of g i) (above g i n) f s v q
   unfolding serves
   serves-back h q k =
-      rw (low-at-of (low-of g i) (high-of g i) (m g i) q (omega arith), high-at-of (low-of g i) (high-of g i) (m g i) q (omega arith), h (min (v - q) (above g i n)) (omega arith) (omega arith))
+      rw (low-at-of (low-of g i) (high-of g i) (m g i) q (omega arith), high-at-of (low-of g i) (high-of g i) (m g i) q (omega arith), h q (omega arith) (omega arith))
 
-  pub serving-back : ((u : ℕ) → u ≤ v → u ≤ above g i n → f u ≡ back bias (window-of g (suc i)) (levels g (suc i) n) u) → first-serving bias (low-of g i) (high-of g i) (first-open (low-of g i) (high-of g i) (m g i)) (m g i) (above g i n) f s v ≡ least-serving bias s (level-of g i) (levels g (suc i) n) v
+  pub serving-back : ((q : ℕ) → q ≤ m g i → q ≤ v → f (left q) ≡ back bias (window-of g (suc i)) (levels g (suc i) n) (left q)) → first-serving bias (low-of g i) (high-of g i) (first-open (low-of g i) (high-of g i) (m g i)) (m g i) (above g i n) f s v ≡ least-serving bias s (level-of g i) (levels g (suc i) n) v
   unfolding first-serving
   serving-back h =
       rw (last-is (low-of g i) (high-of g i) (m g i), open-of (low-of g i) (high-of g i) (m g i))

@@ -1,5 +1,6 @@
 -- What the arrays stand for that the solver's functions share. Assumes nothing: these are definitions.
 use mathlib.Core.Path.{_≡_}
+use mathlib.Core.Logic.{_⊎_}
 use mathlib.Core.List.{List, [], _∷_}
 use Prim.Native.Nat.{ℕ, zero, suc, _+_, _*_, _≤_, _<_}
 use lib.ListN.{length, getD, set}
@@ -144,3 +145,14 @@ pub record Stack-asks (g : Given) (k : ℕ) : Type 0 where
 pub record Filled (g : Given) (k cap i : ℕ) (t : List (List (List ℕ))) : Type 0 where
   pub sized : Sized t
   pub filled : (j n v : ℕ) → i ≤ j → j + n ≡ k → v ≤ cap → v ≤ most (levels g j n) → span-in t j v ≡ back bias (window-of g j) (levels g j n) v
+
+-- IN THE BAND of strip j for a stated total: all that the channels above it can use, or what is left of the total where no channel below has more than a track above
+-- its last separation
+abbrev pub In-band : Given → (k total j n u : ℕ) → Type 0
+In-band g k v j n u =
+    (u ≤ v) × (u ≤ most (levels g j n)) × ((u ≡ most (levels g j n)) ⊎ (v + most (levels g j n) ≤ u + (most (levels g 0 k) + j)))
+
+-- rows i to k of the table hold the spans of their strips, for the totals in the band
+pub record Banded (g : Given) (k total i : ℕ) (t : List (List (List ℕ))) : Type 0 where
+  pub sized : Sized t
+  pub banded : (j n u : ℕ) → i ≤ j → j + n ≡ k → In-band g k total j n u → span-in t j u ≡ back bias (window-of g j) (levels g j n) u

@@ -3,4 +3,3 @@ pub mod Tables
 pub mod Scanning
 pub mod Clearing
 pub mod Scans
-pub mod Fills

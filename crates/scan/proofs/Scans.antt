@@ -55,31 +55,18 @@ module _ (g : Given) (i n v : ℕ) (f : ℕ → Span) where
   short-back h s =
       rw (last-is (low-of g i) (high-of g i) last, open-of (low-of g i) (high-of g i) last)
       (ap₂ (shortfall bias (window-of g i))
-      (nearest-same bias _ _ _ _ _ _ bias (λ j k m. let r = in-use j k m in (sym (high-at-of (low-of g i) (high-of g i) last j (r .0)), s (v - j) (r .1) (r .2))))
-      (furthest-same bias _ _ _ _ _ _ 0 (λ j k m. let r = in-use j k m in (sym (low-at-of (low-of g i) (high-of g i) last j (r .0)), s (v - j) (r .1) (r .2)))))
+      (nearest-same bias _ _ _ _ _ _ bias (λ j k m. let r = in-use j k m in (sym (high-at-of (low-of g i) (high-of g i) last j (r .0)), s (v - j) (omega arith) (r .2))))
+      (furthest-same bias _ _ _ _ _ _ 0 (λ j k m. let r = in-use j k m in (sym (low-at-of (low-of g i) (high-of g i) last j (r .0)), s (v - j) (omega arith) (r .2)))))
     where
       o : ℕ
       o = first-open (low-of g i) (high-of g i) last
 
-      in-use : (j : ℕ) → start o last above v ≤ j → j < start o last above v + (stop last v - start o last above v) → (j ≤ last) × (v - j ≤ v) × (v - j ≤ above)
+      in-use : (j : ℕ) → start o last above v ≤ j → j < start o last above v + (stop last v - start o last above v) → (j ≤ last) × (j ≤ v) × (v - j ≤ above)
       in-use j k m = use-within o last above v j h k m
 
 pub none-yet : (g : Given) (k cap : ℕ) (table₀ table : List (List (List ℕ))) → Scan-asks g k cap table₀ → Cleared (g .windows) k 0 cap table → Scan-asks g k 0 table
 none-yet g k cap table₀ table a c =
     record { stack = a .stack; total = omega arith; of-use = omega arith; sized = c .sized }
-
--- nothing is known of empty spans
-pub empties-start : (g : Given) (k v : ℕ) (table : List (List (List ℕ))) → Stack-asks g k → Empties-are k v k table (replicate strips-held 0)
-empties-start g k v table a =
-    record {
-      size = refl;
-      empty = λ j u h l. absurd (omega (arith, none j h));
-      earlier = λ j h. omega (arith, none j (omega arith));
-      here = λ j h. omega (arith, none j h);
-    }
-  where
-    none : (j : ℕ) → j ≤ k → entry (replicate strips-held 0) j ≡ 0
-    none j h = getD-replicate strips-held j 0 0 (omega (arith, a .channels))
 
 -- THE TABLE before the first total: the top strip's window
 module _ (g : Given) (k : ℕ) (table : List (List (List ℕ))) (a : Scan-asks g k 0 table) where
@@ -98,6 +85,18 @@ module _ (g : Given) (k : ℕ) (table : List (List (List ℕ))) (a : Scan-asks g
         earlier-jump = λ j n u e h m t. absurd (omega arith);
         here-jump = λ j n h e m t. absurd (omega arith);
       }
+
+  pub empties-start : Empties-are k 0 k top-table (replicate strips-held 0)
+  empties-start =
+      record {
+        size = refl;
+        empty = λ j u h l. absurd (omega (arith, none j h));
+        earlier = λ j h. omega (arith, none j (omega arith));
+        here = λ j h. omega (arith, none j h);
+      }
+    where
+      none : (j : ℕ) → j ≤ k → entry (replicate strips-held 0) j ≡ 0
+      none j h = getD-replicate strips-held j 0 0 (omega (arith, a .stack .channels))
 
   pub cleared-start : (cap : ℕ) → Cleared (g .windows) k 0 cap table → Cleared (g .windows) k 0 cap top-table
   cleared-start cap c =
@@ -159,7 +158,7 @@ module _ (g : Given) (k v i j : ℕ) (table : List (List (List ℕ))) (jump : �
     f = span-in table (j + 1)
 
     cell-at : (u : ℕ) → u ≤ v → u ≤ last-of g j + above → cell bias (low-of g j) (high-of g j) least (last-of g j) above f (window-of g j) u ≡ back bias (window-of g j) (levels g j (suc n)) u
-    cell-at u l m = rw (le, ab) (cell-back g j n u f (omega arith) (λ t o p. above-is t (omega arith) p))
+    cell-at u l m = rw (le, ab) (cell-back g j n u f (omega arith) (λ q c d e. above-is (u - q) (omega arith) e))
 
     short-at-total : v ≤ last-of g j + above → cell-short bias bias (low-of g j) (high-of g j) least (last-of g j) above f (window-of g j) v ≡ short-of g j n v
     short-at-total m = rw (le, ab) (short-back g j n v f (omega arith) (λ t o p. above-is t o p))
@@ -388,8 +387,8 @@ pub empties-next : (k v : ℕ) (table : List (List (List ℕ))) (es : List ℕ) 
 empties-next k v table es m =
     record { size = m .size; empty = m .empty; earlier = λ j l. omega (arith, m .here j (omega arith)); here = λ j l. omega (arith, m .here j l) }
 
-pub cleared-upto : (windows : List (List ℕ)) (k v cap upto : ℕ) (table : List (List (List ℕ))) → upto ≤ cap → Cleared windows k v cap table → Cleared windows k v upto table
-cleared-upto windows k v cap upto table h c =
+pub cleared-here : (windows : List (List ℕ)) (k v cap : ℕ) (table : List (List (List ℕ))) → v ≤ cap → Cleared windows k v cap table → Cleared windows k v v table
+cleared-here windows k v cap table h c =
     record { sized = c .sized; cleared = λ j u l m o. c .cleared j u l m (omega arith) }
 
 pub cleared-next : (windows : List (List ℕ)) (k v cap : ℕ) (table table′ : List (List (List ℕ))) → Sized table′ → Only-at v 0 table table′ →
@@ -448,16 +447,10 @@ module _ (g : Given) (k cap : ℕ) where
           searching-hit (λ u. nonempty (bottom-span u)) (suc cap) v found q (omega arith) (ends-full (span-in table 0 v .from) (span-in table 0 v .upto) (bottom-span v) (bottom-is (omega arith)) e)
 
       pub scan-found : (before : ℕ) (table₀ : List (List (List ℕ))) → Scanning g k v k table₀ before → found ≡ first-total bottom-span cap →
-          span-in table 0 v .from < span-in table 0 v .upto → Cleared (g .windows) k (v + 1) cap table → Scan-is g k cap table (record { total = v; jump = before })
-      scan-found before table₀ p t e c =
+          span-in table 0 v .from < span-in table 0 v .upto → Scan-is g k cap table (record { total = v; jump = before })
+      scan-found before table₀ p t e =
           let m : min v cap ≡ v = omega arith in
-          record {
-            table = rw m table-to;
-            total-is = totals-hit e ∙ t;
-            jump-some = p .jump-some;
-            jump-is = λ j n u i l o x. p .earlier-jump j n u i l o x;
-            rest = c;
-          }
+          record { table = rw m table-to; total-is = totals-hit e ∙ t; jump-some = p .jump-some; jump-is = λ j n u i l o x. p .earlier-jump j n u i l o x }
 
   pub scan-none : (v jump : ℕ) (table : List (List (List ℕ))) → cap < v → v ≤ cap + 1 → Scanning g k v k table jump →
       Searching (λ u. nonempty (bottom-span u)) (suc cap) v (first-total bottom-span cap) → Scan-is g k cap table (record { total = v; jump = jump })
@@ -468,7 +461,6 @@ module _ (g : Given) (k cap : ℕ) where
         total-is = searching-end (λ u. nonempty (bottom-span u)) (suc cap) v (first-total bottom-span cap) q (omega arith);
         jump-some = s .jump-some;
         jump-is = λ j n u e l o x. s .earlier-jump j n u e l o x;
-        rest = record { sized = s .sized; cleared = λ j u l c d. absurd (omega arith) };
       }
 
 -- THE LOOP OVER STRIPS, as the code goes: from strip i to strip i - 1

@@ -1,11 +1,12 @@
 -- A span written into two rows, two rows into a table, and a table of zeros. Assumes nothing.
-use mathlib.Core.Path.{_≡_, ap, ap₂, _∙_}
+use mathlib.Core.Path.{_≡_, refl, ap, ap₂, _∙_}
 use mathlib.Core.Logic.{_⊎_, inl, inr}
 use mathlib.Core.List.{List, []}
 use Prim.Native.Nat.{ℕ, zero, suc, _<_}
 use native.Mathlib.Omega.{arith}
-use lib.ListN.{length, set, replicate, length-set, length-replicate, getD-replicate}
+use lib.ListN.{length, getD, set, replicate, length-set, length-replicate, getD-replicate}
 use lib.Seq.{getD-set-same, getD-set-other, set-set}
+use Rattle.numbers.proofs.Lists.{zeros-at}
 use Rattle.numbers.proofs.Orders.{eq-or-not}
 use Rattle.stack.specs.Sizes.{strips-held, totals-held}
 use Rattle.spans.specs.Spans.{Span, span}
@@ -77,12 +78,35 @@ module _ (t : List (List (List ℕ))) (s : Sized t) (i v : ℕ) (w : Span) (h : 
       go (inl e) = rw (e, rows-same t s i h (span-put (sides t i) v w)) (span-other (sides t i) (s .rows i h) v w u (n e))
       go (inr d) = ap (λ (r : List (List ℕ)). span-at r u) (rows-other t s i h (span-put (sides t i) v w) j d)
 
+  pub put-others : (j : ℕ) → (j ≡ i → ⊥) → sides (put-span t i v w) j ≡ sides t j
+  put-others j n = rw put-rows (rows-other t s i h (span-put (sides t i) v w) j n)
+
   pub sized-put : Sized (put-span t i v w)
   sized-put = rw put-rows (sized-set t s i h (span-put (sides t i) v w) (two-rows-put (sides t i) (s .rows i h) v w))
 
 -- a table of zeros is of the right size
 abbrev zeros : List ℕ
 zeros = replicate totals-held 0
+
+-- every place holds 0, and so does every place behind the end
+zero-there : {A : Type 0} (n : ℕ) (x d : A) (i : ℕ) → (getD (replicate n x) i d ≡ x) ⊎ (getD (replicate n x) i d ≡ d)
+zero-there zero x d i = inr refl
+zero-there (suc n) x d zero = inl refl
+zero-there (suc n) x d (suc i) = zero-there n x d i
+
+pub zeros-empty : (j u : ℕ) → span-in (replicate strips-held (replicate 2 zeros)) j u ≡ span 0 0
+zeros-empty j u = ap₂ span (zero-at 0) (zero-at 1)
+  where
+    in-row : (r : List ℕ) → (r ≡ zeros) ⊎ (r ≡ []) → _≡_ {A = ℕ} (getD r u 0) 0
+    in-row r (inl e) = rw e (zeros-at totals-held u)
+    in-row r (inr e) = rw e
+
+    in-sides : (s : ℕ) (r : List (List ℕ)) → (r ≡ replicate 2 zeros) ⊎ (r ≡ []) → _≡_ {A = ℕ} (getD (row r s) u 0) 0
+    in-sides s r (inl e) = rw e (in-row (row (replicate 2 zeros) s) (zero-there 2 zeros [] s))
+    in-sides s r (inr e) = rw e
+
+    zero-at : (s : ℕ) → _≡_ {A = ℕ} (getD (row (sides (replicate strips-held (replicate 2 zeros)) j) s) u 0) 0
+    zero-at s = in-sides s (sides (replicate strips-held (replicate 2 zeros)) j) (zero-there strips-held (replicate 2 zeros) [] j)
 
 pub sized-zeros : Sized (replicate strips-held (replicate 2 zeros))
 sized-zeros =

@@ -137,14 +137,12 @@ pub record Scanning (g : Given) (k v i : ℕ) (t : List (List (List ℕ))) (jump
   pub earlier-jump : (j n u : ℕ) → j + suc n ≡ k → u < v → u ≤ most (levels g j (suc n)) → 0 < short-of g j n u → jump ≤ short-of g j n u
   pub here-jump : (j n : ℕ) → i ≤ j → j + suc n ≡ k → v ≤ most (levels g j (suc n)) → 0 < short-of g j n v → jump ≤ short-of g j n v
 
--- THE SCAN for totals up to cap: the first that can be had, or cap + 1; the table for totals up to it, and empty spans for those above it; no span for a total below
--- it is short by less than the jump
+-- THE SCAN for totals up to cap: the first that can be had, or cap + 1; the table for totals up to it; no span for a total below it is short by less than the jump
 pub record Scan-is (g : Given) (k cap : ℕ) (t : List (List (List ℕ))) (r : Scan) : Type 0 where
   pub table : Filled g k (min (r .total) cap) 0 t
   pub total-is : r .total ≡ first-total (back bias (window-of g 0) (levels g 0 k)) cap
   pub jump-some : 0 < r .jump
   pub jump-is : (j n u : ℕ) → j + suc n ≡ k → u < r .total → u ≤ most (levels g j (suc n)) → 0 < short-of g j n u → r .jump ≤ short-of g j n u
-  pub rest : Cleared (g .windows) k (r .total + 1) cap t
 
 -- what the scan asks of one total
 pub record Total-asks (g : Given) (k v : ℕ) (es : List ℕ) (t : List (List (List ℕ))) (jump : ℕ) : Type 0 where
@@ -153,14 +151,6 @@ pub record Total-asks (g : Given) (k v : ℕ) (es : List ℕ) (t : List (List (L
   pub tables : Scanning g k v k t jump
   pub empties : Empties-are k v k t es
   pub clear : Cleared (g .windows) k v v t
-
--- what carrying the table on asks: it is filled for the totals up to from, and cleared for those above it
-pub record Fill-asks (g : Given) (k from upto : ℕ) (t : List (List (List ℕ))) : Type 0 where
-  pub stack : Stack-asks g k
-  pub first : from < totals-held
-  pub total : upto < totals-held
-  pub table : Filled g k from 0 t
-  pub clear : Cleared (g .windows) k (from + 1) upto t
 
 -- what the scan asks: totals up to cap are of use and within the table
 pub record Scan-asks (g : Given) (k cap : ℕ) (t : List (List (List ℕ))) : Type 0 where

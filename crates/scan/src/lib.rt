@@ -9,8 +9,8 @@ ghost use lib.Dec.{ltb, eqb};
 ghost use Rattle.stack.specs.Sizes.{channels-held, separations-held, totals-held};
 ghost use Rattle.spans.specs.Spans.{span};
 ghost use Rattle.spans.specs.Jump.{min-if, max-if};
-ghost use Rattle.arrays.specs.Arrays.{bias, given, Two-rows, Sized, Filled};
-ghost use Rattle.scan.specs.Scan.{Ends-ask, Ends-are, Ends-serve, window-in, Strip-asks, Strip-done, jump-if, Empty-on, Empties-are, Row-is, Ends-fit, Cleared, Only-at, Total-asks, Scanning, Scan-asks, Scan-is, Fill-asks};
+ghost use Rattle.arrays.specs.Arrays.{bias, given, Two-rows, Sized};
+ghost use Rattle.scan.specs.Scan.{Ends-ask, Ends-are, Ends-serve, window-in, Strip-asks, Strip-done, jump-if, Empty-on, Empties-are, Row-is, Ends-fit, Cleared, Only-at, Total-asks, Scanning, Scan-asks, Scan-is};
 use arrays::ABOVE;
 use arrays::ChannelLimits;
 use arrays::FROM;
@@ -33,15 +33,15 @@ struct Ends {
 
 // Strip i at total v: its window, the separations of its channel from the least open one to the last of use, what the channels above can use, and below
 // which total the strip above has empty spans.
-struct Cell {
-    i: usize,
-    v: usize,
-    least: usize,
-    last: usize,
-    above: usize,
-    empty: usize,
-    from: u64,
-    upto: u64,
+pub struct Cell {
+    pub i: usize,
+    pub v: usize,
+    pub least: usize,
+    pub last: usize,
+    pub above: usize,
+    pub empty: usize,
+    pub from: u64,
+    pub upto: u64,
 }
 
 // One total of a scan of k channels, and the jump before it.
@@ -150,7 +150,7 @@ fn stop_above(last: usize, v: usize, empty: usize) -> usize
 }
 
 // Writes the span of a cell, from the spans of the strip above, and answers by how much it is short.
-fn scan_strip(limits: &ChannelLimits, cell: Cell, table: &mut SpanTable) -> u64
+pub fn scan_strip(limits: &ChannelLimits, cell: Cell, table: &mut SpanTable) -> u64
     requires { ⌜ Strip-asks (now limits) cell (now table) ⌝ }
     ensures { λ r. ⌜ Strip-done (now (limits .entry)) cell (now (table .entry)) (now (table .exit)) r ⌝ }
 {
@@ -184,7 +184,7 @@ fn shorter(jump: u64, short: u64) -> u64
 }
 
 // How many first totals are known to have an empty span: those below count and below bound are, and v is if its span is short.
-fn count_empty(count: usize, bound: usize, v: usize, short: u64) -> usize
+pub fn count_empty(count: usize, bound: usize, v: usize, short: u64) -> usize
     requires { ⌜ v < totals-held ⌝ }
     ensures { λ r. ⌜ Empty-on (max count bound) v short r ⌝ }
 {
@@ -261,28 +261,6 @@ fn clear(windows: &Windows, k: usize, cap: usize, table: &mut SpanTable)
             greater(windows[i][FROM], windows[i][UPTO]) as u32,
             cap,
         );
-    }
-}
-
-// Carries a table that is filled for the totals up to from on to the totals up to upto.
-pub fn fill_totals(
-    limits: &StackLimits,
-    plan: &Plan,
-    windows: &Windows,
-    k: usize,
-    from: usize,
-    upto: usize,
-    table: &mut SpanTable,
-)
-    requires { ⌜ Fill-asks (given (now limits) (now plan) (now windows)) k from upto (now table) ⌝ }
-    ensures { λ _. ⌜ Filled (given (now (limits .entry)) (now (plan .entry)) (now (windows .entry))) k (max from upto) 0 (now (table .exit)) ⌝ }
-{
-    let mut empties = [0usize; Stack::STRIPS];
-    let mut v = from + 1;
-    while v <= upto {
-        let turn = Turn { k, v, jump: 1 };
-        scan_total(limits, plan, windows, turn, &mut empties, table);
-        v += 1;
     }
 }
 

@@ -1,5 +1,6 @@
 -- The loop that finds the separations, from the bottom channel up. Assumes nothing.
-use mathlib.Core.Path.{_≡_, _∙_}
+use mathlib.Core.Path.{_≡_, ap, _∙_}
+use mathlib.Core.Logic.{_⊎_, inl, inr}
 use mathlib.Core.List.{List}
 use Prim.Native.Nat.{ℕ, zero, suc, _+_, _-_, _≤_, _<_, min, max}
 use native.Mathlib.Numerals.{add-one}
@@ -8,11 +9,12 @@ use lib.ListN.{set, replicate}
 use Rattle.stack.specs.Sizes.{channels-held, separations-held}
 use Rattle.spans.specs.Spans.{Span, cut, shift-on}
 use Rattle.spans.specs.Solver.{opens, first-open, most, stop, back, serves, first-serving, least-serving, forward, separations}
-use Rattle.arrays.specs.Arrays.{bias, entry, sides, leasts-in, sums-in, Given, low-of, high-of, last-of, window-of, level-of, levels, span-in, store}
+use Rattle.arrays.specs.Arrays.{bias, entry, sides, leasts-in, sums-in, Given, low-of, high-of, last-of, window-of, level-of, levels, span-in, store, In-band}
 use Rattle.separations.specs.Separations.{Serve-asks, Separate-asks}
 use Rattle.separations.specs.Separations.{Separating}
+use Rattle.numbers.proofs.Orders.{le-or-lt}
 use Rattle.spans.proofs.First.{first-upto}
-use Rattle.arrays.proofs.Levels.{most-small, most-fewer, least-at, above-at, serving-back, forward-back}
+use Rattle.arrays.proofs.Levels.{last-is, most-small, least-at, above-at, serving-back, forward-back}
 
 -- what is found is at most one past the last separation
 pub open-bound : (low high : ℕ → ℕ) (m : ℕ) → first-open low high m ≤ suc m
@@ -42,6 +44,7 @@ module _ (g : Given) (k total : ℕ) where
         inside = a .stack .some;
         left = λ n e. let z : n ≡ k = omega arith in rw z;
         at-most = omega arith;
+        at-least = λ n e. let z : n ≡ k = omega arith in rw z (omega arith);
         starts = omega (arith, a .stack .starts 0 (omega arith));
         ends = omega (arith, a .stack .ends 0 (omega arith));
       }
@@ -73,12 +76,22 @@ module _ (g : Given) (k total : ℕ) where
     abbrev f : ℕ → Span
     f = span-in table (i + 1)
 
-    row-is : (n u : ℕ) → suc i + n ≡ k → u ≤ v → u ≤ most (levels g (suc i) n) → f u ≡ back bias (window-of g (suc i)) (levels g (suc i) n) u
-    row-is n u e m l =
-        let z : i + n ≡ k - 1 = omega arith in
-        let y : 1 + i ≡ suc i = omega arith in
-        let fewer : most (levels g (suc i) n) ≤ most (levels g 1 (k - 1)) = rw (z, y) at (most-fewer g i 1 n) in
-        rw (add-one i) (a .table .filled (suc i) n u (omega arith) e (omega (arith, a .enough, h .at-most)) l)
+    most-here : (n : ℕ) → most (levels g i (suc n)) ≡ last-of g i + most (levels g (suc i) n)
+    unfolding most levels
+    most-here n = ap (λ (m : ℕ). m + most (levels g (suc i) n)) (last-is (low-of g i) (high-of g i) (last-of g i))
+
+    -- what a separation leaves is in the band of the strip above
+    band-is : (n q : ℕ) → suc i + n ≡ k → q ≤ last-of g i → In-band g k total (suc i) n (min (v - q) (most (levels g (suc i) n)))
+    band-is n q e l = (omega (arith, h .at-most), omega arith, go (le-or-lt (most (levels g (suc i) n)) (v - q)))
+      where
+        go : (most (levels g (suc i) n) ≤ v - q) ⊎ (v - q < most (levels g (suc i) n)) →
+            (min (v - q) (most (levels g (suc i) n)) ≡ most (levels g (suc i) n))
+            ⊎ (total + most (levels g (suc i) n) ≤ min (v - q) (most (levels g (suc i) n)) + (most (levels g 0 k) + suc i))
+        go (inl p) = inl (omega arith)
+        go (inr p) = inr (omega (arith, h .at-least (suc n) (omega arith), most-here n))
+
+    row-is : (n q : ℕ) → suc i + n ≡ k → q ≤ last-of g i → f (min (v - q) (most (levels g (suc i) n))) ≡ back bias (window-of g (suc i)) (levels g (suc i) n) (min (v - q) (most (levels g (suc i) n)))
+    row-is n q e l = rw (add-one i) (a .table .banded (suc i) n _ (omega arith) e (band-is n q e l))
 
     pub separation-small : (q : ℕ) → q ≡ first-serving bias (low-of g i) (high-of g i) least (last-of g i) above f s v → q ≤ separations-held
     separation-small q e =
@@ -86,7 +99,7 @@ module _ (g : Given) (k total : ℕ) where
 
     module _ (q : ℕ) (t : Span) (v₁ : ℕ) (qe : q ≡ first-serving bias (low-of g i) (high-of g i) least (last-of g i) above f s v) (te : t ≡ cut (window-of g (i + 1)) (shift-on bias (low-of g i (min q (last-of g i))) (high-of g i (min q (last-of g i))) s)) (ve : v₁ ≡ v - q) where
       q-is : (n : ℕ) → suc i + n ≡ k → q ≡ least-serving bias s (level-of g i) (levels g (suc i) n) v
-      q-is n e = qe ∙ rw (least-is, above-is n e) (serving-back g i n f s v (λ u m l. row-is n u e m l))
+      q-is n e = qe ∙ rw (least-is, above-is n e) (serving-back g i n f s v (λ p m l. row-is n p e m))
 
       t-is : t ≡ forward bias s (level-of g i) q
       t-is = te ∙ rw (add-one i) (forward-back g i 0 f s v q)
@@ -95,6 +108,9 @@ module _ (g : Given) (k total : ℕ) where
       unfolding store separations levels
       step-left zero e = absurd (omega arith)
       step-left (suc n) e = rw (ve, t-is, q-is (suc n) e) (h .left (suc (suc n)) (omega arith))
+
+      q-bound : q ≤ suc (last-of g i)
+      q-bound = omega (arith, qe, serving-bound bias (low-of g i) (high-of g i) least (last-of g i) above f s v (omega (arith, least-is, open-bound (low-of g i) (high-of g i) (last-of g i))))
 
       t-ends : (t .from ≤ max (window-of g (i + 1) .from) (s .from + low-of g i (min q (last-of g i)) - bias)) × (t .upto ≤ window-of g (i + 1) .upto)
       t-ends = (rw te (omega arith), rw te (omega arith))
@@ -106,6 +122,7 @@ module _ (g : Given) (k total : ℕ) where
             inside = omega arith;
             left = λ n e. step-left n e;
             at-most = omega (arith, h .at-most);
+            at-least = λ n e. omega (arith, h .at-least (suc n) (omega arith), most-here n, q-bound);
             starts = omega (arith, t-ends, h .starts, a .stack .starts (i + 1) (omega arith), a .stack .lows i (min q (last-of g i)) (h .inside) (omega arith));
             ends = omega (arith, t-ends, a .stack .ends (i + 1) (omega arith));
           })

@@ -1,9 +1,14 @@
 -- The least total is the least: no placement has a smaller one, and if there is a placement, one has just this total. Assumes nothing.
 -- Every total from the least one on is the total of some placement, if there is a channel: its separation can be raised.
-use mathlib.Core.Bool.{Bool}
+use mathlib.Core.Path.{_≡_, refl, sym, _∙_}
+use mathlib.Core.Bool.{Bool, true, false}
+use mathlib.Core.Logic.{_⊎_, inl, inr}
 use mathlib.Core.List.{List, _∷_}
-use Prim.Native.Nat.{ℕ, suc, _-_, _≤_}
+use Prim.Native.Nat.{ℕ, suc, _-_, _≤_, _<_}
 use native.Mathlib.Omega.{arith}
+use lib.Dec.{leb}
+use borrow.Author.Tests.{le-leb, lt-leb}
+use Rattle.numbers.proofs.Orders.{le-or-lt}
 use Rattle.stack.specs.Stack.{sum}
 use Rattle.spans.specs.Spans.{Span, In, nonempty}
 use Rattle.spans.specs.Solver.{Level, most, back, first-total, least-total}
@@ -63,6 +68,25 @@ module _ (b : ℕ) (w : Span) (cs : List Level) (wide : Widening cs) where
             placed = k .placed;
             total = omega (arith, k .within, no-smaller-total (k .ts) y (k .ys) (k .placed));
           }
+
+module _ (b : ℕ) (w : Span) (cs : List Level) (wide : Widening cs) (v : ℕ) (h : v ≤ most cs) where
+  span-not-below : nonempty (back b w cs v) ≡ true → least-total b w cs ≤ v
+  unfolding least-total first-total
+  span-not-below e = first-least (placeable b w cs wide) 0 (suc (most cs)) v (omega arith) (omega arith) e
+
+  span-above : least-total b w cs ≤ v → nonempty (back b w cs v) ≡ true
+  span-above l =
+      let e : Exactly b w cs (least-total b w cs) = least-total-reached b w cs wide (omega arith) in
+      in-nonempty _ (e .x) (back-complete b cs wide w v (e .ts) (e .x) (e .ys) (e .placed) (omega (arith, e .total)))
+
+  -- A TOTAL OF USE HAS A SPAN exactly if it is not below the least one
+  pub span-from-least : nonempty (back b w cs v) ≡ leb (least-total b w cs) v
+  span-from-least = go (nonempty (back b w cs v)) refl (le-or-lt (least-total b w cs) v)
+    where
+      go : (x : Bool) → nonempty (back b w cs v) ≡ x → (least-total b w cs ≤ v) ⊎ (v < least-total b w cs) → nonempty (back b w cs v) ≡ leb (least-total b w cs) v
+      go x e (inl l) = span-above l ∙ sym (le-leb (least-total b w cs) v l)
+      go true e (inr l) = absurd (omega (arith, span-not-below e))
+      go false e (inr l) = e ∙ sym (lt-leb (least-total b w cs) v l)
 
 -- with a channel every greater total is reached as well
 pub greater-total-reached : (b : ℕ) (w : Span) (c : Level) (cs : List Level) (v : ℕ) → Widening (c ∷ cs) → least-total b w (c ∷ cs) ≤ most (c ∷ cs) → least-total b w (c ∷ cs) ≤ v →

@@ -8,7 +8,7 @@ use Rattle.arrays.specs.Arrays.{bias, given, window-of, levels}
 use Rattle.arrays.specs.Search.{Searching}
 use Rattle.scan.specs.Scan.{Scanning, Empties-are, Cleared}
 use Rattle.arrays.proofs.Searches.{totalling-start}
-use Rattle.scan.proofs.Scans.{none-yet, scanning-start, empties-start, cleared-start, cleared-upto, scan-found, scanning-next, empties-next, cleared-next, totals-miss, scan-none}
+use Rattle.scan.proofs.Scans.{none-yet, scanning-start, empties-start, cleared-start, cleared-here, scan-found, scanning-next, empties-next, cleared-next, totals-miss, scan-none}
 use borrow.Author.Needs.{needs}
 use Rattle.scan.proofs.scan_totals.Statement.{statement}
 use Rattle.scan.proofs.scan_totals.Tie as tie
@@ -81,7 +81,7 @@ loop-holds c =
     let a = c .before .before .before .before in
     let cleared = c .before .before .clear .ensures in
     let none = none-yet _ _ _ _ _ (a .pre) cleared in
-    (omega arith, scanning-start _ _ _ none, totalling-start _ (a .args .cap), empties-start _ _ _ _ (a .pre .stack), cleared-start _ _ _ none (a .args .cap) cleared)
+    (omega arith, scanning-start _ _ _ none, totalling-start _ (a .args .cap), empties-start _ _ _ none, cleared-start _ _ _ none (a .args .cap) cleared)
 
 scan-total-requires : tie.Need-scan-total-requires Inv-loop μ-loop
 scan-total-requires c κs =
@@ -92,7 +92,7 @@ scan-total-requires c κs =
       total = omega (arith, a .pre .total);
       tables = b .inv .1;
       empties = b .inv .3;
-      clear = cleared-upto _ _ _ (a .args .cap) _ _ (omega arith) (b .inv .4);
+      clear = cleared-here _ _ _ (a .args .cap) _ (omega arith) (b .inv .4);
     }
 
 mul-if1 : tie.Need-mul-if1 Inv-loop μ-loop
@@ -125,7 +125,6 @@ returns c =
     let b = c .before .before .before .before .before .before .before .loop in
     let next = c .before .before .before .scan-total in
     scan-found _ _ (a .args .cap) (b .v) (next .result) _ (next .ensures .0) (a .pre .of-use) (c .before .before .before .before .before .before .loop-test .taken) _ (b .inv .2) (b .jump) _ (b .inv .1) refl (c .if1 .taken)
-    (cleared-next _ _ _ (a .args .cap) _ _ (next .ensures .0 .sized) (next .ensures .2) (b .inv .4))
 
 add-v : tie.Need-add-v Inv-loop μ-loop
 add-v c = search needs

@@ -1,0 +1,3 @@
+-- The laws of the fill.
+pub mod Strips
+pub mod Bands

@@ -1,0 +1,2 @@
+-- The spans in the bands of a stated total.
+pub mod Band
