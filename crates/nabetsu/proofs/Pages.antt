@@ -3,7 +3,7 @@
 use mathlib.Core.Path.{_≡_, refl, sym, ap, _∙_}
 use mathlib.Core.Bool.{Bool, true, false, _&&_}
 use mathlib.Core.List.{List}
-use Prim.Native.Nat.{ℕ, zero, suc, _+_, _-_, _≤_, _<_, max}
+use Prim.Native.Nat.{ℕ, zero, suc, _+_, _-_, _≤_, _<_}
 use native.Mathlib.Numerals.{add-one}
 use native.Mathlib.Omega.{arith}
 use lib.Dec.{leb, ltb}
@@ -26,8 +26,8 @@ use Rattle.text.specs.declared.Outcome.{Outcome}
 use Rattle.text.proofs.Refusals.{or-else-fine, when-fine, only-fine, or-else-refused, or-else-next, accepted-fine, refused-number}
 use Rattle.text.proofs.Within.{accepted-within}
 use Rattle.solver.specs.declared.Placement.{Placement}
-use Rattle.answer.specs.Solve.{answer-total, answer-separations, answer-positions}
-use Rattle.answer.specs.Arrays.{Placed-is, Answer-is}
+use Rattle.answer.specs.Solve.{answer-separations, answer-positions}
+use Rattle.answer.specs.Arrays.{Answer-is}
 use Rattle.answer.proofs.Alone.{legal-lengths}
 use Rattle.answer.proofs.Answers.{answer-there}
 use Rattle.writing.specs.Output.{cleared}
@@ -94,10 +94,6 @@ module _ (k : Stack) (s n : ℕ) where
     pub asked-all : longest (k .strips) ≤ s → s ≤ 63 → fine ≡ asked-refusal k s n
     unfolding asked-refusal channel-refusal narrow-refusal broad-refusal or-else refusal fine
     asked-all h l = rw (le-leb 1 n some, le-leb n (length (k .channels)) within, le-ltb s (longest (k .strips)) h, le-ltb 63 s l)
-
--- the placement for the greater of 0 and the least total is the answer
-pub least-placed : (k : Stack) (s : ℕ) (p : Placement) → Placed-is k s (max 0 (answer-total k s)) p → Answer-is k s p
-least-placed k s p i = let m : max 0 (answer-total k s) ≡ answer-total k s = omega arith in rw m at i
 
 -- THE CHANNEL of the answer
 padded-at : (n : ℕ) (xs : List ℕ) (i : ℕ) → i < length xs → getD (padded n xs) i 0 ≡ getD xs i 0

@@ -2,7 +2,7 @@
 use mathlib.Core.Path.{_≡_, refl, ap, _∙_}
 use mathlib.Core.Bool.{true, false}
 use mathlib.Core.List.{List, [], _∷_, _++_}
-use Prim.Native.Nat.{ℕ, zero, suc, _+_, _-_, _≤_, _<_, max}
+use Prim.Native.Nat.{ℕ, zero, suc, _+_, _-_, _≤_, _<_}
 use native.Mathlib.Omega.{arith}
 use native.Mathlib.Nat.{zero-add}
 use lib.Dec.{leb}
@@ -68,18 +68,17 @@ module _ (bs : List ℕ) (s v : ℕ) (g : Reading) (d : Stack-read bs g) (u : Ou
         says
         (unmet (below-unmet k s v (d .within) (stack-wide bs s g d u q a) (omega (arith, leb-false (answer-total k s) v h))) (refused-zeros o (refusal 10 0 0) r z (ap refusal-of e)))
 
-    pub placement-made : (p : Placement-struct) → leb (answer-total k s) v ≡ true → Placed-is k s (max v (answer-total k s)) p → r .outcome ≡ u → r .total .0 ≡ v →
+    pub placement-made : (p : Placement-struct) → leb (answer-total k s) v ≡ true → Placed-is k s v p → r .outcome ≡ u → r .total .0 ≡ v →
         r .separations ≡ p .separations → r .positions ≡ p .positions → Placement-says bs s v r
     unfolding placed-is
     placement-made p h i o t ss ps =
         let l = leb-true (answer-total k s) v h in
-        let m : max v (answer-total k s) ≡ v = omega arith in
         says
         (placed (separations-for k s v) (positions-for k s v) (placement-there k s (d .within) (stack-wide bs s g d u q a) v l) (
           ap refusal-of o ∙ accepted-fine u a,
           t,
-          rw ss (rw m at (i .separations-are)),
-          rw ps (rw m at (i .positions-are)),
+          rw ss (i .separations-are),
+          rw ps (i .positions-are),
         ))
 
 -- THE THIRD DEMAND of the placement returned

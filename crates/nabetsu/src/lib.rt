@@ -14,6 +14,7 @@ ghost use Rattle.nabetsu.specs.Best.{Total-best, Placement-best};
 ghost use Rattle.nabetsu.specs.Pages.{asked-refusal, Page-says, Page-enough, Page-shows, Page-coded};
 ghost use Rattle.nabetsu.specs.Parts.{Refused-placement, Refused-table, Finished, Channel-put, Numbers-tried};
 ghost use Rattle.nabetsu.specs.Space.{Space-enough};
+use answer::answer_in;
 use answer::placement_in;
 use answer::total_in;
 use plot::put_page;
@@ -195,8 +196,7 @@ fn put_channel(stack: Stack, spread: u32, channel: u32, output: &mut [u8]) -> us
     requires { ⌜ (within-limits (stack-of stack) ≡ true) × (asked-refusal (stack-of stack) spread channel .number ≡ 0) ⌝ }
     ensures { λ r. ⌜ Channel-put (stack-of stack) spread channel (now (output .entry)) (now (output .exit)) r ⌝ }
 {
-    let least = placement_in(stack, spread, Tracks(0));
-    let placement = least.placement;
+    let placement = answer_in(stack, spread);
     let separations = placement.separations;
     let positions = placement.positions;
     let i = channel as usize - 1;

@@ -66,7 +66,7 @@ returns-3 c =
     let g = u .before .before in
     let a = g .before .before in
     let says = placement-made (a .args .text .now) (a .args .spread) (a .args .total .0) (g .read-stack .result) (g .read-stack .ensures) (u .spread-outcome .result) (u .spread-outcome .ensures) _
-    (sym (e .before .is-accepted .ensures) ∙ not-false _ (e .if1 .left)) (p .placement-in .result .placement) (sym (p .placement-in .ensures .0) ∙ not-false _ (t .if2 .left)) (p .placement-in .ensures .1) refl refl refl refl in
+    (sym (e .before .is-accepted .ensures) ∙ not-false _ (e .if1 .left)) (p .placement-in .result .placement) (sym (p .placement-in .ensures .0) ∙ not-false _ (t .if2 .left)) (p .placement-in .ensures .1 (not-false _ (t .if2 .left))) refl refl refl refl in
     (says, placement-best _ _ _ _ says)
 
 pub place-total-spec : {M : Type 1} → statement M
