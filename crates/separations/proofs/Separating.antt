@@ -93,9 +93,12 @@ module _ (g : Given) (k total : ℕ) where
     row-is : (n q : ℕ) → suc i + n ≡ k → q ≤ last-of g i → f (min (v - q) (most (levels g (suc i) n))) ≡ back bias (window-of g (suc i)) (levels g (suc i) n) (min (v - q) (most (levels g (suc i) n)))
     row-is n q e l = rw (add-one i) (a .table .banded (suc i) n _ (omega arith) e (band-is n q e l))
 
+    separation-bound : (q : ℕ) → q ≡ first-serving bias (low-of g i) (high-of g i) least (last-of g i) above f s v → q ≤ suc (last-of g i)
+    separation-bound q e =
+        omega (arith, e, serving-bound bias (low-of g i) (high-of g i) least (last-of g i) above f s v (omega (arith, least-is, open-bound (low-of g i) (high-of g i) (last-of g i))))
+
     pub separation-small : (q : ℕ) → q ≡ first-serving bias (low-of g i) (high-of g i) least (last-of g i) above f s v → q ≤ separations-held
-    separation-small q e =
-        omega (arith, e, serving-bound bias (low-of g i) (high-of g i) least (last-of g i) above f s v (omega (arith, least-is, open-bound (low-of g i) (high-of g i) (last-of g i))), a .stack .listed i (h .inside))
+    separation-small q e = omega (arith, separation-bound q e, a .stack .listed i (h .inside))
 
     module _ (q : ℕ) (t : Span) (v₁ : ℕ) (qe : q ≡ first-serving bias (low-of g i) (high-of g i) least (last-of g i) above f s v) (te : t ≡ cut (window-of g (i + 1)) (shift-on bias (low-of g i (min q (last-of g i))) (high-of g i (min q (last-of g i))) s)) (ve : v₁ ≡ v - q) where
       q-is : (n : ℕ) → suc i + n ≡ k → q ≡ least-serving bias s (level-of g i) (levels g (suc i) n) v
@@ -109,9 +112,6 @@ module _ (g : Given) (k total : ℕ) where
       step-left zero e = absurd (omega arith)
       step-left (suc n) e = rw (ve, t-is, q-is (suc n) e) (h .left (suc (suc n)) (omega arith))
 
-      q-bound : q ≤ suc (last-of g i)
-      q-bound = omega (arith, qe, serving-bound bias (low-of g i) (high-of g i) least (last-of g i) above f s v (omega (arith, least-is, open-bound (low-of g i) (high-of g i) (last-of g i))))
-
       t-ends : (t .from ≤ max (window-of g (i + 1) .from) (s .from + low-of g i (min q (last-of g i)) - bias)) × (t .upto ≤ window-of g (i + 1) .upto)
       t-ends = (rw te (omega arith), rw te (omega arith))
 
@@ -122,7 +122,7 @@ module _ (g : Given) (k total : ℕ) where
             inside = omega arith;
             left = λ n e. step-left n e;
             at-most = omega (arith, h .at-most);
-            at-least = λ n e. omega (arith, h .at-least (suc n) (omega arith), most-here n, q-bound);
+            at-least = λ n e. omega (arith, h .at-least (suc n) (omega arith), most-here n, separation-bound q qe);
             starts = omega (arith, t-ends, h .starts, a .stack .starts (i + 1) (omega arith), a .stack .lows i (min q (last-of g i)) (h .inside) (omega arith));
             ends = omega (arith, t-ends, a .stack .ends (i + 1) (omega arith));
           })

@@ -1,7 +1,6 @@
 -- placement_in meets its contract: the table is filled in the bands of the stated total, that is met exactly if the bottom strip has a position, and then what the
 -- solver places in the table is the placement. Assumes nothing.
-use mathlib.Core.Path.{_≡_, refl, sym, _∙_}
-use mathlib.Core.Bool.{true}
+use mathlib.Core.Path.{refl, sym, _∙_}
 use native.Mathlib.Omega.{arith}
 use borrow.Author.Tests.{not-true, not-false}
 use Rattle.numbers.proofs.Bools.{impossible}
