@@ -13,6 +13,7 @@ use numbers::difference;
 use numbers::lesser;
 use scan::Cell;
 use scan::count_empty;
+use scan::put_window;
 use scan::scan_strip;
 use stack::Stack;
 ghost use mathlib.Core.Path.{_≡_};
@@ -69,8 +70,7 @@ pub fn fill_band(
     requires { ⌜ Band-asks (given (now limits) (now plan) (now windows)) k total (now table) ⌝ }
     ensures { λ _. ⌜ Banded (given (now (limits .entry)) (now (plan .entry)) (now (windows .entry))) k total 0 (now (table .exit)) ⌝ }
 {
-    table[k][FROM][0] = windows[k][FROM] as u32;
-    table[k][UPTO][0] = windows[k][UPTO] as u32;
+    put_window(windows, k, table);
     let all = plan[ABOVE][0];
     let mut empty = 0;
     let mut i = k;

@@ -9,8 +9,8 @@ ghost use lib.Dec.{ltb, eqb};
 ghost use Rattle.stack.specs.Sizes.{channels-held, separations-held, totals-held};
 ghost use Rattle.spans.specs.Spans.{span};
 ghost use Rattle.spans.specs.Jump.{min-if, max-if};
-ghost use Rattle.arrays.specs.Arrays.{bias, given, Two-rows, Sized};
-ghost use Rattle.scan.specs.Scan.{Ends-ask, Ends-are, Ends-serve, window-in, Strip-asks, Strip-done, jump-if, Empty-on, Empties-are, Row-is, Ends-fit, Cleared, Only-at, Total-asks, Scanning, Scan-asks, Scan-is};
+ghost use Rattle.arrays.specs.Arrays.{bias, row, window-at, given, Two-rows, Sized};
+ghost use Rattle.scan.specs.Scan.{put-span, Ends-ask, Ends-are, Ends-serve, window-in, Strip-asks, Strip-done, jump-if, Empty-on, Empties-are, Row-is, Ends-fit, Cleared, Only-at, Total-asks, Scanning, Scan-asks, Scan-is};
 use arrays::ABOVE;
 use arrays::ChannelLimits;
 use arrays::FROM;
@@ -264,6 +264,15 @@ fn clear(windows: &Windows, k: usize, cap: usize, table: &mut SpanTable)
     }
 }
 
+// Gives strip k, on top of all channels, its window for total 0.
+pub fn put_window(windows: &Windows, k: usize, table: &mut SpanTable)
+    requires { ⌜ (k ≤ channels-held) × Sized (now table) × Ends-fit (now windows) (k + 1) ⌝ }
+    ensures { λ _. ⌜ now (table .exit) ≡ put-span (now (table .entry)) k 0 (window-at (row (now (windows .entry)) k)) ⌝ }
+{
+    table[k][FROM][0] = windows[k][FROM] as u32;
+    table[k][UPTO][0] = windows[k][UPTO] as u32;
+}
+
 // The first total up to cap that can be had, or one more than cap, with the table of spans for the totals up to it.
 pub fn scan_totals(
     limits: &StackLimits,
@@ -277,8 +286,7 @@ pub fn scan_totals(
     ensures { λ r. ⌜ Scan-is (given (now (limits .entry)) (now (plan .entry)) (now (windows .entry))) k cap (now (table .exit)) r ⌝ }
 {
     clear(windows, k, cap, table);
-    table[k][FROM][0] = windows[k][FROM] as u32;
-    table[k][UPTO][0] = windows[k][UPTO] as u32;
+    put_window(windows, k, table);
     let mut empties = [0usize; Stack::STRIPS];
     let mut jump = Stack::BIAS;
     let mut v = 0;

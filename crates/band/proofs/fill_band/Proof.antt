@@ -15,53 +15,13 @@ Inv-loop limits plan windows k total table₀ all empty₀ i₀ table empty i = 
 abbrev μ-loop : tie.MeasureT-loop
 μ-loop limits plan windows k total table₀ all empty₀ i₀ table empty i = i
 
-mul-table : tie.Need-mul-table Inv-loop μ-loop
-mul-table c = search needs
-
-index-1-table : tie.Need-index-1-table Inv-loop μ-loop
-index-1-table c = search needs
-
-index-2-table : tie.Need-index-2-table Inv-loop μ-loop
-index-2-table c = search needs
-
-cast-table : tie.Need-cast-table Inv-loop μ-loop
-cast-table c = let a = c .before in omega (arith, a .pre .stack .starts (a .args .k) (omega arith))
-
-mul-table-2 : tie.Need-mul-table-2 Inv-loop μ-loop
-mul-table-2 c = search needs
-
-index-1-table-2 : tie.Need-index-1-table-2 Inv-loop μ-loop
-index-1-table-2 c = search needs
-
-index-2-table-2 : tie.Need-index-2-table-2 Inv-loop μ-loop
-index-2-table-2 c = search needs
-
-index-3-table : tie.Need-index-3-table Inv-loop μ-loop
-index-3-table c = search needs
-
-mul-table-3 : tie.Need-mul-table-3 Inv-loop μ-loop
-mul-table-3 c = search needs
-
-index-1-table-3 : tie.Need-index-1-table-3 Inv-loop μ-loop
-index-1-table-3 c = search needs
-
-index-2-table-3 : tie.Need-index-2-table-3 Inv-loop μ-loop
-index-2-table-3 c = search needs
-
-cast-table-2 : tie.Need-cast-table-2 Inv-loop μ-loop
-cast-table-2 c = let a = c .before .before in omega (arith, a .pre .stack .ends (a .args .k) (omega arith))
-
-mul-table-4 : tie.Need-mul-table-4 Inv-loop μ-loop
-mul-table-4 c = search needs
-
-index-1-table-4 : tie.Need-index-1-table-4 Inv-loop μ-loop
-index-1-table-4 c = search needs
-
-index-2-table-4 : tie.Need-index-2-table-4 Inv-loop μ-loop
-index-2-table-4 c = search needs
-
-index-3-table-2 : tie.Need-index-3-table-2 Inv-loop μ-loop
-index-3-table-2 c = search needs
+put-window-requires : tie.Need-put-window-requires Inv-loop μ-loop
+put-window-requires c κs =
+    let a = c .before .pre in (
+      a .stack .channels,
+      a .sized,
+      record { starts = λ i h. a .stack .starts i (omega arith); ends = λ i h. a .stack .ends i (omega arith) },
+    )
 
 index-1-all : tie.Need-index-1-all Inv-loop μ-loop
 index-1-all c = search needs
@@ -70,7 +30,7 @@ index-2-all : tie.Need-index-2-all Inv-loop μ-loop
 index-2-all c = search needs
 
 loop-holds : tie.Need-loop-holds Inv-loop μ-loop
-loop-holds c = (banding-start _ _ _ _ (c .before .before .before .pre), refl)
+loop-holds c = (rw (c .before .put-window .ensures) (banding-start _ _ _ _ (c .before .before .before .pre)), refl)
 
 sub-i : tie.Need-sub-i Inv-loop μ-loop
 sub-i c = search needs
@@ -95,35 +55,35 @@ first-in-band-requires c κs =
       omega (arith, b .inv .0 .inside, a .pre .stack .channels),
     )
 
-mul-t48 : tie.Need-mul-t48 Inv-loop μ-loop
-mul-t48 c = search needs
+mul-t27 : tie.Need-mul-t27 Inv-loop μ-loop
+mul-t27 c = search needs
 
-index-1-t53 : tie.Need-index-1-t53 Inv-loop μ-loop
-index-1-t53 c = search needs
+index-1-t32 : tie.Need-index-1-t32 Inv-loop μ-loop
+index-1-t32 c = search needs
 
-index-2-t53 : tie.Need-index-2-t53 Inv-loop μ-loop
-index-2-t53 c = search needs
+index-2-t32 : tie.Need-index-2-t32 Inv-loop μ-loop
+index-2-t32 c = search needs
 
-mul-t56 : tie.Need-mul-t56 Inv-loop μ-loop
-mul-t56 c = search needs
+mul-t35 : tie.Need-mul-t35 Inv-loop μ-loop
+mul-t35 c = search needs
 
-index-1-t59 : tie.Need-index-1-t59 Inv-loop μ-loop
-index-1-t59 c = search needs
+index-1-t38 : tie.Need-index-1-t38 Inv-loop μ-loop
+index-1-t38 c = search needs
 
-index-2-t59 : tie.Need-index-2-t59 Inv-loop μ-loop
-index-2-t59 c = search needs
+index-2-t38 : tie.Need-index-2-t38 Inv-loop μ-loop
+index-2-t38 c = search needs
 
-add-t60 : tie.Need-add-t60 Inv-loop μ-loop
-add-t60 c = search needs
+add-t39 : tie.Need-add-t39 Inv-loop μ-loop
+add-t39 c = search needs
 
-mul-t63 : tie.Need-mul-t63 Inv-loop μ-loop
-mul-t63 c = search needs
+mul-t42 : tie.Need-mul-t42 Inv-loop μ-loop
+mul-t42 c = search needs
 
-index-1-t66 : tie.Need-index-1-t66 Inv-loop μ-loop
-index-1-t66 c = search needs
+index-1-t45 : tie.Need-index-1-t45 Inv-loop μ-loop
+index-1-t45 c = search needs
 
-index-2-t66 : tie.Need-index-2-t66 Inv-loop μ-loop
-index-2-t66 c = search needs
+index-2-t45 : tie.Need-index-2-t45 Inv-loop μ-loop
+index-2-t45 c = search needs
 
 mul-last : tie.Need-mul-last Inv-loop μ-loop
 mul-last c = search needs
@@ -189,22 +149,7 @@ fill-band-spec =
     (tie.spec
     Inv-loop
     μ-loop
-    mul-table
-    index-1-table
-    index-2-table
-    cast-table
-    mul-table-2
-    index-1-table-2
-    index-2-table-2
-    index-3-table
-    mul-table-3
-    index-1-table-3
-    index-2-table-3
-    cast-table-2
-    mul-table-4
-    index-1-table-4
-    index-2-table-4
-    index-3-table-2
+    put-window-requires
     index-1-all
     index-2-all
     loop-holds
@@ -213,16 +158,16 @@ fill-band-spec =
     index-1-used
     index-2-used
     first-in-band-requires
-    mul-t48
-    index-1-t53
-    index-2-t53
-    mul-t56
-    index-1-t59
-    index-2-t59
-    add-t60
-    mul-t63
-    index-1-t66
-    index-2-t66
+    mul-t27
+    index-1-t32
+    index-2-t32
+    mul-t35
+    index-1-t38
+    index-2-t38
+    add-t39
+    mul-t42
+    index-1-t45
+    index-2-t45
     mul-last
     index-1-last
     index-2-last

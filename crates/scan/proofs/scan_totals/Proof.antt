@@ -28,59 +28,20 @@ clear-requires c κs =
       record { starts = λ i h. a .stack .starts i (omega arith); ends = λ i h. a .stack .ends i (omega arith) },
     )
 
-mul-table : tie.Need-mul-table Inv-loop μ-loop
-mul-table c = search needs
-
-index-1-table : tie.Need-index-1-table Inv-loop μ-loop
-index-1-table c = search needs
-
-index-2-table : tie.Need-index-2-table Inv-loop μ-loop
-index-2-table c = search needs
-
-cast-table : tie.Need-cast-table Inv-loop μ-loop
-cast-table c = let a = c .before .before .before in omega (arith, a .pre .stack .starts (a .args .k) (omega arith))
-
-mul-table-2 : tie.Need-mul-table-2 Inv-loop μ-loop
-mul-table-2 c = search needs
-
-index-1-table-2 : tie.Need-index-1-table-2 Inv-loop μ-loop
-index-1-table-2 c = search needs
-
-index-2-table-2 : tie.Need-index-2-table-2 Inv-loop μ-loop
-index-2-table-2 c = search needs
-
-index-3-table : tie.Need-index-3-table Inv-loop μ-loop
-index-3-table c = search needs
-
-mul-table-3 : tie.Need-mul-table-3 Inv-loop μ-loop
-mul-table-3 c = search needs
-
-index-1-table-3 : tie.Need-index-1-table-3 Inv-loop μ-loop
-index-1-table-3 c = search needs
-
-index-2-table-3 : tie.Need-index-2-table-3 Inv-loop μ-loop
-index-2-table-3 c = search needs
-
-cast-table-2 : tie.Need-cast-table-2 Inv-loop μ-loop
-cast-table-2 c = let a = c .before .before .before .before in omega (arith, a .pre .stack .ends (a .args .k) (omega arith))
-
-mul-table-4 : tie.Need-mul-table-4 Inv-loop μ-loop
-mul-table-4 c = search needs
-
-index-1-table-4 : tie.Need-index-1-table-4 Inv-loop μ-loop
-index-1-table-4 c = search needs
-
-index-2-table-4 : tie.Need-index-2-table-4 Inv-loop μ-loop
-index-2-table-4 c = search needs
-
-index-3-table-2 : tie.Need-index-3-table-2 Inv-loop μ-loop
-index-3-table-2 c = search needs
+put-window-requires : tie.Need-put-window-requires Inv-loop μ-loop
+put-window-requires c κs =
+    let a = c .before .before .before .pre in (
+      a .stack .channels,
+      c .before .clear .ensures .sized,
+      record { starts = λ i h. a .stack .starts i (omega arith); ends = λ i h. a .stack .ends i (omega arith) },
+    )
 
 loop-holds : tie.Need-loop-holds Inv-loop μ-loop
 loop-holds c =
     let a = c .before .before .before .before in
     let cleared = c .before .before .clear .ensures in
     let none = none-yet _ _ _ _ _ (a .pre) cleared in
+    rw (c .put-window .ensures)
     (omega arith, scanning-start _ _ _ none, totalling-start _ (a .args .cap), empties-start _ _ _ none, cleared-start _ _ _ none (a .args .cap) cleared)
 
 scan-total-requires : tie.Need-scan-total-requires Inv-loop μ-loop
@@ -157,22 +118,7 @@ scan-totals-spec =
     Inv-loop
     μ-loop
     clear-requires
-    mul-table
-    index-1-table
-    index-2-table
-    cast-table
-    mul-table-2
-    index-1-table-2
-    index-2-table-2
-    index-3-table
-    mul-table-3
-    index-1-table-3
-    index-2-table-3
-    cast-table-2
-    mul-table-4
-    index-1-table-4
-    index-2-table-4
-    index-3-table-2
+    put-window-requires
     loop-holds
     scan-total-requires
     mul-if1
