@@ -3,10 +3,10 @@ ghost use mathlib.Core.Path.{_≡_};
 ghost use mathlib.Core.Bool.{true};
 ghost use Prim.Native.Nat.{suc, _≤_, max};
 ghost use lib.Dec.{ltb, leb};
-ghost use lib.ListN.{length};
-ghost use Rattle.stack.specs.Sizes.{strips-held};
+ghost use lib.ListN.{length, replicate};
+ghost use Rattle.stack.specs.Sizes.{channels-held, strips-held};
 ghost use Rattle.stack.specs.Limits.{within-limits};
-ghost use Rattle.stack.specs.Value.{stack-of};
+ghost use Rattle.stack.specs.Value.{tracks-of, columns-of, stack-of};
 ghost use Rattle.stack.specs.Stack.{longest};
 ghost use Rattle.answer.specs.Arrays.{Limits-in, Windows-in, Limits-sized, Held, Placed-is, Answer-is};
 ghost use Rattle.answer.specs.Solve.{answer-total};
@@ -127,7 +127,7 @@ fn has_position(from: u32, upto: u32) -> bool
 
 // A placement with zeros everywhere.
 fn no_placement() -> Placement
-    ensures { λ r. ⌜ r .total .0 ≡ 0 ⌝ }
+    ensures { λ r. ⌜ (r .total .0 ≡ 0) × (tracks-of (r .separations) ≡ replicate channels-held 0) × (columns-of (r .positions) ≡ replicate strips-held 0) ⌝ }
 {
     Placement {
         total: Tracks(0),

@@ -97,6 +97,11 @@ unfolding most levels sums
 most-sums g i zero = refl
 most-sums g i (suc n) = ap₂ _+_ (last-is (low-of g i) (high-of g i) (last-of g i)) (most-sums g (suc i) n)
 
+-- one channel more can use its last separation more
+pub most-step : (g : Given) (i n : ℕ) → most (levels g i (suc n)) ≡ last-of g i + most (levels g (suc i) n)
+unfolding most levels
+most-step g i n = ap (λ (m : ℕ). m + most (levels g (suc i) n)) (last-is (low-of g i) (high-of g i) (last-of g i))
+
 pub most-fewer : (g : Given) (d i n : ℕ) → most (levels g (i + d) n) ≤ most (levels g i (d + n))
 unfolding most levels
 most-fewer g zero i n = let z : 0 + n ≡ n = omega arith in rw (add-zero, z) (omega arith)

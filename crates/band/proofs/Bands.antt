@@ -10,7 +10,7 @@ use Rattle.stack.specs.Sizes.{totals-held}
 use Rattle.spans.specs.Spans.{span}
 use Rattle.spans.specs.Solver.{first-open, most, back}
 use Rattle.arrays.specs.Arrays.{bias, greatest-end, entry, sides, leasts-in, sums-in, Given, low-of, high-of, last-of, window-of, levels, span-in, Stack-asks, In-band}
-use Rattle.arrays.proofs.Levels.{last-is, most-fewer, most-small, least-at, above-at, cell-back, back-ends}
+use Rattle.arrays.proofs.Levels.{most-step, most-fewer, most-small, least-at, above-at, cell-back, back-ends}
 use Rattle.scan.specs.Scan.{put-span, Strip-asks}
 use Rattle.scan.specs.declared.Cell.{Cell}
 use Rattle.scan.proofs.Scans.{cell-of}
@@ -101,8 +101,7 @@ module _ (g : Given) (k total : ℕ) where
     least-is = least-at g k (a .planned) j (omega (arith, s .inside))
 
     used-parts : used ≡ last-of g j + above
-    unfolding most levels
-    used-parts = omega (arith, used-is, above-is, last-is (low-of g j) (high-of g j) (last-of g j))
+    used-parts = omega (arith, used-is, above-is, most-step g j n)
 
     used-less : used ≤ all
     used-less =

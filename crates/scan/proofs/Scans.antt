@@ -23,7 +23,7 @@ use Rattle.arrays.proofs.Searches.{searching-hit, searching-miss, searching-end
 use Rattle.scan.proofs.Tables.{put-same, put-apart, sized-put}
 use Rattle.spans.proofs.First.{first-upto}
 use Rattle.scan.proofs.Scanning.{cell-none, short-empty}
-use Rattle.arrays.proofs.Levels.{last-is, least-at, above-at, cell-back, back-ends, open-of, low-at-of, high-at-of, in-use as use-within}
+use Rattle.arrays.proofs.Levels.{last-is, most-step, least-at, above-at, cell-back, back-ends, open-of, low-at-of, high-at-of, in-use as use-within}
 
 -- A SHORTFALL from the arrays is that of the levels
 nearest-same : (b : ℕ) (high₁ high₂ : ℕ → ℕ) (f₁ f₂ : ℕ → Span) (q n t : ℕ) → ((j : ℕ) → q ≤ j → j < q + n → (high₁ j ≡ high₂ j) × (f₁ j ≡ f₂ j)) →
@@ -137,8 +137,7 @@ module _ (g : Given) (k v i j : ℕ) (table : List (List (List ℕ))) (jump : �
   counted = omega arith
 
   most-here : most (levels g j (suc n)) ≡ last-of g j + most (levels g (suc j) n)
-  unfolding most levels
-  most-here = ap (λ (m : ℕ). m + most (levels g (suc j) n)) (last-is (low-of g j) (high-of g j) (last-of g j))
+  most-here = most-step g j n
 
   -- the strip above, by its totals
   above-is : (u : ℕ) → u ≤ v → u ≤ most (levels g (suc j) n) → span-in table (j + 1) u ≡ back bias (window-of g (suc j)) (levels g (suc j) n) u

@@ -1,5 +1,5 @@
 -- The loop that finds the separations, from the bottom channel up. Assumes nothing.
-use mathlib.Core.Path.{_≡_, ap, _∙_}
+use mathlib.Core.Path.{_≡_, _∙_}
 use mathlib.Core.Logic.{_⊎_, inl, inr}
 use mathlib.Core.List.{List}
 use Prim.Native.Nat.{ℕ, zero, suc, _+_, _-_, _≤_, _<_, min, max}
@@ -14,7 +14,7 @@ use Rattle.separations.specs.Separations.{Serve-asks, Separate-asks}
 use Rattle.separations.specs.Separations.{Separating}
 use Rattle.numbers.proofs.Orders.{le-or-lt}
 use Rattle.spans.proofs.First.{first-upto}
-use Rattle.arrays.proofs.Levels.{last-is, most-small, least-at, above-at, serving-back, forward-back}
+use Rattle.arrays.proofs.Levels.{most-small, most-step, least-at, above-at, serving-back, forward-back}
 
 -- what is found is at most one past the last separation
 pub open-bound : (low high : ℕ → ℕ) (m : ℕ) → first-open low high m ≤ suc m
@@ -76,10 +76,6 @@ module _ (g : Given) (k total : ℕ) where
     abbrev f : ℕ → Span
     f = span-in table (i + 1)
 
-    most-here : (n : ℕ) → most (levels g i (suc n)) ≡ last-of g i + most (levels g (suc i) n)
-    unfolding most levels
-    most-here n = ap (λ (m : ℕ). m + most (levels g (suc i) n)) (last-is (low-of g i) (high-of g i) (last-of g i))
-
     -- what a separation leaves is in the band of the strip above
     band-is : (n q : ℕ) → suc i + n ≡ k → q ≤ last-of g i → In-band g k total (suc i) n (min (v - q) (most (levels g (suc i) n)))
     band-is n q e l = (omega (arith, h .at-most), omega arith, go (le-or-lt (most (levels g (suc i) n)) (v - q)))
@@ -88,7 +84,7 @@ module _ (g : Given) (k total : ℕ) where
             (min (v - q) (most (levels g (suc i) n)) ≡ most (levels g (suc i) n))
             ⊎ (total + most (levels g (suc i) n) ≤ min (v - q) (most (levels g (suc i) n)) + (most (levels g 0 k) + suc i))
         go (inl p) = inl (omega arith)
-        go (inr p) = inr (omega (arith, h .at-least (suc n) (omega arith), most-here n))
+        go (inr p) = inr (omega (arith, h .at-least (suc n) (omega arith), most-step g i n))
 
     row-is : (n q : ℕ) → suc i + n ≡ k → q ≤ last-of g i → f (min (v - q) (most (levels g (suc i) n))) ≡ back bias (window-of g (suc i)) (levels g (suc i) n) (min (v - q) (most (levels g (suc i) n)))
     row-is n q e l = rw (add-one i) (a .table .banded (suc i) n _ (omega arith) e (band-is n q e l))
@@ -122,7 +118,7 @@ module _ (g : Given) (k total : ℕ) where
             inside = omega arith;
             left = λ n e. step-left n e;
             at-most = omega (arith, h .at-most);
-            at-least = λ n e. omega (arith, h .at-least (suc n) (omega arith), most-here n, separation-bound q qe);
+            at-least = λ n e. omega (arith, h .at-least (suc n) (omega arith), most-step g i n, separation-bound q qe);
             starts = omega (arith, t-ends, h .starts, a .stack .starts (i + 1) (omega arith), a .stack .lows i (min q (last-of g i)) (h .inside) (omega arith));
             ends = omega (arith, t-ends, a .stack .ends (i + 1) (omega arith));
           })
