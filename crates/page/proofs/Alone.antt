@@ -34,10 +34,10 @@ upright t a b e c = ⊎-elim up along (or-either _ _ (and-right (leb (a .track) 
         ⊎-elim (λ u. inl (eqb-true (suc (a .track)) (b .track) u)) (λ d. inr (eqb-true (suc (b .track)) (a .track) d))
         (or-either (eqb (suc (a .track)) (b .track)) (eqb (suc (b .track)) (a .track)) (and-right (same-column (a .column) (b .column)) _ h))
 
-    along : ((eqb (a .track) (b .track) && ltb (a .track) t) && (same-column (next (a .column)) (b .column) || same-column (next (b .column)) (a .column))) ≡ true → (suc (a .track) ≡ b .track) ⊎ (suc (b .track) ≡ a .track)
+    along : ((eqb (a .track) (b .track) && (ltb 0 (a .track) && ltb (a .track) t)) && (same-column (next (a .column)) (b .column) || same-column (next (b .column)) (a .column))) ≡ true → (suc (a .track) ≡ b .track) ⊎ (suc (b .track) ≡ a .track)
     along h =
         ⊎-elim (λ u. absurd (next-differs (b .column) (rw c at u))) (λ u. absurd (next-differs (a .column) (rw (sym c) at u)))
-        (or-either (same-column (next (a .column)) (b .column)) (same-column (next (b .column)) (a .column)) (and-right (eqb (a .track) (b .track) && ltb (a .track) t) _ h))
+        (or-either (same-column (next (a .column)) (b .column)) (same-column (next (b .column)) (a .column)) (and-right (eqb (a .track) (b .track) && (ltb 0 (a .track) && ltb (a .track) t)) _ h))
 
 step-within : (t : ℕ) (a b : Point) → is-step t a b ≡ true → b .track ≤ t
 unfolding is-step

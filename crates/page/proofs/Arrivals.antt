@@ -1,5 +1,5 @@
--- The arrivals that the code computes are those of the wiring's paths: the track that document 02 counts is at least y exactly if the y-th terminal further, or back, passes
--- the test, since the tests fall. Assumes nothing.
+-- The arrivals that the code computes are those of the wiring's paths: the track that document 02's P1 counts is at least n exactly if the n-th terminal further, or back,
+-- passes the test, since the tests fall; the paths drawn come to the track above at the same columns. Assumes nothing.
 use mathlib.Core.Path.{_≡_, refl}
 use mathlib.Core.Bool.{Bool, true, false, cond}
 use mathlib.Core.List.{List}
@@ -10,16 +10,15 @@ use borrow.Author.Tests.{leb-true, leb-false, le-leb, lt-leb, ltb-true, ltb-fals
 use lib.Dec.{ltb, leb}
 use lib.ListN.{length, getD}
 use Rattle.numbers.proofs.Orders.{le-or-lt}
-use Rattle.stack.specs.Stack.{Pair, p-at, q-at, wirable}
+use Rattle.stack.specs.Stack.{Pair, p-at, q-at, edge-clear}
 use Rattle.stack.specs.Limits.{rising}
 use Rattle.stack.proofs.Rising.{rising-before}
-use Rattle.stack.proofs.Feasible.{wirable-by-pairs}
-use Rattle.routing.specs.Wiring.{right-test, left-test, right-track, left-track, path-between, path}
+use Rattle.routing.specs.Wiring.{right-test, left-test, right-track, left-track, drawn-path}
 use Rattle.routing.proofs.Counts.{Greatest}
 use Rattle.routing.proofs.Tracks.{right-greatest, left-greatest}
 use Rattle.routing.proofs.Sufficiency.{Goes, rightward, leftward, goes, right-course, left-course}
 use Rattle.page.specs.Arrivals.{Ends-are, right-arrival, left-arrival, arrival}
-use Rattle.page.proofs.Arriving.{Reaches, Arriving, right-arriving, left-arriving}
+use Rattle.page.proofs.Arriving.{Reaches, reaches-raised, Arriving, right-arriving, left-arriving}
 
 -- an arrival is counted from a terminal, or is the last column
 data Arrival-right (from : List ℕ) (m q j y v : ℕ) : Type 0 where
@@ -135,10 +134,10 @@ module _ (c : List Pair) (a b m : ℕ) (from upto : List ℕ) (ends : Ends-are c
         late k y h n (last-back d e) s = absurd (omega arith)
 
 -- each path has the arrivals that the code computes
-pub path-arriving : (c : List Pair) (t a b m : ℕ) (from upto : List ℕ) → Ends-are c a b m from upto → rising c ≡ true → wirable c t a b ≡ true → (j : ℕ) → j < length c
-    → Arriving t (λ y. arrival from upto m j y) (path c t a b j)
-unfolding path-between arrival p q
-path-arriving c t a b m from upto ends r f j l = go (goes c t a b j)
+pub path-arriving : (c : List Pair) (t a b m : ℕ) (from upto : List ℕ) → Ends-are c a b m from upto → rising c ≡ true → edge-clear c t a b ≡ true → (j : ℕ) → j < length c
+    → Arriving t (λ y. arrival from upto m j y) (drawn-path c t a b j)
+unfolding arrival p q
+path-arriving c t a b m from upto ends r f j l = go (goes c t a b r f j l)
   where
     begins : getD from j 0 ≡ a + p-at c j
     begins = ends .from-are j (omega (arith, ends .count))
@@ -146,24 +145,24 @@ path-arriving c t a b m from upto ends r f j l = go (goes c t a b j)
     stops : getD upto j 0 ≡ b + q-at c j
     stops = ends .upto-are j (omega (arith, ends .count))
 
-    go : Goes c t a b j → Arriving t (λ y. arrival from upto m j y) (path c t a b j)
+    go : Goes c t a b j → Arriving t (λ y. arrival from upto m j y) (drawn-path c t a b j)
     go (rightward u e) =
-        let same : _≡_ {A = ℕ → ℕ} (λ y. a + p-at c j + (right-arrival from m (b + q-at c j) j y - (a + p-at c j))) (λ y. arrival from upto m j y) =
+        let same : _≡_ {A = ℕ → ℕ} (λ y. a + p-at c j + (right-arrival from m (b + q-at c j) j (y - 1) - (a + p-at c j))) (λ y. arrival from upto m j y) =
         λ i y. arrivals-are y i
         in
         rw (e, ← same)
-        (right-arriving (a + p-at c j) (λ k. right-track c a j (a + p-at c j + k)) (λ y. right-arrival from m (b + q-at c j) j y - (a + p-at c j)) t (b + q-at c j - (a + p-at c j))
-        (right-course c t a b r (wirable-by-pairs c t a b f) j (a + p-at c j) (b + q-at c j) l refl refl) (right-reaches c a b m from upto ends r j l u))
+        (right-arriving (a + p-at c j) (λ k. suc (right-track c a j (a + p-at c j + k))) (λ y. right-arrival from m (b + q-at c j) j (y - 1) - (a + p-at c j)) t (b + q-at c j - (a + p-at c j))
+        (right-course c t a b r f j (a + p-at c j) (b + q-at c j) l refl refl) (reaches-raised _ _ _ (right-reaches c a b m from upto ends r j l u)))
       where
-        arrivals-are : (y : ℕ) → a + p-at c j + (right-arrival from m (b + q-at c j) j y - (a + p-at c j)) ≡ arrival from upto m j y
-        arrivals-are y = rw (begins, stops, le-leb (a + p-at c j) (b + q-at c j) u) (omega (arith, right-between c a b m from upto ends r j l u y .0))
+        arrivals-are : (y : ℕ) → a + p-at c j + (right-arrival from m (b + q-at c j) j (y - 1) - (a + p-at c j)) ≡ arrival from upto m j y
+        arrivals-are y = rw (begins, stops, le-leb (a + p-at c j) (b + q-at c j) u) (omega (arith, right-between c a b m from upto ends r j l u (y - 1) .0))
     go (leftward u e) =
-        let same : _≡_ {A = ℕ → ℕ} (λ y. a + p-at c j - (a + p-at c j - left-arrival from (b + q-at c j) j y)) (λ y. arrival from upto m j y) =
+        let same : _≡_ {A = ℕ → ℕ} (λ y. a + p-at c j - (a + p-at c j - left-arrival from (b + q-at c j) j (y - 1))) (λ y. arrival from upto m j y) =
         λ i y. arrivals-are y i
         in
         rw (e, ← same)
-        (left-arriving (a + p-at c j) (λ k. left-track c a j (a + p-at c j - k)) (λ y. a + p-at c j - left-arrival from (b + q-at c j) j y) t (a + p-at c j - (b + q-at c j)) (omega arith)
-        (left-course c t a b r (wirable-by-pairs c t a b f) j (a + p-at c j) (b + q-at c j) l refl refl) (left-reaches c a b m from upto ends r j l u))
+        (left-arriving (a + p-at c j) (λ k. suc (left-track c a j (a + p-at c j - k))) (λ y. a + p-at c j - left-arrival from (b + q-at c j) j (y - 1)) t (a + p-at c j - (b + q-at c j)) (omega arith)
+        (left-course c t a b r f j (a + p-at c j) (b + q-at c j) l refl refl) (reaches-raised _ _ _ (left-reaches c a b m from upto ends r j l u)))
       where
-        arrivals-are : (y : ℕ) → a + p-at c j - (a + p-at c j - left-arrival from (b + q-at c j) j y) ≡ arrival from upto m j y
-        arrivals-are y = rw (begins, stops, lt-leb (a + p-at c j) (b + q-at c j) u) (omega (arith, left-between c a b m from upto ends r j l u y .1))
+        arrivals-are : (y : ℕ) → a + p-at c j - (a + p-at c j - left-arrival from (b + q-at c j) j (y - 1)) ≡ arrival from upto m j y
+        arrivals-are y = rw (begins, stops, lt-leb (a + p-at c j) (b + q-at c j) u) (omega (arith, left-between c a b m from upto ends r j l u (y - 1) .1))

@@ -104,6 +104,14 @@ pub record Reaches (h f : ℕ → ℕ) (w : ℕ) : Type 0 where
   pub earlier : (k y : ℕ) → k < f y → h k < y
   pub later : (k y : ℕ) → k < w → f y ≤ k → y ≤ h k
 
+-- runs one track higher come to each track where they came to the one below it
+pub reaches-raised : (h f : ℕ → ℕ) (w : ℕ) → Reaches h f w → Reaches (λ k. suc (h k)) (λ y. f (y - 1)) w
+reaches-raised h f w r = record {
+  within = λ y. r .within (y - 1);
+  earlier = λ k y l. omega (arith, r .earlier k (y - 1) l);
+  later = λ k y l m. omega (arith, r .later k (y - 1) l m);
+}
+
 arrivals-rise : {h f : ℕ → ℕ} {w : ℕ} → Reaches h f w → (y : ℕ) → f y ≤ f (suc y)
 arrivals-rise {h} {f} {w} r y = go (le-or-lt (f y) (f (suc y)))
   where

@@ -9,27 +9,27 @@ use lib.Dec.{leb}
 use lib.IntN.{pos}
 use lib.ListN.{length, getD}
 use Rattle.numbers.proofs.Bools.{ands, and-both, or-left, or-right, impossible}
-use Rattle.stack.specs.Stack.{Pair, Channel, no-channel, channel-in, Stack, p-at, q-at, wirable, in-spread, channels-good, legal}
+use Rattle.stack.specs.Stack.{Pair, Channel, no-channel, channel-in, Stack, p-at, q-at, edge-clear, in-spread, channels-good, legal}
 use Rattle.stack.specs.Limits.{on-strips, pairs-within, channel-within, channels-within, within-limits}
 use Rattle.stack.proofs.Within.{channel-in-limits, strips-count}
 use Rattle.stack.proofs.Feasible.{feasible-says}
 use Rattle.stack.proofs.OnStrips.{terminals-on}
 use Rattle.routing.specs.Paths.{Point, same-point, on-path}
-use Rattle.routing.specs.Wiring.{wiring, path, listed}
+use Rattle.routing.specs.Wiring.{wiring, drawn-path, listed}
 use Rattle.routing.proofs.Points.{same-point-self}
 use Rattle.routing.proofs.Sufficiency.{wiring-led, wiring-clear}
 use Rattle.routing.proofs.Runs.{Column-between, path-within, wiring-at}
 use Rattle.page.specs.Promise.{inside, path-inside, all-inside, Led-inside}
 use Rattle.page.specs.Arrivals.{Channel-placed}
 
-wirable-at : (cs : List Channel) (ts xs : List ℕ) (i : ℕ) → channels-good cs ts xs ≡ true → i < length cs
-    → wirable (getD cs i no-channel .pairs) (getD ts i 0) (getD xs i 0) (getD xs (suc i) 0) ≡ true
+clear-at : (cs : List Channel) (ts xs : List ℕ) (i : ℕ) → channels-good cs ts xs ≡ true → i < length cs
+    → edge-clear (getD cs i no-channel .pairs) (getD ts i 0) (getD xs i 0) (getD xs (suc i) 0) ≡ true
 unfolding channels-good
-wirable-at [] ts xs i g l = absurd (omega arith)
-wirable-at (c ∷ cs) [] xs i g l = impossible g
-wirable-at (c ∷ cs) (t ∷ ts) [] i g l = impossible g
-wirable-at (c ∷ cs) (t ∷ ts) (x ∷ xs) zero g l = feasible-says c t x (getD xs 0 0) (search ands) .1
-wirable-at (c ∷ cs) (t ∷ ts) (x ∷ xs) (suc i) g l = wirable-at cs ts xs i (search ands) (omega arith)
+clear-at [] ts xs i g l = absurd (omega arith)
+clear-at (c ∷ cs) [] xs i g l = impossible g
+clear-at (c ∷ cs) (t ∷ ts) [] i g l = impossible g
+clear-at (c ∷ cs) (t ∷ ts) (x ∷ xs) zero g l = feasible-says c t x (getD xs 0 0) (search ands) .1
+clear-at (c ∷ cs) (t ∷ ts) (x ∷ xs) (suc i) g l = clear-at cs ts xs i (search ands) (omega arith)
 
 fits-at : (s : ℕ) (ls xs : List ℕ) (i : ℕ) → in-spread s ls xs ≡ true → i < length ls → getD xs i 0 + getD ls i 0 ≤ s
 unfolding in-spread
@@ -59,7 +59,7 @@ module _ (s : ℕ) (c : List Pair) (t a b : ℕ) (p : Channel-placed s c t a b) 
   wiring-inside : all-inside s (wiring c t a b) ≡ true
   unfolding wiring
   wiring-inside =
-      listed-inside s (λ j. path c t a b j) (length c) λ j k. points-inside s (path c t a b j) λ z e.
+      listed-inside s (λ j. drawn-path c t a b j) (length c) λ j k. points-inside s (drawn-path c t a b j) λ z e.
       let w : Column-between (a + p-at c j) (b + q-at c j) z = path-within c t a b (p .rises) (p .good) j k z (rw (wiring-at c t a b j k) e) in
       inside-column s (w .column) z (w .is) (omega (arith, w .upto, p .from-within j k, p .upto-within j k))
 
@@ -79,7 +79,7 @@ channel-placed k s ts xs i w e l =
     let o : on-strips (getD (k .strips) i 0) (getD (k .strips) (suc i) 0) c ≡ true = search ands in
     record {
       rises = search ands;
-      good = wirable-at (k .channels) ts xs i good l;
+      good = clear-at (k .channels) ts xs i good l;
       few = leb-true (length c) 32 (search ands);
       from-within = λ j h. omega (arith, terminals-on _ _ c o j h .0, fits-at s (k .strips) xs i fit (omega arith));
       upto-within = λ j h. omega (arith, terminals-on _ _ c o j h .1, fits-at s (k .strips) xs (suc i) fit (omega arith));

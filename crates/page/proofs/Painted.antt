@@ -13,10 +13,10 @@ use lib.IntN.{pos, negsuc}
 use lib.ListN.{length}
 use Rattle.numbers.proofs.Bools.{and-left, and-right, and-both, or-either, or-left, or-right, not-true-false, impossible}
 use Rattle.numbers.proofs.Orders.{eq-or-not}
-use Rattle.stack.specs.Stack.{Pair, wirable}
+use Rattle.stack.specs.Stack.{Pair, edge-clear}
 use Rattle.stack.specs.Limits.{rising}
 use Rattle.routing.specs.Paths.{Point, point, on-path, none-meet}
-use Rattle.routing.specs.Wiring.{leads, path, wiring, listed}
+use Rattle.routing.specs.Wiring.{leads, drawn-path, wiring, listed}
 use Rattle.routing.proofs.Points.{path-at, pos-injective}
 use Rattle.routing.proofs.Sufficiency.{wiring-clear}
 use Rattle.routing.proofs.Runs.{leads-on, wiring-at}
@@ -152,7 +152,7 @@ listed-length f (suc n) = ap suc (listed-length (λ i. f (suc i)) n)
 
 wiring-length : (c : List Pair) (t a b : ℕ) → length (wiring c t a b) ≡ length c
 unfolding wiring
-wiring-length c t a b = listed-length (λ j. path c t a b j) (length c)
+wiring-length c t a b = listed-length (λ j. drawn-path c t a b j) (length c)
 
 module _ (ws : List (List Point)) (n : none-meet ws ≡ true) (t : ℕ) (g : ℕ → ℕ) (j : ℕ) (f : Arriving t g (path-at ws j)) where
   down-at : (c y : ℕ) → on-path (point (pos c) y) (path-at ws j) ≡ true → arm-down c y ws ≡ (eqb c (g y) && ltb 0 y)
@@ -176,7 +176,7 @@ module _ (ws : List (List Point)) (n : none-meet ws ≡ true) (t : ℕ) (g : ℕ
       )
 
 -- THE PAGE PAINTED
-module _ (c : List Pair) (t a b m : ℕ) (from upto : List ℕ) (ends : Ends-are c a b m from upto) (r : rising c ≡ true) (f : wirable c t a b ≡ true) (x y : ℕ) (l : y ≤ t) where
+module _ (c : List Pair) (t a b m : ℕ) (from upto : List ℕ) (ends : Ends-are c a b m from upto) (r : rising c ≡ true) (f : edge-clear c t a b ≡ true) (x y : ℕ) (l : y ≤ t) where
   ws : List (List Point)
   ws = wiring c t a b
 

@@ -1,4 +1,4 @@
--- No page of wirable pairs has a #: the paths drawn are nowhere twice, since column and track together only grow along a path; so no point has three arms. Assumes nothing.
+-- No page of pairs that can be drawn has a #: the paths drawn are nowhere twice, since column and track together only grow along a path; so no point has three arms. Assumes nothing.
 use mathlib.Core.Path.{_≡_, refl, ap}
 use mathlib.Core.Bool.{Bool, true, false, not, cond}
 use mathlib.Core.List.{List, [], _∷_, _++_}
@@ -12,11 +12,10 @@ use lib.IntN.{ℤ, pos, negsuc}
 use lib.ListN.{length, replicate}
 use Rattle.numbers.specs.Lists.{tabulate}
 use Rattle.numbers.proofs.Bools.{and-left, and-right, and-both, or-either, impossible}
-use Rattle.stack.specs.Stack.{Pair, p-at, q-at, wirable}
+use Rattle.stack.specs.Stack.{Pair, p-at, q-at, edge-clear}
 use Rattle.stack.specs.Limits.{rising}
-use Rattle.stack.proofs.Feasible.{wirable-by-pairs}
 use Rattle.routing.specs.Paths.{Point, point, same-point, on-path, none-meet}
-use Rattle.routing.specs.Wiring.{riser, rest, staircase, path, path-between, wiring, listed, right-track, left-track}
+use Rattle.routing.specs.Wiring.{riser, rest, staircase, drawn-path, wiring, listed, right-track, left-track}
 use Rattle.routing.proofs.Points.{same-point-equal, path-at}
 use Rattle.routing.proofs.Staircase.{Course}
 use Rattle.routing.proofs.Sufficiency.{Goes, rightward, leftward, goes, right-course, left-course, wiring-clear}
@@ -78,19 +77,18 @@ unfolding staircase
 staircase-once g x h t w c u =
     climbs-once (height g) (point (pos (x 0)) 0) (rest x h t w 0 0) (rest-climbs g x h t w (c .rises) (c .below) u w 0 0 (omega arith) (omega arith) (omega arith))
 
-pub path-once : (c : List Pair) (t a b j : ℕ) → rising c ≡ true → wirable c t a b ≡ true → j < length c → once (path c t a b j) ≡ true
-unfolding path-between
-path-once c t a b j r f l = go (goes c t a b j)
+pub path-once : (c : List Pair) (t a b j : ℕ) → rising c ≡ true → edge-clear c t a b ≡ true → j < length c → once (drawn-path c t a b j) ≡ true
+path-once c t a b j r f l = go (goes c t a b r f j l)
   where
-    go : Goes c t a b j → once (path c t a b j) ≡ true
+    go : Goes c t a b j → once (drawn-path c t a b j) ≡ true
     go (rightward u e) =
         let p = a + p-at c j in
         let q = b + q-at c j in
-        rw e (staircase-once (λ n. n) (λ k. p + k) (λ k. right-track c a j (p + k)) t (q - p) (right-course c t a b r (wirable-by-pairs c t a b f) j p q l refl refl) (λ k m. omega arith))
+        rw e (staircase-once (λ n. n) (λ k. p + k) (λ k. suc (right-track c a j (p + k))) t (q - p) (right-course c t a b r f j p q l refl refl) (λ k m. omega arith))
     go (leftward u e) =
         let p = a + p-at c j in
         let q = b + q-at c j in
-        rw e (staircase-once (λ n. p - n) (λ k. p - k) (λ k. left-track c a j (p - k)) t (p - q) (left-course c t a b r (wirable-by-pairs c t a b f) j p q l refl refl) (λ k m. omega arith))
+        rw e (staircase-once (λ n. p - n) (λ k. p - k) (λ k. suc (left-track c a j (p - k))) t (p - q) (left-course c t a b r f j p q l refl refl) (λ k m. omega arith))
 
 none-once : once [] ≡ true
 unfolding once
@@ -104,9 +102,9 @@ past-listed f (suc n) (suc i) l = past-listed (λ i. f (suc i)) n i (omega arith
 
 past : (c : List Pair) (t a b i : ℕ) → length c ≤ i → path-at (wiring c t a b) i ≡ []
 unfolding wiring
-past c t a b i l = past-listed (λ j. path c t a b j) (length c) i l
+past c t a b i l = past-listed (λ j. drawn-path c t a b j) (length c) i l
 
-wiring-once : (c : List Pair) (t a b : ℕ) → rising c ≡ true → wirable c t a b ≡ true → (i : ℕ) → once (path-at (wiring c t a b) i) ≡ true
+wiring-once : (c : List Pair) (t a b : ℕ) → rising c ≡ true → edge-clear c t a b ≡ true → (i : ℕ) → once (path-at (wiring c t a b) i) ≡ true
 wiring-once c t a b r f i = go (decLt i (length c))
   where
     go : Dec (i < length c) → once (path-at (wiring c t a b) i) ≡ true
@@ -268,6 +266,6 @@ unfolding page-text
 page-lacks ws n o zero = line-lacks ws n o 0
 page-lacks ws n o (suc t) = lacks-both 35 (track-line (suc t) ws) (page-text t ws) (line-lacks ws n o (suc t)) (page-lacks ws n o t)
 
--- the page of wirable pairs has no #
-pub wiring-page-lacks : (c : List Pair) (t a b : ℕ) → rising c ≡ true → wirable c t a b ≡ true → lacks 35 (page-text t (wiring c t a b)) ≡ true
+-- the page of pairs that can be drawn has no #
+pub wiring-page-lacks : (c : List Pair) (t a b : ℕ) → rising c ≡ true → edge-clear c t a b ≡ true → lacks 35 (page-text t (wiring c t a b)) ≡ true
 wiring-page-lacks c t a b r f = page-lacks (wiring c t a b) (wiring-clear c t a b r f) (wiring-once c t a b r f) t

@@ -1,4 +1,4 @@
--- The paths drawn are as P1 tells, and no other path is. Assumes nothing.
+-- The paths drawn are as P1 and P4 tell, and no other path is. Assumes nothing.
 use mathlib.Core.Path.{_≡_, refl, sym, ap, _∙_}
 use mathlib.Core.Bool.{true}
 use mathlib.Core.List.{List, [], _∷_}
@@ -8,11 +8,10 @@ use native.Mathlib.Omega.{arith}
 use lib.IntN.{pos}
 use lib.ListN.{length}
 use Rattle.numbers.proofs.Bools.{ands, impossible}
-use Rattle.stack.specs.Stack.{Pair, p-at, q-at, wirable}
+use Rattle.stack.specs.Stack.{Pair, p-at, q-at, edge-clear}
 use Rattle.stack.specs.Limits.{rising}
-use Rattle.stack.proofs.Feasible.{wirable-by-pairs}
 use Rattle.routing.specs.Paths.{Point, point, is-path}
-use Rattle.routing.specs.Wiring.{riser, rest, staircase, path, path-between, wiring, leads, right-track, left-track}
+use Rattle.routing.specs.Wiring.{riser, rest, staircase, drawn-path, wiring, leads, right-track, left-track}
 use Rattle.routing.proofs.Points.{same-point-equal, all-paths-elim}
 use Rattle.routing.proofs.Staircase.{Course}
 use Rattle.routing.proofs.Sufficiency.{Goes, rightward, leftward, goes, right-course, left-course, wiring-led}
@@ -59,8 +58,8 @@ module _ (x h : ℕ → ℕ) (t w : ℕ) (c : Course x h t w) where
       rw (r, first) refl
 
 -- RIGHT AND LEFT
-module _ (c : List Pair) (t a b j : ℕ) (r : rising c ≡ true) (f : wirable c t a b ≡ true) (l : j < length c) where
-  told-right : a + p-at c j ≤ b + q-at c j → (u v : Point) → Step (λ k. a + p-at c j + k) (λ k. right-track c a j (a + p-at c j + k)) (b + q-at c j - (a + p-at c j)) u v
+module _ (c : List Pair) (t a b j : ℕ) (r : rising c ≡ true) (f : edge-clear c t a b ≡ true) (l : j < length c) where
+  told-right : a + p-at c j ≤ b + q-at c j → (u v : Point) → Step (λ k. a + p-at c j + k) (λ k. suc (right-track c a j (a + p-at c j + k))) (b + q-at c j - (a + p-at c j)) u v
       → Upright u v ⊎ Runs-told c a b j u v
   unfolding Upright
   told-right g u v (stands e) = inl e
@@ -69,7 +68,7 @@ module _ (c : List Pair) (t a b j : ℕ) (r : rising c ≡ true) (f : wirable c 
       let n : p + suc k ≡ suc (p + k) = omega arith in
       inr (to-right (p + k) (omega arith) (omega arith) e (rw n at d))
 
-  right-told : a + p-at c j ≤ b + q-at c j → (u v : Point) → Upright u v ⊎ Runs-told c a b j u v → Step (λ k. a + p-at c j + k) (λ k. right-track c a j (a + p-at c j + k)) (b + q-at c j - (a + p-at c j)) u v
+  right-told : a + p-at c j ≤ b + q-at c j → (u v : Point) → Upright u v ⊎ Runs-told c a b j u v → Step (λ k. a + p-at c j + k) (λ k. suc (right-track c a j (a + p-at c j + k))) (b + q-at c j - (a + p-at c j)) u v
   unfolding Upright
   right-told g u v (inl e) = stands e
   right-told g u v (inr (to-right x m n e d)) =
@@ -79,7 +78,7 @@ module _ (c : List Pair) (t a b j : ℕ) (r : rising c ≡ true) (f : wirable c 
       run (x - p) (omega arith) (rw s e) (rw (s, z) d)
   right-told g u v (inr (to-left x m n e d)) = absurd (omega arith)
 
-  told-left : b + q-at c j < a + p-at c j → (u v : Point) → Step (λ k. a + p-at c j - k) (λ k. left-track c a j (a + p-at c j - k)) (a + p-at c j - (b + q-at c j)) u v
+  told-left : b + q-at c j < a + p-at c j → (u v : Point) → Step (λ k. a + p-at c j - k) (λ k. suc (left-track c a j (a + p-at c j - k))) (a + p-at c j - (b + q-at c j)) u v
       → Upright u v ⊎ Runs-told c a b j u v
   unfolding Upright
   told-left g u v (stands e) = inl e
@@ -88,7 +87,7 @@ module _ (c : List Pair) (t a b j : ℕ) (r : rising c ≡ true) (f : wirable c 
       let n : p - k ≡ suc (p - suc k) = omega arith in
       inr (to-left (p - suc k) (omega arith) (omega arith) (rw n at e) (rw n at d))
 
-  left-told : b + q-at c j < a + p-at c j → (u v : Point) → Upright u v ⊎ Runs-told c a b j u v → Step (λ k. a + p-at c j - k) (λ k. left-track c a j (a + p-at c j - k)) (a + p-at c j - (b + q-at c j)) u v
+  left-told : b + q-at c j < a + p-at c j → (u v : Point) → Upright u v ⊎ Runs-told c a b j u v → Step (λ k. a + p-at c j - k) (λ k. suc (left-track c a j (a + p-at c j - k))) (a + p-at c j - (b + q-at c j)) u v
   unfolding Upright
   left-told g u v (inl e) = stands e
   left-told g u v (inr (to-right x m n e d)) = absurd (omega arith)
@@ -98,44 +97,42 @@ module _ (c : List Pair) (t a b j : ℕ) (r : rising c ≡ true) (f : wirable c 
       let z : p - suc (p - suc x) ≡ x = omega arith in
       run (p - suc x) (omega arith) (rw s e) (rw (s, z) d)
 
-  path-told : Path-told c t a b j (path c t a b j)
-  unfolding path-between
+  path-told : Path-told c t a b j (drawn-path c t a b j)
   path-told = record {
     path = rw (wiring-at c t a b j l) at (all-paths-elim t a b c (wiring c t a b) (wiring-led c t a b r f) j l);
     once = path-once c t a b j r f l;
-    runs = go (goes c t a b j);
+    runs = go (goes c t a b r f j l);
   }
     where
-      go : Goes c t a b j → (u v : Point) → leads u v (path c t a b j) ≡ true → Upright u v ⊎ Runs-told c a b j u v
+      go : Goes c t a b j → (u v : Point) → leads u v (drawn-path c t a b j) ≡ true → Upright u v ⊎ Runs-told c a b j u v
       go (rightward g e) u v k =
           let p = a + p-at c j in
           let q = b + q-at c j in
           told-right g u v
-          (staircase-steps (λ k. p + k) (λ k. right-track c a j (p + k)) t (q - p) (right-course c t a b r (wirable-by-pairs c t a b f) j p q l refl refl) u v (rw e at k))
+          (staircase-steps (λ k. p + k) (λ k. suc (right-track c a j (p + k))) t (q - p) (right-course c t a b r f j p q l refl refl) u v (rw e at k))
       go (leftward g e) u v k =
           let p = a + p-at c j in
           let q = b + q-at c j in
           told-left g u v
-          (staircase-steps (λ k. p - k) (λ k. left-track c a j (p - k)) t (p - q) (left-course c t a b r (wirable-by-pairs c t a b f) j p q l refl refl) u v (rw e at k))
+          (staircase-steps (λ k. p - k) (λ k. suc (left-track c a j (p - k))) t (p - q) (left-course c t a b r f j p q l refl refl) u v (rw e at k))
 
-  told-alone : (w : List Point) → Path-told c t a b j w → w ≡ path c t a b j
-  unfolding path-between
-  told-alone w h = go (goes c t a b j)
+  told-alone : (w : List Point) → Path-told c t a b j w → w ≡ drawn-path c t a b j
+  told-alone w h = go (goes c t a b r f j l)
     where
-      go : Goes c t a b j → w ≡ path c t a b j
+      go : Goes c t a b j → w ≡ drawn-path c t a b j
       go (rightward g e) =
           let p = a + p-at c j in
           let q = b + q-at c j in
           let s : p + 0 ≡ p = omega arith in
           let z : p + (q - p) ≡ q = omega arith in
-          rw e (staircase-alone (λ k. p + k) (λ k. right-track c a j (p + k)) t (q - p) (right-course c t a b r (wirable-by-pairs c t a b f) j p q l refl refl)
+          rw e (staircase-alone (λ k. p + k) (λ k. suc (right-track c a j (p + k))) t (q - p) (right-course c t a b r f j p q l refl refl)
           (λ i k m n d. omega arith) w (rw (s, z) (h .path)) (h .once) (λ u v k. right-told g u v (h .runs u v k)))
       go (leftward g e) =
           let p = a + p-at c j in
           let q = b + q-at c j in
           let s : p - 0 ≡ p = omega arith in
           let z : p - (p - q) ≡ q = omega arith in
-          rw e (staircase-alone (λ k. p - k) (λ k. left-track c a j (p - k)) t (p - q) (left-course c t a b r (wirable-by-pairs c t a b f) j p q l refl refl)
+          rw e (staircase-alone (λ k. p - k) (λ k. suc (left-track c a j (p - k))) t (p - q) (left-course c t a b r f j p q l refl refl)
           (λ i k m n d. omega arith) w (rw (s, z) (h .path)) (h .once) (λ u v k. left-told g u v (h .runs u v k)))
 
 -- AS TOLD, AND NO OTHER

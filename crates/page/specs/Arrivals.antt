@@ -6,14 +6,14 @@ use mathlib.Core.List.{List}
 use Prim.Native.Nat.{ℕ, zero, suc, _+_, _-_, _≤_, _<_, min, max}
 use lib.Dec.{ltb, leb, eqb}
 use lib.ListN.{length, getD}
-use Rattle.stack.specs.Stack.{Pair, p-at, q-at, wirable}
+use Rattle.stack.specs.Stack.{Pair, p-at, q-at, edge-clear}
 use Rattle.stack.specs.Limits.{rising}
 use Rattle.page.specs.Page.{arms-character}
 
--- a channel that the page can show: its terminals rise, its pairs are wirable, and no terminal is beyond column s
+-- a channel that the page can show: its terminals rise, its pairs can be drawn, and no terminal is beyond column s
 pub record Channel-placed (s : ℕ) (c : List Pair) (t lower upper : ℕ) : Type 0 where
   pub rises : rising c ≡ true
-  pub good : wirable c t lower upper ≡ true
+  pub good : edge-clear c t lower upper ≡ true
   pub few : length c ≤ 32
   pub from-within : (j : ℕ) → j < length c → lower + p-at c j ≤ s
   pub upto-within : (j : ℕ) → j < length c → upper + q-at c j ≤ s
@@ -24,16 +24,17 @@ pub record Ends-are (c : List Pair) (lower upper m : ℕ) (from upto : List ℕ)
   pub from-are : (j : ℕ) → j < m → getD from j 0 ≡ lower + p-at c j
   pub upto-are : (j : ℕ) → j < m → getD upto j 0 ≡ upper + q-at c j
 
--- the ARRIVAL of path j on track y: the column at which it comes to the track; where it never does, its last column
-unfoldable pub right-arrival : (from : List ℕ) → (m q j y : ℕ) → ℕ
-right-arrival from m q j y = cond (ltb (j + y) m) (min q (getD from (j + y) 0 - y)) q
+-- the column at which path j comes to the track counted as n, if its runs are on the tracks counted; where it never does, its last column
+unfoldable pub right-arrival : (from : List ℕ) → (m q j n : ℕ) → ℕ
+right-arrival from m q j n = cond (ltb (j + n) m) (min q (getD from (j + n) 0 - n)) q
 
-unfoldable pub left-arrival : (from : List ℕ) → (q j y : ℕ) → ℕ
-left-arrival from q j y = cond (leb y j) (max q (getD from (j - y) 0 + y)) q
+unfoldable pub left-arrival : (from : List ℕ) → (q j n : ℕ) → ℕ
+left-arrival from q j n = cond (leb n j) (max q (getD from (j - n) 0 + n)) q
 
+-- the ARRIVAL of path j on track y: the runs drawn are one track above those counted, and an upright step is below
 unfoldable pub arrival : (from upto : List ℕ) → (m j y : ℕ) → ℕ
 arrival from upto m j y =
-    cond (leb (getD from j 0) (getD upto j 0)) (right-arrival from m (getD upto j 0) j y) (left-arrival from (getD upto j 0) j y)
+    cond (leb (getD from j 0) (getD upto j 0)) (right-arrival from m (getD upto j 0) j (y - 1)) (left-arrival from (getD upto j 0) j (y - 1))
 
 -- what column c shows once a path is drawn that is on the track from column s to column e, comes to it from below or begins there, and leaves it upward or ends
 unfoldable pub drawn : (s e : ℕ) → (up down : Bool) → (c old : ℕ) → ℕ

@@ -1,5 +1,5 @@
--- Where the paths of the wiring run: each stays between its own terminals' columns; going right it leads from column x to x + 1 on the track that document
--- 02 counts and on no other, and going left likewise from x + 1 to x. Assumes nothing.
+-- Where the paths of the wiring run: each stays between its own terminals' columns; going right it leads from column x to x + 1 on the track above the one that
+-- document 02's P1 counts and on no other, and going left likewise from x + 1 to x. Assumes nothing.
 use mathlib.Core.Path.{_≡_, refl, ap}
 use mathlib.Core.Bool.{true, _&&_}
 use mathlib.Core.List.{List, [], _∷_}
@@ -10,12 +10,11 @@ use lib.IntN.{pos}
 use native.Mathlib.Decide.{ℕ-discrete}
 use native.Mathlib.Omega.{arith}
 use Rattle.numbers.proofs.Bools.{and-left, and-right, or-either, or-left, or-right}
-use Rattle.stack.specs.Stack.{Pair, p-at, q-at, wirable}
+use Rattle.stack.specs.Stack.{Pair, p-at, q-at, edge-clear}
 use Rattle.stack.specs.Limits.{rising}
 use Rattle.routing.specs.Paths.{Point, point, same-point, on-path}
-use Rattle.routing.specs.Wiring.{riser, rest, staircase, right-track, left-track, path-between, path, wiring, begins, leads, runs}
+use Rattle.routing.specs.Wiring.{riser, rest, staircase, right-track, left-track, drawn-path, wiring, begins, leads, runs}
 use Rattle.routing.proofs.Points.{path-at, pos-injective, same-point-self}
-use Rattle.stack.proofs.Feasible.{wirable-by-pairs}
 use Rattle.routing.proofs.Staircase.{Course, On, on-staircase}
 use Rattle.routing.proofs.Listed.{listed-at}
 use Rattle.routing.proofs.Sufficiency.{On-path, On-right, On-left, right, left, Goes, rightward, leftward, goes, right-course, left-course, path-points}
@@ -94,9 +93,9 @@ module _ (x h : ℕ → ℕ) (t w : ℕ) (s : Course x h t w) where
       same r = rw r (rest-runs k l w 0 0 (omega arith) (omega arith) (omega arith))
 
 -- the path of pair j
-pub wiring-at : (c : List Pair) (t a b j : ℕ) → j < length c → path-at (wiring c t a b) j ≡ path c t a b j
+pub wiring-at : (c : List Pair) (t a b j : ℕ) → j < length c → path-at (wiring c t a b) j ≡ drawn-path c t a b j
 unfolding wiring
-wiring-at c t a b j l = listed-at (λ i. path c t a b i) (length c) j l
+wiring-at c t a b j l = listed-at (λ i. drawn-path c t a b i) (length c) j l
 
 -- a point between columns p and q
 pub record Column-between (p q : ℕ) (z : Point) : Type 0 where
@@ -105,42 +104,41 @@ pub record Column-between (p q : ℕ) (z : Point) : Type 0 where
   pub from : min p q ≤ column
   pub upto : column ≤ max p q
 
-module _ (c : List Pair) (t a b : ℕ) (r : rising c ≡ true) (f : wirable c t a b ≡ true) (j : ℕ) (l : j < length c) where
+module _ (c : List Pair) (t a b : ℕ) (up : rising c ≡ true) (f : edge-clear c t a b ≡ true) (j : ℕ) (l : j < length c) where
   -- each path stays between its own terminals' columns
   pub path-within : (z : Point) → on-path z (path-at (wiring c t a b) j) ≡ true → Column-between (a + p-at c j) (b + q-at c j) z
   unfolding On-right On-left
-  path-within z o = go (path-points c t a b r (wirable-by-pairs c t a b f) j z l (goes c t a b j) (rw (wiring-at c t a b j l) at o))
+  path-within z o = go (path-points c t a b up f j z l (rw (wiring-at c t a b j l) at o))
     where
       go : On-path c t a j (a + p-at c j) (b + q-at c j) z → Column-between (a + p-at c j) (b + q-at c j) z
       go (right u x) = record { column = a + p-at c j + x .at; is = x .column; from = omega arith; upto = omega arith }
       go (left u x) = record { column = a + p-at c j - x .at; is = x .column; from = omega arith; upto = omega arith }
 
-  -- a path going right runs from column x to x + 1 on the track that document 02 counts, and on no other
+  -- a path going right runs from column x to x + 1 on the track above the one that P1 counts, and on no other
   pub runs-right : (x y : ℕ) → a + p-at c j ≤ x → x < b + q-at c j
-      → runs x (suc x) y (path-at (wiring c t a b) j) ≡ true ↔ (y ≡ right-track c a j x)
-  unfolding path-between
-  runs-right x y g h = rw (wiring-at c t a b j l) (go (goes c t a b j))
+      → runs x (suc x) y (path-at (wiring c t a b) j) ≡ true ↔ (y ≡ suc (right-track c a j x))
+  runs-right x y g h = rw (wiring-at c t a b j l) (go (goes c t a b up f j l))
     where
-      go : Goes c t a b j → runs x (suc x) y (path c t a b j) ≡ true ↔ (y ≡ right-track c a j x)
+      go : Goes c t a b j → runs x (suc x) y (drawn-path c t a b j) ≡ true ↔ (y ≡ suc (right-track c a j x))
       go (rightward u e) =
           let p = a + p-at c j in
           let q = b + q-at c j in
           let d : p + (x - p) ≡ x = omega arith in
-          rw e (runs-on (λ k. p + k) (λ k. right-track c a j (p + k)) t (q - p) (right-course c t a b r (wirable-by-pairs c t a b f) j p q l refl refl)
-          (λ i k m n d. omega arith) (x - p) x (suc x) (right-track c a j x) y (omega arith) d (omega arith) (ap (λ (v : ℕ). right-track c a j v) d))
+          rw e (runs-on (λ k. p + k) (λ k. suc (right-track c a j (p + k))) t (q - p) (right-course c t a b up f j p q l refl refl)
+          (λ i k m n d. omega arith) (x - p) x (suc x) (suc (right-track c a j x)) y (omega arith) d (omega arith) (ap (λ (v : ℕ). suc (right-track c a j v)) d))
       go (leftward u e) = absurd (omega arith)
 
   -- and going left from column x + 1 to x
   pub runs-left : (x y : ℕ) → b + q-at c j ≤ x → x < a + p-at c j
-      → runs (suc x) x y (path-at (wiring c t a b) j) ≡ true ↔ (y ≡ left-track c a j (suc x))
-  unfolding path-between
-  runs-left x y g h = rw (wiring-at c t a b j l) (go (goes c t a b j))
+      → runs (suc x) x y (path-at (wiring c t a b) j) ≡ true ↔ (y ≡ suc (left-track c a j (suc x)))
+  runs-left x y g h = rw (wiring-at c t a b j l) (go (goes c t a b up f j l))
     where
-      go : Goes c t a b j → runs (suc x) x y (path c t a b j) ≡ true ↔ (y ≡ left-track c a j (suc x))
+      go : Goes c t a b j → runs (suc x) x y (drawn-path c t a b j) ≡ true ↔ (y ≡ suc (left-track c a j (suc x)))
       go (rightward u e) = absurd (omega arith)
       go (leftward u e) =
           let p = a + p-at c j in
           let q = b + q-at c j in
           let d : p - (p - suc x) ≡ suc x = omega arith in
-          rw e (runs-on (λ k. p - k) (λ k. left-track c a j (p - k)) t (p - q) (left-course c t a b r (wirable-by-pairs c t a b f) j p q l refl refl)
-          (λ i k m n d. omega arith) (p - suc x) (suc x) x (left-track c a j (suc x)) y (omega arith) d (omega arith) (ap (λ (v : ℕ). left-track c a j v) d))
+          rw e (runs-on (λ k. p - k) (λ k. suc (left-track c a j (p - k))) t (p - q) (left-course c t a b up f j p q l refl refl)
+          (λ i k m n d. omega arith) (p - suc x) (suc x) x (suc (left-track c a j (suc x))) y (omega arith) d (omega arith)
+          (ap (λ (v : ℕ). suc (left-track c a j v)) d))

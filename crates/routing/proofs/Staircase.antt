@@ -1,6 +1,6 @@
--- A staircase whose tracks never fall and stay below t is a path, and its points are at each column from the track of the run before to the track of the
--- run after. By induction on the columns to go. Assumes nothing.
-use mathlib.Core.Path.{_≡_, refl, ap}
+-- A staircase whose tracks never fall and stay between the edges is a path, and its points are at each column from the track of the run before to the track of
+-- the run after. One track higher with an upright step below, it is the staircase of the tracks above. By induction on the columns to go. Assumes nothing.
+use mathlib.Core.Path.{_≡_, refl, ap, _∙_}
 use mathlib.Core.Bool.{true}
 use mathlib.Core.List.{List, [], _∷_}
 use mathlib.Core.Logic.{_⊎_, inl, inr, ⊎-map, ⊎-elim}
@@ -10,7 +10,7 @@ use native.Mathlib.Omega.{arith}
 use borrow.Author.Tests.{le-leb, lt-ltb, eq-eqb, ne-eqb}
 use Rattle.numbers.proofs.Bools.{and-both, or-either}
 use Rattle.routing.specs.Paths.{Point, point, next, same-column, same-point, is-step, chain, is-path, on-path}
-use Rattle.routing.specs.Wiring.{riser, rest, staircase}
+use Rattle.routing.specs.Wiring.{riser, rest, staircase, raised, with-step-below}
 use Rattle.routing.proofs.Points.{same-point-equal, same-point-self}
 
 -- a step of one column, to the right or to the left
@@ -21,17 +21,18 @@ Beside x z = (suc x ≡ z) ⊎ (suc z ≡ x)
 pub record Course (x h : ℕ → ℕ) (t w : ℕ) : Type 0 where
   pub beside : (k : ℕ) → k < w → Beside (x k) (x (suc k))
   pub rises : (k : ℕ) → h k ≤ h (suc k)
+  pub above : (k : ℕ) → 0 < h k
   pub below : (k : ℕ) → k < w → h k < t
 
 up-step : (t x y : ℕ) → y < t → is-step t (point (pos x) y) (point (pos x) (suc y)) ≡ true
 unfolding is-step point same-column
 up-step t x y l = rw (le-leb y t (omega arith), le-leb (suc y) t (omega arith), eq-eqb x x refl, eq-eqb (suc y) (suc y) refl)
 
-along-step : (t x z y : ℕ) → y < t → Beside x z → is-step t (point (pos x) y) (point (pos z) y) ≡ true
+along-step : (t x z y : ℕ) → 0 < y → y < t → Beside x z → is-step t (point (pos x) y) (point (pos z) y) ≡ true
 unfolding is-step point same-column next Beside
-along-step t x z y l (inl e) = rw (le-leb y t (omega arith), eq-eqb y y refl, lt-ltb y t l, ne-eqb x z (omega arith), eq-eqb (suc x) z e)
-along-step t x z y l (inr e) =
-    rw (le-leb y t (omega arith), eq-eqb y y refl, lt-ltb y t l, ne-eqb x z (omega arith), ne-eqb (suc x) z (omega arith), eq-eqb (suc z) x e)
+along-step t x z y o l (inl e) = rw (le-leb y t (omega arith), eq-eqb y y refl, lt-ltb 0 y o, lt-ltb y t l, ne-eqb x z (omega arith), eq-eqb (suc x) z e)
+along-step t x z y o l (inr e) =
+    rw (le-leb y t (omega arith), eq-eqb y y refl, lt-ltb 0 y o, lt-ltb y t l, ne-eqb x z (omega arith), ne-eqb (suc x) z (omega arith), eq-eqb (suc z) x e)
 
 riser-chain : (t : ℕ) (g : Point) (x y n z : ℕ) (ws : List Point) → y + n ≡ z → z ≤ t → chain t g (point (pos x) z) ws ≡ true
     → chain t g (point (pos x) y) (riser x y n ws) ≡ true
@@ -53,7 +54,7 @@ module _ (x h : ℕ → ℕ) (t w : ℕ) (s : Course x h t w) where
       riser-chain t (point (pos (x w)) t) (x k) y (h k - y) (h k) (point (pos (x (suc k))) (h k) ∷ rest x h t n (suc k) (h k)) (omega arith) (omega arith)
       (and-both (is-step t (point (pos (x k)) (h k)) (point (pos (x (suc k))) (h k)))
       (chain t (point (pos (x w)) t) (point (pos (x (suc k))) (h k)) (rest x h t n (suc k) (h k)))
-      (along-step t (x k) (x (suc k)) (h k) b (s .beside k (omega arith)))
+      (along-step t (x k) (x (suc k)) (h k) (s .above k) b (s .beside k (omega arith)))
       (rest-chain n (suc k) (h k) (omega arith) (omega arith) (s .rises k)))
 
   pub staircase-path : (p q : ℕ) → x 0 ≡ p → x w ≡ q → is-path t (point (pos p) 0) (point (pos q) t) (staircase x h t w) ≡ true
@@ -119,3 +120,28 @@ module _ (x h : ℕ → ℕ) (t w : ℕ) (s : Course x h t w) where
   pub on-staircase : (z : Point) → on-path z (staircase x h t w) ≡ true → On x h t w z
   unfolding staircase
   on-staircase z o = on-rest z w 0 0 (omega arith) (omega arith) (omega arith) (λ i d. absurd (omega arith)) o
+
+-- ONE TRACK HIGHER
+raised-riser : (x y n : ℕ) (ws : List Point) → raised (riser x y n ws) ≡ riser x (suc y) n (raised ws)
+unfolding riser raised point
+raised-riser x y zero ws = refl
+raised-riser x y (suc n) ws = ap (λ (zs : List Point). point (pos x) (suc (suc y)) ∷ zs) (raised-riser x (suc y) n ws)
+
+module _ (x h : ℕ → ℕ) (t : ℕ) where
+  raised-rest : (n k y : ℕ) → raised (rest x h t n k y) ≡ rest x (λ i. suc (h i)) (suc t) n k (suc y)
+  unfolding rest raised point
+  raised-rest zero k y = let e : suc t - suc y ≡ t - y = omega arith in rw e (raised-riser (x k) y (t - y) [])
+  raised-rest (suc n) k y =
+      let e : suc (h k) - suc y ≡ h k - y = omega arith in
+      rw (e, ← raised-rest n (suc k) (h k)) (raised-riser (x k) y (h k - y) (point (pos (x (suc k))) (h k) ∷ rest x h t n (suc k) (h k)))
+
+  -- the upright step from track 0 to track 1
+  first-step : (n k : ℕ) → point (pos (x k)) 1 ∷ rest x (λ i. suc (h i)) (suc t) n k 1 ≡ rest x (λ i. suc (h i)) (suc t) n k 0
+  unfolding rest riser
+  first-step zero k = let e : suc t - 0 ≡ suc t = omega arith in let d : suc t - 1 ≡ t = omega arith in rw (e, d)
+  first-step (suc n) k = let e : suc (h k) - 0 ≡ suc (h k) = omega arith in let d : suc (h k) - 1 ≡ h k = omega arith in rw (e, d)
+
+  pub staircase-raised : (n : ℕ) → with-step-below (staircase x h t n) ≡ staircase x (λ i. suc (h i)) (suc t) n
+  unfolding staircase with-step-below raised point
+  staircase-raised n =
+      ap (λ (zs : List Point). point (pos (x 0)) 0 ∷ zs) (ap (λ (zs : List Point). point (pos (x 0)) 1 ∷ zs) (raised-rest n 0 0) ∙ first-step n 0)

@@ -1,5 +1,5 @@
 -- TRUSTED. Paths over the grid, and when a placement is drawable; L, R and feasibility have no part.
--- Document 01, "When a channel can be wired", from "Demand 3 uses paths instead" on; document 02, P2. Assumes nothing: these are definitions.
+-- Document 01, "When a channel can be wired", from "Demand 3 uses paths instead" on; document 02, P2 and P4. Assumes nothing: these are definitions.
 use mathlib.Core.Path.{_≡_}
 use mathlib.Core.Bool.{Bool, true, false, _&&_, _||_, not}
 use mathlib.Core.List.{List, [], _∷_}
@@ -31,12 +31,12 @@ same-column (negsuc a) (negsuc b) = eqb a b
 unfoldable pub same-point : Point → Point → Bool
 same-point a b = same-column (a .column) (b .column) && eqb (a .track) (b .track)
 
--- a unit step within tracks 0 to t: up or down a track, or along one below track t
+-- a unit step within tracks 0 to t: up or down a track, or along one of tracks 1 to t - 1
 unfoldable pub is-step : (t : ℕ) → Point → Point → Bool
 is-step t a b =
     (leb (a .track) t && leb (b .track) t)
     && ((same-column (a .column) (b .column) && (eqb (suc (a .track)) (b .track) || eqb (suc (b .track)) (a .track)))
-    || ((eqb (a .track) (b .track) && ltb (a .track) t)
+    || ((eqb (a .track) (b .track) && (ltb 0 (a .track) && ltb (a .track) t))
     && (same-column (next (a .column)) (b .column) || same-column (next (b .column)) (a .column))))
 
 -- unit steps from a point through the points listed to the goal

@@ -1,6 +1,6 @@
--- TRUSTED. The paths of a channel: document 02's P1 path rule. A path going right runs between columns x and x + 1 on the track numbered by how many n ≥ 1 have
--- (column of the terminal n pairs further on the lower edge) - n ≤ x; left is the mirror image. Upright pieces join the runs, and the last reaches track t.
--- Assumes nothing: these are definitions.
+-- TRUSTED. The paths of a channel: document 02's P1 path rule, and what P4 draws by it. A path going right runs between columns x and x + 1 on the track numbered
+-- by how many n ≥ 1 have (column of the terminal n pairs further on the lower edge) - n ≤ x; left is the mirror image. Upright pieces join the runs, and the last
+-- reaches track t. For t ≥ 1 the paths drawn are those of separation t - 1, one track higher with an upright step below. Assumes nothing: these are definitions.
 use mathlib.Core.Bool.{Bool, true, false, _&&_, _||_, cond}
 use mathlib.Core.List.{List, [], _∷_}
 use Prim.Native.Nat.{ℕ, zero, suc, _+_, _-_}
@@ -49,11 +49,27 @@ unfoldable pub path-between : (right : Bool) → List Pair → (t lower j p q : 
 path-between true c t a j p q = staircase (λ k. p + k) (λ k. right-track c a j (p + k)) t (q - p)
 path-between false c t a j p q = staircase (λ k. p - k) (λ k. left-track c a j (p - k)) t (p - q)
 
+-- pair j's path by P1's rule
 unfoldable pub path : List Pair → (t lower upper j : ℕ) → List Point
 path c t a b j =
     let p = a + p-at c j in
     let q = b + q-at c j in
     path-between (leb p q) c t a j p q
+
+-- P4: one track higher
+unfoldable pub raised : List Point → List Point
+raised [] = []
+raised (z ∷ zs) = point (z .column) (suc (z .track)) ∷ raised zs
+
+-- one track higher, with an upright step below
+unfoldable pub with-step-below : List Point → List Point
+with-step-below [] = []
+with-step-below (z ∷ zs) = z ∷ raised (z ∷ zs)
+
+-- pair j's path as it is DRAWN: for t ≥ 1 the path of separation t - 1, so raised
+unfoldable pub drawn-path : List Pair → (t lower upper j : ℕ) → List Point
+drawn-path c zero a b j = path c 0 a b j
+drawn-path c (suc t) a b j = with-step-below (path c t a b j)
 
 -- the list of a function's values at 0 to n - 1
 unfoldable pub listed : (ℕ → List Point) → (n : ℕ) → List (List Point)
@@ -62,7 +78,7 @@ listed f (suc n) = f 0 ∷ listed (λ i. f (suc i)) n
 
 -- the WIRING: one path for each pair
 unfoldable pub wiring : List Pair → (t lower upper : ℕ) → List (List Point)
-wiring c t a b = listed (λ j. path c t a b j) (length c)
+wiring c t a b = listed (λ j. drawn-path c t a b j) (length c)
 
 -- a path LEADS from one point directly to another
 unfoldable pub begins : Point → List Point → Bool

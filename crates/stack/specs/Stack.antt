@@ -1,5 +1,5 @@
 -- TRUSTED. Stacks of strips and channels; when a channel can be wired; legal placements, the least total and the placement for a total, a table's rows.
--- Document 01, "Strips, columns and tracks", "When a channel can be wired" and "Choosing among equals"; document 02, P2 and P3. Assumes nothing: these are
+-- Document 01, "Strips, columns and tracks", "When a channel can be wired" and "Choosing among equals"; document 02, P2 to P4. Assumes nothing: these are
 -- definitions.
 use mathlib.Core.Path.{_≡_}
 use mathlib.Core.Bool.{Bool, true, false, _&&_, _||_, cond}
@@ -59,16 +59,22 @@ left-good ps t a b j = leb (p-at ps (j - t) + t + a) (b + q-at ps j)
 unfoldable pub right-good : List Pair → (t lower upper j : ℕ) → Bool
 right-good ps t a b j = leb (b + t + q-at ps j) (p-at ps (j + t) + a)
 
--- pairs that are WIRABLE at separation t with the strips at these positions: L(t) at most the offset upper - lower, the offset at most R(t); from t = m on
--- every offset
+-- pairs that are WIRABLE at separation t with the strips at these positions, by document 004's condition, which leaves track 0 to paths: L(t) at most the
+-- offset upper - lower, the offset at most R(t); from t = m on every offset
 unfoldable pub wirable : List Pair → (t lower upper : ℕ) → Bool
 wirable ps t a b =
     leb (length ps) t
     || (every (length ps - t) t (λ j. left-good ps t a b j) && every (length ps - t) 0 (λ j. right-good ps t a b j))
 
--- FEASIBLE: from the floor upward, and wirable
+-- with the LOWER EDGE CLEAR, document 02's P4: for t ≥ 1 and at least one pair that condition at t - 1; at t = 0, and without pairs, that condition itself
+unfoldable pub edge-clear : List Pair → (t lower upper : ℕ) → Bool
+edge-clear [] t a b = wirable [] t a b
+edge-clear (p ∷ ps) zero a b = wirable (p ∷ ps) 0 a b
+edge-clear (p ∷ ps) (suc t) a b = wirable (p ∷ ps) t a b
+
+-- FEASIBLE: from the floor upward, and so with the lower edge clear
 unfoldable pub feasible : Channel → (t lower upper : ℕ) → Bool
-feasible c t a b = leb (c .floor) t && wirable (c .pairs) t a b
+feasible c t a b = leb (c .floor) t && edge-clear (c .pairs) t a b
 
 -- a PLACEMENT, separations and positions, lies WITHIN the spread
 unfoldable pub in-spread : (s : ℕ) → (strips positions : List ℕ) → Bool
