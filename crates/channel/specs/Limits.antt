@@ -1,6 +1,7 @@
 -- A channel's limits L(t) and R(t) on the offset, raised by a bias b so that none is negative. Assumes nothing: these are definitions.
 -- The greatest of no numbers is 0 and the least of none is 2b, below and above every biased offset: a separation of m or more, and a channel
--- without pairs, are no special cases. Below a channel's floor it is the other way round, 2b and 0, and no offset is between.
+-- without pairs, are no special cases. With the lower edge clear the limits at a separation t are those of t - 1 tracks, cut off at 0. Below a channel's floor
+-- it is the other way round, 2b and 0, and no offset is between.
 use mathlib.Core.Path.{_≡_}
 use mathlib.Core.Bool.{Bool, true, _&&_, cond}
 use mathlib.Core.List.{List}
@@ -48,12 +49,16 @@ pub record Between (b : ℕ) (c : List Pair) (t x y : ℕ) : Type 0 where
 unfoldable pub from-floor : (floor d : ℕ) → (ℕ → ℕ) → (t : ℕ) → ℕ
 from-floor f d g t = cond (ltb t f) d (g t)
 
--- the limits of a channel: those of its pairs from the floor on, closed below it
+-- the limits of a channel: those of its pairs for a track less, from the floor on, closed below it
 unfoldable pub low-floored : (b : ℕ) → Channel → (t : ℕ) → ℕ
-low-floored b c t = from-floor (c .floor) (2 * b) (λ s. low-limit b (c .pairs) s) t
+low-floored b c t = from-floor (c .floor) (2 * b) (λ s. low-limit b (c .pairs) (s - 1)) t
 
 unfoldable pub high-floored : (b : ℕ) → Channel → (t : ℕ) → ℕ
-high-floored b c t = from-floor (c .floor) 0 (λ s. high-limit b (c .pairs) s) t
+high-floored b c t = from-floor (c .floor) 0 (λ s. high-limit b (c .pairs) (s - 1)) t
+
+-- from so many tracks on every offset is between the limits of m pairs: one more than there are pairs, and 0 without pairs
+abbrev pub open-from : (m : ℕ) → ℕ
+open-from m = m + min m 1
 
 -- the offset y - x is between the limits of the channel
 pub record Floored-between (b : ℕ) (c : Channel) (t x y : ℕ) : Type 0 where
@@ -107,16 +112,21 @@ pub record Padded (c : List Pair) (p q : ℕ) (d : List Pair) : Type 0 where
   pub p-rest : (j : ℕ) → length c ≤ j → j < places-held → p-at d j ≡ p
   pub q-rest : (j : ℕ) → length c ≤ j → j < places-held → q-at d j ≡ q
 
--- while the arrays are filled by two rules: the first t of n separations stand, the rest is open
+-- a row whose places from 1 on are being filled by a rule, the first t of them so far; the others hold d
+unfoldable pub row-from-one : (f : ℕ → ℕ) → (d t place : ℕ) → ℕ
+row-from-one f d t zero = d
+row-from-one f d t (suc s) = cond (ltb s t) (f s) d
+
+-- while the arrays are filled by two rules, of n numbers each
 pub record Filling (f g : ℕ → ℕ) (n t : ℕ) (low high : List ℕ) : Type 0 where
   pub below : t ≤ n
-  pub lows : low ≡ filled separations-held t f 0
-  pub highs : high ≡ filled separations-held t g (2 * bias)
+  pub lows : low ≡ tabulate separations-held 0 (λ s. row-from-one f 0 t s)
+  pub highs : high ≡ tabulate separations-held 0 (λ s. row-from-one g (2 * bias) t s)
 
 -- the limits of a channel's pairs for every separation
 pub record Pairs-limits (ps : List Pair) (low high : List ℕ) : Type 0 where
-  pub lows : low ≡ tabulate separations-held 0 (λ s. low-limit bias ps s)
-  pub highs : high ≡ tabulate separations-held 0 (λ s. high-limit bias ps s)
+  pub lows : low ≡ tabulate separations-held 0 (λ s. low-limit bias ps (s - 1))
+  pub highs : high ≡ tabulate separations-held 0 (λ s. high-limit bias ps (s - 1))
 
 -- while the first t places of a row that held xs get another value
 pub record Closing (xs : List ℕ) (d n t : ℕ) (row : List ℕ) : Type 0 where

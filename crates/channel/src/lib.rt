@@ -1,7 +1,7 @@
 // The limits on a channel's offset, and the test whether a channel is feasible.
 ghost use mathlib.Core.Path.{_≡_};
 ghost use mathlib.Core.Bool.{true};
-ghost use Prim.Native.Nat.{_≤_, min, max};
+ghost use Prim.Native.Nat.{_-_, _≤_, min, max};
 ghost use lib.ListN.{length, getD};
 ghost use Rattle.stack.specs.Stack.{channel, wirable, feasible};
 ghost use Rattle.stack.specs.Limits.{on-strips};
@@ -22,6 +22,7 @@ ghost use Rattle.channel.specs.Limits.{
   Limits-of,
   clear,
 };
+use numbers::difference;
 use stack::Columns;
 use stack::Stack;
 use stack::Terminals;
@@ -115,8 +116,9 @@ fn close_below(row: &mut [u64; Stack::SEPARATIONS], floor: Tracks, closed: u64)
     }
 }
 
-// L(t) and R(t) for every t from a floor on, closed below it. Behind the last pair stand zeros, and TERM_BIAS where t is added to the index. So a term past the last is less than every term of L(t),
-// or greater than every term of R(t), and 32 terms can be taken for every t: a constant number, without a remainder of fewer than eight.
+// The limits at every separation from a floor on, closed below it: with the lower edge clear (document 02, P4) L(t) and R(t) are those at t + 1, and those at 0 are those at 1.
+// Behind the last pair stand zeros, and TERM_BIAS where t is added to the index. So a term past the last is less than every term of L(t), or greater than every term of R(t), and
+// 32 terms can be taken for every t: a constant number, without a remainder of fewer than eight.
 pub fn channel_limits(terminals: Terminals, floor: Tracks) -> Limits
     requires { ⌜ (terminals .count ≤ 32) × (floor .0 ≤ 64) ⌝ }
     requires { ⌜ on-strips 1000 1000 (channel-of terminals) ≡ true ⌝ }
@@ -132,9 +134,11 @@ pub fn channel_limits(terminals: Terminals, floor: Tracks) -> Limits
     let mut low = [0u64; Stack::SEPARATIONS];
     let mut high = [2 * Stack::BIAS; Stack::SEPARATIONS];
     for t in 0..pairs {
-        low[t] = raised(greatest_term(&p, &q_on, t));
-        high[t] = raised(least_term(&p_on, &q, t));
+        low[t + 1] = raised(greatest_term(&p, &q_on, t));
+        high[t + 1] = raised(least_term(&p_on, &q, t));
     }
+    low[0] = low[1];
+    high[0] = high[1];
     close_below(&mut low, floor, 2 * Stack::BIAS);
     close_below(&mut high, floor, 0);
     Limits { low, high }
@@ -159,7 +163,7 @@ fn is_clear(
     wide(upper) + tracks + wide(q) <= wide(pt) + wide(lower)
 }
 
-// Document 01, "When a channel can be wired": whether the pairs can be wired at a separation, with the strips at these positions.
+// Document 01, "When a channel can be wired": its condition on the pairs with so many tracks, with the strips at these positions.
 fn is_wirable(terminals: Terminals, t: Tracks, lower: Columns, upper: Columns) -> bool
     requires { ⌜ terminals .count ≤ 32 ⌝ }
     ensures { λ r. ⌜ r ≡ wirable (channel-of terminals) (t .0) (lower .0) (upper .0) ⌝ }
@@ -182,7 +186,14 @@ fn is_wirable(terminals: Terminals, t: Tracks, lower: Columns, upper: Columns) -
     true
 }
 
-// Feasible at a separation, with the strips at these positions: from the floor upward (document 02, P2), and wirable.
+// The tracks between the edges: one less than the separation, and none at 0.
+fn between_edges(t: Tracks) -> Tracks
+    ensures { λ r. ⌜ r .0 ≡ t .0 - 1 ⌝ }
+{
+    Tracks(difference(t.0 as u64, 1) as u32)
+}
+
+// Feasible at a separation, with the strips at these positions: from the floor upward (document 02, P2), and wirable on the tracks between the edges (P4).
 pub fn is_feasible(
     terminals: Terminals,
     floor: Tracks,
@@ -193,8 +204,9 @@ pub fn is_feasible(
     requires { ⌜ terminals .count ≤ 32 ⌝ }
     ensures { λ r. ⌜ r ≡ feasible (channel (channel-of terminals) (floor .0)) (t .0) (lower .0) (upper .0) ⌝ }
 {
+    let inner = between_edges(t);
     if t.0 < floor.0 {
         return false;
     }
-    is_wirable(terminals, t, lower, upper)
+    is_wirable(terminals, inner, lower, upper)
 }

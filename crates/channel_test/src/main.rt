@@ -1,6 +1,6 @@
 // Prints the limits and the feasibility of the channels in standard input, for comparison with what another program made of the same input.
 // Input: how many channels; for each its count of pairs, p(0), q(0), p(1), q(1) and so on, how many pairs of positions, and those.
-ghost use Prim.Native.Nat.{_≤_};
+ghost use Prim.Native.Nat.{_≤_, _<_};
 use channel::Limits;
 use channel::channel_limits;
 use channel::is_feasible;
@@ -42,8 +42,15 @@ fn print_bit(on: bool) {
     }
 }
 
-fn print_limits(limits: Limits, pairs: usize) {
-    for t in 0..pairs {
+// How many separations from 0 on leave some offset closed: one more than there are pairs, and none without pairs.
+fn closed_separations(pairs: usize) -> usize
+    requires { ⌜ pairs < 64 ⌝ }
+{
+    if 0 < pairs { pairs + 1 } else { 0 }
+}
+
+fn print_limits(limits: Limits, separations: usize) {
+    for t in 0..separations {
         if t < Stack::SEPARATIONS {
             print_range(limits.low[t], limits.high[t]);
         }
@@ -51,12 +58,12 @@ fn print_limits(limits: Limits, pairs: usize) {
     end_line();
 }
 
-// For each separation up to one more than the count of pairs, 1 if the channel, with floor 0, is feasible with the strips at these positions.
+// For each separation up to two more than the count of pairs, 1 if the channel, with floor 0, is feasible with the strips at these positions.
 fn print_feasible(terminals: Terminals, lower: u32, upper: u32)
     requires { ⌜ terminals .count ≤ 32 ⌝ }
 {
-    for t in 0..34 {
-        if t <= terminals.count as u32 + 1 {
+    for t in 0..35 {
+        if t <= terminals.count as u32 + 2 {
             print_bit(is_feasible(
                 terminals,
                 Tracks(0),
@@ -125,7 +132,7 @@ fn channel(text: &[u8], from: usize) -> usize {
     let terminals = made.terminals;
     io::write_all(1, b"pairs ");
     print_number(m as u64);
-    print_limits(channel_limits(terminals, Tracks(0)), m);
+    print_limits(channel_limits(terminals, Tracks(0)), closed_separations(m));
     print_all_feasible(terminals, text, at)
 }
 

@@ -22,14 +22,15 @@ use Rattle.routing.specs.Wiring.{wiring}
 use Rattle.page.specs.Page.{character}
 use Rattle.page.specs.Arrivals.{Channel-placed, Ends-are, right-arrival, left-arrival, arrival, track-painted}
 use Rattle.page.proofs.Painted.{painted-right}
-use Rattle.plot.specs.Drawing.{reached, track-drawn, Arrivals-shown, Ends-ask, Levels-filled}
+use Rattle.plot.specs.Drawing.{passing, reached, track-drawn, Arrivals-shown, Ends-ask, Levels-filled}
 use Rattle.track.proofs.Rows.{front-step, painted-same}
 
 -- what the code works out
-pub reached-by : (ahead back upto : List ℕ) (y j h v : ℕ) → h ≡ min y 32 → v ≡ min (getD upto j 0) (getD ahead (j + y) 0 + j) + max (getD upto j 0) (getD back (32 + j - h) 0 + j) - getD upto j 0
+pub reached-by : (ahead back upto : List ℕ) (y j n h v : ℕ) → n ≡ y - 1 → h ≡ min n 32
+    → v ≡ min (getD upto j 0) (getD ahead (j + n) 0 + j) + max (getD upto j 0) (getD back (32 + j - h) 0 + j) - getD upto j 0
     → v ≡ reached ahead back upto y j
-unfolding reached
-reached-by ahead back upto y j h v e d = rw e at d
+unfolding reached passing
+reached-by ahead back upto y j n h v a e d = rw (← a) (rw e at d)
 
 -- LOW NUMBERS stay low
 low-copies : (n v b i : ℕ) → v ≤ b → getD (replicate n v) i 0 ≤ b
@@ -47,21 +48,21 @@ low-stored xs k v b l h f i = go (eq-or-not i k)
     go (inr n) = rw (getD-set-other xs k i v 0 n) (f i)
 
 -- PAIR BY PAIR
-pub levels-start : (ps qs : List Columns) (a b : ℕ) (ahead back upto : List ℕ) → ahead ≡ replicate 98 64 → back ≡ replicate 64 0 → upto ≡ replicate 32 0
+pub levels-start : (ps qs : List Columns) (a b : ℕ) (ahead back upto : List ℕ) → ahead ≡ replicate 96 64 → back ≡ replicate 64 0 → upto ≡ replicate 32 0
     → Levels-filled ps qs a b 0 ahead back upto
 levels-start ps qs a b ahead back upto e f g =
     rw (e, f, g)
     (record {
-      sized-ahead = length-replicate {A = ℕ} 98 64;
+      sized-ahead = length-replicate {A = ℕ} 96 64;
       sized-back = length-replicate {A = ℕ} 64 0;
       sized-upto = length-replicate {A = ℕ} 32 0;
       ahead-are = λ j l. absurd (omega arith);
-      ahead-none = λ j l m. getD-replicate 98 j 64 0 m;
+      ahead-none = λ j l m. getD-replicate 96 j 64 0 m;
       back-are = λ j l. absurd (omega arith);
       back-none = λ j l. zeros-at 64 j;
       upto-are = λ j l. absurd (omega arith);
       low = record {
-        ahead-low = λ i. low-copies 98 64 64 i (omega arith);
+        ahead-low = λ i. low-copies 96 64 64 i (omega arith);
         back-low = λ i. low-copies 64 0 64 i (omega arith);
         upto-low = λ i. let h = low-copies 32 0 63 i (omega arith) in omega arith;
       };
@@ -145,63 +146,71 @@ module _ (k : Terminals) (t a b : ℕ) (p : Channel-placed 63 (channel-of k) t a
         let o = rising-before (channel-of k) (p .rises) 0 j j (omega arith) (omega (arith, channel-length k)) in
         (omega (arith, apart 0 j j (omega arith) l), omega (arith, ends-are .upto-are j l, o .upper))
 
-    module _ (j y : ℕ) (l : j < m) (h : y ≤ 65) where
+    module _ (j n : ℕ) (l : j < m) (h : n ≤ 64) where
       q : ℕ
       q = getD upto j 0
 
       on : ℕ
-      on = getD ahead (j + y) 0 + j
+      on = getD ahead (j + n) 0 + j
 
       behind : ℕ
-      behind = getD back (32 + j - min y 32) 0 + j
+      behind = getD back (32 + j - min n 32) 0 + j
 
-      -- ahead: what the terminal y pairs further says, or a column behind the last
-      ahead-is : (j + y < m → on ≡ getD from (j + y) 0 - y) × (m ≤ j + y → q < on)
+      -- ahead: what the terminal n pairs further says, or a column behind the last
+      ahead-is : (j + n < m → on ≡ getD from (j + n) 0 - n) × (m ≤ j + n → q < on)
       unfolding on q
       ahead-is = (
-        λ i. omega (arith, ahead-at (j + y) i, past (j + y) i .0),
-        λ i. omega (arith, f .ahead-none (j + y) i (omega (arith, few)), f .low .upto-low j),
+        λ i. omega (arith, ahead-at (j + n) i, past (j + n) i .0),
+        λ i. omega (arith, f .ahead-none (j + n) i (omega (arith, few)), f .low .upto-low j),
       )
 
-      -- back: what the terminal y pairs back says, or a column before the first
-      back-is : (y ≤ j → behind ≡ getD from (j - y) 0 + y) × (j < y → behind ≤ q)
+      -- back: what the terminal n pairs back says, or a column before the first
+      back-is : (n ≤ j → behind ≡ getD from (j - n) 0 + n) × (j < n → behind ≤ q)
       unfolding behind q
       back-is = (
         λ i.
-            let e : 32 + j - min y 32 ≡ 32 + (j - y) = omega (arith, few) in
-            rw e (omega (arith, back-at (j - y) (omega arith), past (j - y) (omega arith) .0)),
-        λ i. omega (arith, f .back-none (32 + j - min y 32) (omega (arith, few)), past j l .1),
+            let e : 32 + j - min n 32 ≡ 32 + (j - n) = omega (arith, few) in
+            rw e (omega (arith, back-at (j - n) (omega arith), past (j - n) (omega arith) .0)),
+        λ i. omega (arith, f .back-none (32 + j - min n 32) (omega (arith, few)), past j l .1),
       )
 
-      pub reached-is : reached ahead back upto y j ≡ arrival from upto (k .count) j y
-      unfolding reached arrival right-arrival left-arrival q on behind
-      reached-is = go (le-or-lt (getD from j 0) (getD upto j 0)) (le-or-lt m (j + y)) (le-or-lt y j)
+      passing-is : passing ahead back upto n j ≡ cond (leb (getD from j 0) (getD upto j 0)) (right-arrival from m (getD upto j 0) j n) (left-arrival from (getD upto j 0) j n)
+      unfolding passing right-arrival left-arrival q on behind
+      passing-is = go (le-or-lt (getD from j 0) (getD upto j 0)) (le-or-lt m (j + n)) (le-or-lt n j)
         where
-          go : (getD from j 0 ≤ getD upto j 0) ⊎ (getD upto j 0 < getD from j 0) → (m ≤ j + y) ⊎ (j + y < m) → (y ≤ j) ⊎ (j < y)
+          go : (getD from j 0 ≤ getD upto j 0) ⊎ (getD upto j 0 < getD from j 0) → (m ≤ j + n) ⊎ (j + n < m) → (n ≤ j) ⊎ (j < n)
               → min q on + max q behind - q
-              ≡ cond (leb (getD from j 0) (getD upto j 0)) (cond (ltb (j + y) m) (min q (getD from (j + y) 0 - y)) q) (cond (leb y j) (max q (getD from (j - y) 0 + y)) q)
-          go (inl r) (inl i) (inl o) = rw (le-leb (getD from j 0) (getD upto j 0) r, le-ltb (j + y) m i) (omega (arith, ahead-is .1 i, back-is .0 o, apart (j - y) y j (omega arith) l))
-          go (inl r) (inl i) (inr o) = rw (le-leb (getD from j 0) (getD upto j 0) r, le-ltb (j + y) m i) (omega (arith, ahead-is .1 i, back-is .1 o))
-          go (inl r) (inr i) (inl o) = rw (le-leb (getD from j 0) (getD upto j 0) r, lt-ltb (j + y) m i) (omega (arith, ahead-is .0 i, back-is .0 o, apart (j - y) y j (omega arith) l))
-          go (inl r) (inr i) (inr o) = rw (le-leb (getD from j 0) (getD upto j 0) r, lt-ltb (j + y) m i) (omega (arith, ahead-is .0 i, back-is .1 o))
-          go (inr r) (inl i) (inl o) = rw (lt-leb (getD from j 0) (getD upto j 0) r, le-leb y j o) (omega (arith, ahead-is .1 i, back-is .0 o))
-          go (inr r) (inl i) (inr o) = rw (lt-leb (getD from j 0) (getD upto j 0) r, lt-leb y j o) (omega (arith, ahead-is .1 i, back-is .1 o))
-          go (inr r) (inr i) (inl o) = rw (lt-leb (getD from j 0) (getD upto j 0) r, le-leb y j o) (omega (arith, ahead-is .0 i, back-is .0 o, apart j y (j + y) (omega arith) i))
-          go (inr r) (inr i) (inr o) = rw (lt-leb (getD from j 0) (getD upto j 0) r, lt-leb y j o) (omega (arith, ahead-is .0 i, back-is .1 o, apart j y (j + y) (omega arith) i))
+              ≡ cond (leb (getD from j 0) (getD upto j 0)) (cond (ltb (j + n) m) (min q (getD from (j + n) 0 - n)) q) (cond (leb n j) (max q (getD from (j - n) 0 + n)) q)
+          go (inl r) (inl i) (inl o) = rw (le-leb (getD from j 0) (getD upto j 0) r, le-ltb (j + n) m i) (omega (arith, ahead-is .1 i, back-is .0 o, apart (j - n) n j (omega arith) l))
+          go (inl r) (inl i) (inr o) = rw (le-leb (getD from j 0) (getD upto j 0) r, le-ltb (j + n) m i) (omega (arith, ahead-is .1 i, back-is .1 o))
+          go (inl r) (inr i) (inl o) = rw (le-leb (getD from j 0) (getD upto j 0) r, lt-ltb (j + n) m i) (omega (arith, ahead-is .0 i, back-is .0 o, apart (j - n) n j (omega arith) l))
+          go (inl r) (inr i) (inr o) = rw (le-leb (getD from j 0) (getD upto j 0) r, lt-ltb (j + n) m i) (omega (arith, ahead-is .0 i, back-is .1 o))
+          go (inr r) (inl i) (inl o) = rw (lt-leb (getD from j 0) (getD upto j 0) r, le-leb n j o) (omega (arith, ahead-is .1 i, back-is .0 o))
+          go (inr r) (inl i) (inr o) = rw (lt-leb (getD from j 0) (getD upto j 0) r, lt-leb n j o) (omega (arith, ahead-is .1 i, back-is .1 o))
+          go (inr r) (inr i) (inl o) = rw (lt-leb (getD from j 0) (getD upto j 0) r, le-leb n j o) (omega (arith, ahead-is .0 i, back-is .0 o, apart j n (j + n) (omega arith) i))
+          go (inr r) (inr i) (inr o) = rw (lt-leb (getD from j 0) (getD upto j 0) r, lt-leb n j o) (omega (arith, ahead-is .0 i, back-is .1 o, apart j n (j + n) (omega arith) i))
+
+      passing-shown : passing ahead back upto n j < 64
+      unfolding passing q on behind
+      passing-shown = go (le-or-lt (getD from j 0) (getD upto j 0)) (le-or-lt n j)
+        where
+          first : getD from j 0 < 64
+          first = let w = p .from-within j (omega (arith, channel-length k)) in omega (arith, from-at j l)
+
+          go : (getD from j 0 ≤ getD upto j 0) ⊎ (getD upto j 0 < getD from j 0) → (n ≤ j) ⊎ (j < n) → min q on + max q behind - q < 64
+          go (inl r) (inl o) = omega (arith, f .low .upto-low j, back-is .0 o, apart (j - n) n j (omega arith) l)
+          go (inl r) (inr o) = omega (arith, f .low .upto-low j, back-is .1 o)
+          go (inr r) (inl o) = omega (arith, f .low .upto-low j, first, back-is .0 o, apart (j - n) n j (omega arith) l)
+          go (inr r) (inr o) = omega (arith, f .low .upto-low j, back-is .1 o)
+
+    pub reached-is : (j y : ℕ) → j < m → y ≤ 65 → reached ahead back upto y j ≡ arrival from upto (k .count) j y
+    unfolding reached arrival
+    reached-is j y l h = passing-is j (y - 1) l (omega arith)
 
     -- and they are on the page
     pub arrivals-shown : Arrivals-shown ahead back upto (k .count)
-    unfolding Arrivals-shown reached q on behind
-    arrivals-shown j y l h = go (le-or-lt (getD from j 0) (getD upto j 0)) (le-or-lt m (j + y)) (le-or-lt y j)
-      where
-        first : getD from j 0 < 64
-        first = let w = p .from-within j (omega (arith, channel-length k)) in omega (arith, from-at j l)
-
-        go : (getD from j 0 ≤ getD upto j 0) ⊎ (getD upto j 0 < getD from j 0) → (m ≤ j + y) ⊎ (j + y < m) → (y ≤ j) ⊎ (j < y) → min (q j y l h) (on j y l h) + max (q j y l h) (behind j y l h) - q j y l h < 64
-        go (inl r) i (inl o) = omega (arith, f .low .upto-low j, back-is j y l h .0 o, apart (j - y) y j (omega arith) l)
-        go (inl r) i (inr o) = omega (arith, f .low .upto-low j, back-is j y l h .1 o)
-        go (inr r) i (inl o) = omega (arith, f .low .upto-low j, first, back-is j y l h .0 o, apart (j - y) y j (omega arith) l)
-        go (inr r) i (inr o) = omega (arith, f .low .upto-low j, back-is j y l h .1 o)
+    unfolding Arrivals-shown reached
+    arrivals-shown j y l h = passing-shown j (y - 1) l (omega arith)
 
     -- what the code draws is the page's
     pub drawn-right : t ≤ 64 → (y x : ℕ) → y ≤ t → track-drawn ahead back upto (k .count) t y x ≡ character x y (wiring (channel-of k) t a b)

@@ -30,10 +30,14 @@ pub record Lines-put (f : ℕ → ℕ → ℕ) (t at y : ℕ) (before now : List
   pub stands : take at now ++ lines-below f y ≡ lines-below f (suc t)
 
 -- WHAT ARRIVALS ARE WORKED OUT FROM: by pair, the column of its lower terminal less its number, with 64 behind the last pair and 0 before the first, and the
--- column of its upper terminal. What path j comes to on track y is its last column, or what a terminal ahead or back says
+-- column of its upper terminal. Where path j comes to when it has passed n terminals is its last column, or what a terminal ahead or back says
+unfoldable pub passing : (ahead back upto : List ℕ) → (n j : ℕ) → ℕ
+passing ahead back upto n j =
+    min (getD upto j 0) (getD ahead (j + n) 0 + j) + max (getD upto j 0) (getD back (32 + j - min n 32) 0 + j) - getD upto j 0
+
+-- and what it comes to on track y
 unfoldable pub reached : (ahead back upto : List ℕ) → (y j : ℕ) → ℕ
-reached ahead back upto y j =
-    min (getD upto j 0) (getD ahead (j + y) 0 + j) + max (getD upto j 0) (getD back (32 + j - min y 32) 0 + j) - getD upto j 0
+reached ahead back upto y j = passing ahead back upto (y - 1) j
 
 unfoldable pub track-drawn : (ahead back upto : List ℕ) → (m t y c : ℕ) → ℕ
 track-drawn ahead back upto m t y c = painted (λ j. reached ahead back upto y j) (λ j. reached ahead back upto (suc y) j) (ltb y t) (ltb 0 y) 0 m c 46
@@ -57,11 +61,11 @@ pub record Ends-ask (k : Terminals) (lower upper : ℕ) : Type 0 where
 
 -- the first n pairs are filled in
 pub record Levels-filled (ps qs : List Columns) (lower upper n : ℕ) (ahead back upto : List ℕ) : Type 0 where
-  pub sized-ahead : length ahead ≡ 98
+  pub sized-ahead : length ahead ≡ 96
   pub sized-back : length back ≡ 64
   pub sized-upto : length upto ≡ 32
   pub ahead-are : (j : ℕ) → j < n → getD ahead j 0 ≡ lower + getD ps j (columns 0) .0 - j
-  pub ahead-none : (j : ℕ) → n ≤ j → j < 98 → getD ahead j 0 ≡ 64
+  pub ahead-none : (j : ℕ) → n ≤ j → j < 96 → getD ahead j 0 ≡ 64
   pub back-are : (j : ℕ) → j < n → getD back (32 + j) 0 ≡ lower + getD ps j (columns 0) .0 - j
   pub back-none : (j : ℕ) → j < 32 → getD back j 0 ≡ 0
   pub upto-are : (j : ℕ) → j < n → getD upto j 0 ≡ upper + getD qs j (columns 0) .0

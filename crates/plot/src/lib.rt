@@ -20,6 +20,7 @@ ghost use Rattle.plot.specs.Drawing.{
   Levels-filled,
   Page-put,
 };
+use numbers::difference;
 use stack::Columns;
 use stack::Terminals;
 use stack::Tracks;
@@ -30,8 +31,9 @@ use track::put_row;
 
 const PAIRS: usize = Terminals::MAX_PAIRS;
 
-// The greatest separation of a page is 64, and a path may be asked for its arrival at the track behind: so many pairs from the first on, with none behind the last.
-const AHEAD: usize = 98;
+// The greatest separation of a page is 64, and a path may be asked for its arrival at the track behind, where it may have passed 64 terminals: so many pairs from the first on,
+// with none behind the last.
+const AHEAD: usize = 96;
 
 // As many pairs back from the last, with none before the first.
 const BACK: usize = 64;
@@ -90,6 +92,13 @@ fn arrival(q: u8, ahead: u8, back: u8, j: usize) -> u8
     lesser(q, ahead + pair) + greater(q, back + pair) - q
 }
 
+// The terminals that a path has passed when it comes to track y: it runs one track above the one that document 02's P1 counts (P4), and stands upright below.
+fn terminals_passed(y: usize) -> usize
+    ensures { λ r. ⌜ r ≡ y - 1 ⌝ }
+{
+    difference(y as u64, 1) as usize
+}
+
 // The arrivals of all paths at track y.
 fn fill_arrivals(
     at: &mut [u8; PAIRS],
@@ -101,17 +110,18 @@ fn fill_arrivals(
     requires { ⌜ (length (now at) ≡ 32) × Levels-low (now ahead) (now back) (now upto) × (y ≤ 65) ⌝ }
     ensures { λ _. ⌜ now (at .exit) ≡ tabulate 32 0 (λ j. reached (now (ahead .entry)) (now (back .entry)) (now (upto .entry)) y j) ⌝ }
 {
-    let behind = within(y);
+    let passed = terminals_passed(y);
+    let behind = within(passed);
     for j in 0..PAIRS {
-        at[j] = arrival(upto[j], ahead[j + y], back[PAIRS + j - behind], j);
+        at[j] = arrival(upto[j], ahead[j + passed], back[PAIRS + j - behind], j);
     }
 }
 
 // A number of pairs back: from the first pair's place on there are none.
-fn within(y: usize) -> usize
-    ensures { λ r. ⌜ r ≡ min y 32 ⌝ }
+fn within(passed: usize) -> usize
+    ensures { λ r. ⌜ r ≡ min passed 32 ⌝ }
 {
-    if y < PAIRS { y } else { PAIRS }
+    if passed < PAIRS { passed } else { PAIRS }
 }
 
 // The lines of tracks t to 0, each directly behind the line before it: the output's part from there on is lent on to the line's writer.
@@ -156,7 +166,7 @@ fn fill_ends(
     back: &mut [u8; BACK],
     upto: &mut [u8; PAIRS],
 )
-    requires { ⌜ Ends-ask terminals (lower .0) (upper .0) × (now ahead ≡ replicate 98 64) × (now back ≡ replicate 64 0) × (now upto ≡ replicate 32 0) ⌝ }
+    requires { ⌜ Ends-ask terminals (lower .0) (upper .0) × (now ahead ≡ replicate 96 64) × (now back ≡ replicate 64 0) × (now upto ≡ replicate 32 0) ⌝ }
     ensures { λ _. ⌜ Levels-filled (terminals .lower) (terminals .upper) (lower .0) (upper .0) (terminals .count) (now (ahead .exit)) (now (back .exit)) (now (upto .exit)) ⌝ }
 {
     let ps = terminals.lower;
@@ -169,7 +179,7 @@ fn fill_ends(
     }
 }
 
-// Document 02, P1: the page of a channel at a separation between strips at two positions, over the output's first bytes, where there is space for it; its length.
+// Document 02, P1 and P4: the page of a channel at a separation between strips at two positions, over the output's first bytes, where there is space for it; its length.
 pub fn put_page(
     terminals: Terminals,
     separation: Tracks,

@@ -1,7 +1,9 @@
 -- channel_limits meets its contract: the loop keeps Filling. Assumes nothing.
 use mathlib.Core.Path.{ap, _∙_}
 use Prim.Native.Nat.{_-_}
+use native.Mathlib.Numerals.{add-one}
 use native.Mathlib.Omega.{arith}
+use lib.ListN.{length-set}
 use borrow.Author.Count.{falls}
 use Rattle.stack.specs.Stack.{channel}
 use Rattle.stack.specs.Value.{channel-of}
@@ -48,6 +50,9 @@ greatest-term-requires c κs =
 raised-requires : tie.Need-raised-requires Inv-loop μ-loop
 raised-requires c κs = search needs
 
+add-low : tie.Need-add-low Inv-loop μ-loop
+add-low c = search needs
+
 mul-low : tie.Need-mul-low Inv-loop μ-loop
 mul-low c = search needs
 
@@ -65,6 +70,9 @@ least-term-requires c κs =
 raised-requires-2 : tie.Need-raised-requires-2 Inv-loop μ-loop
 raised-requires-2 c κs = search needs
 
+add-high : tie.Need-add-high Inv-loop μ-loop
+add-high c = search needs
+
 mul-high-2 : tie.Need-mul-high-2 Inv-loop μ-loop
 mul-high-2 c = search needs
 
@@ -78,9 +86,24 @@ loop-less : tie.Need-loop-less Inv-loop μ-loop
 loop-less c = falls _ _ (c .before .before .before .before .before .before .before .before .loop-test .taken)
 
 loop-again : tie.Need-loop-again Inv-loop μ-loop
-loop-again c = filling-steps _ _ _ (c .before .before .before .before .before .before .before .before .before .loop .t) (c .before .before .before .before .before .before .before .before .before .loop .low) (c .before .before .before .before .before .before .before .before .before .loop .high) (c .before .before .before .before .raised .result) (c .raised2 .result) (c .before .before .before .before .before .before .before .before .loop-test .taken) (c .before .before .before .before .before .before .before .before .before .before .before .before .before .before .before .before .pre .0 .0) (c .before .before .before .before .before .before .before .before .before .loop .inv)
+loop-again c =
+    let a = c .before .before .before .before .before .before .before .before in
+    let loop = a .before .loop in
+    filling-steps _ _ _ (loop .t) _ _ (loop .low) (loop .high) (c .before .before .before .before .raised .result) (c .raised2 .result) (a .loop-test .taken) (add-one (loop .t)) (add-one (loop .t)) (loop .inv)
     (c .before .before .before .before .raised .ensures ∙ ap (λ x. raised x) (c .before .before .before .before .before .greatest-term .ensures))
     (c .raised2 .ensures ∙ ap (λ x. raised x) (c .before .least-term .ensures))
+
+array-read-low : tie.Need-array-read-low Inv-loop μ-loop
+array-read-low c = search needs
+
+array-write-low-2 : tie.Need-array-write-low-2 Inv-loop μ-loop
+array-write-low-2 c = search needs
+
+array-read-high : tie.Need-array-read-high Inv-loop μ-loop
+array-read-high c = search needs
+
+array-write-high-2 : tie.Need-array-write-high-2 Inv-loop μ-loop
+array-write-high-2 c = search needs
 
 mul-close-below : tie.Need-mul-close-below Inv-loop μ-loop
 mul-close-below c = search needs
@@ -89,19 +112,19 @@ close-below-requires : tie.Need-close-below-requires Inv-loop μ-loop
 close-below-requires c κs =
     let a = c .before .before .before .before .before .before .before .before .before in
     let loop = c .before .before .loop in
-    (a .pre .0 .1, filling-long _ _ _ (loop .t) (loop .low) (loop .high) (a .pre .0 .0) (loop .inv) .0)
+    (a .pre .0 .1, length-set (loop .low) 0 _ ∙ filling-long _ _ _ (loop .t) (loop .low) (loop .high) (loop .inv) .0)
 
 close-below-requires-2 : tie.Need-close-below-requires-2 Inv-loop μ-loop
 close-below-requires-2 c κs =
     let a = c .before .before .before .before .before .before .before .before .before .before .before in
     let loop = c .before .before .before .before .loop in
-    (a .pre .0 .1, filling-long _ _ _ (loop .t) (loop .low) (loop .high) (a .pre .0 .0) (loop .inv) .1)
+    (a .pre .0 .1, length-set (loop .high) 0 _ ∙ filling-long _ _ _ (loop .t) (loop .low) (loop .high) (loop .inv) .1)
 
 returns : tie.Need-returns Inv-loop μ-loop
 returns c =
     let a = c .before .before .before .before .before .before .before .before .before .before .before .before in
     let loop = c .before .before .before .before .before .loop in
-    limits-closed (channel (channel-of (a .args .terminals)) (a .args .floor .0)) (loop .low) (loop .high) _ _
+    limits-closed (channel (channel-of (a .args .terminals)) (a .args .floor .0)) _ _ _ _
     (filling-ends (a .args .terminals) (loop .t) _ _ _ _ (loop .low) (loop .high) (a .pre .0 .0) (a .pre .1) (c .before .before .before .before .loop-test .left)
     (c .before .before .before .before .before .before .before .before .before .narrowed .ensures) (c .before .before .before .before .before .before .before .before .narrowed2 .ensures) (c .before .before .before .before .before .before .before .narrowed3 .ensures) (c .before .before .before .before .before .before .narrowed4 .ensures) (loop .inv))
     (c .before .before .close-below .ensures) (c .close-below2 .ensures)
@@ -120,15 +143,21 @@ channel-limits-spec =
     loop-holds
     greatest-term-requires
     raised-requires
+    add-low
     mul-low
     array-write-low
     least-term-requires
     raised-requires-2
+    add-high
     mul-high-2
     array-write-high
     add-t
     loop-less
     loop-again
+    array-read-low
+    array-write-low-2
+    array-read-high
+    array-write-high-2
     mul-close-below
     close-below-requires
     close-below-requires-2

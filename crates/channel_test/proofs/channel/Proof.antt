@@ -6,63 +6,48 @@ use borrow.Author.Needs.{needs}
 use Rattle.channel_test.proofs.channel.Statement.{statement}
 use Rattle.channel_test.proofs.channel.Tie as tie
 
--- src/main.rt:111:9
 next-number-requires : tie.Need-next-number-requires
 next-number-requires c κs = search needs
 
--- src/main.rt:112:13
 cast-m : tie.Need-cast-m
 cast-m c = search needs
 
--- src/main.rt:114:42
 mul-read-values : tie.Need-mul-read-values
 mul-read-values c = search needs
 
--- src/main.rt:114:9
 read-values-requires : tie.Need-read-values-requires
 read-values-requires c κs = search needs
 
--- src/main.rt:115:43
 longest-requires : tie.Need-longest-requires
 longest-requires c κs = search needs
 
--- src/main.rt:115:54
 longest-requires-2 : tie.Need-longest-requires-2
 longest-requires-2 c κs = search needs
 
--- src/main.rt:115:9
 new-requires : tie.Need-new-requires
 new-requires c κs = search needs
 
--- src/main.rt:117:9
 is-good-requires : tie.Need-is-good-requires
 is-good-requires c κs = search needs
 
--- src/main.rt:118:26
 slice-aggregate-write-all : tie.Need-slice-aggregate-write-all
 slice-aggregate-write-all c = search needs
 
--- src/main.rt:118:9
 write-all-requires : tie.Need-write-all-requires
 write-all-requires c κs = search needs
 
--- src/main.rt:119:9
 returns : tie.Need-returns
 returns c = search needs
 
--- src/main.rt:122:22
 slice-aggregate-write-all-2 : tie.Need-slice-aggregate-write-all-2
 slice-aggregate-write-all-2 c = search needs
 
--- src/main.rt:122:5
 write-all-requires-2 : tie.Need-write-all-requires-2
 write-all-requires-2 c κs = search needs
 
--- src/main.rt:123:5
 print-number-requires : tie.Need-print-number-requires
 print-number-requires c κs = search needs
 
--- src/main.rt:124:18
 channel-limits-requires : tie.Need-channel-limits-requires
 channel-limits-requires c κs =
     let made = c .before .before .before .before .before .before in (
@@ -70,15 +55,15 @@ channel-limits-requires c κs =
       on-longer _ _ 1000 1000 _ (made .before .before .longest .ensures) (made .before .longest2 .ensures) (made-on-strips _ _ _ _ (made .new .result) (made .new .ensures)),
     )
 
--- src/main.rt:124:5
+closed-separations-requires : tie.Need-closed-separations-requires
+closed-separations-requires c κs = search needs
+
 print-limits-requires : tie.Need-print-limits-requires
 print-limits-requires c κs = search needs
 
--- src/main.rt:125:5
 print-all-feasible-requires : tie.Need-print-all-feasible-requires
-print-all-feasible-requires c κs = made-few _ _ _ _ (c .before .before .before .before .before .before .before .before .new .result) (c .before .before .before .before .before .before .before .before .new .ensures)
+print-all-feasible-requires c κs = made-few _ _ _ _ (c .before .before .before .before .before .before .before .before .before .new .result) (c .before .before .before .before .before .before .before .before .before .new .ensures)
 
--- src/main.rt:110:1
 returns-2 : tie.Need-returns-2
 returns-2 c = search needs
 
@@ -101,6 +86,7 @@ channel-spec =
     write-all-requires-2
     print-number-requires
     channel-limits-requires
+    closed-separations-requires
     print-limits-requires
     print-all-feasible-requires
     returns-2)

@@ -12,59 +12,45 @@ Inv-loop text n at₀ counter₀ end at counter = (counter ≤ end) × (n ≤ le
 abbrev μ-loop : tie.MeasureT-loop
 μ-loop text n at₀ counter₀ end at counter = end - counter
 
--- src/main.rt:129:20
 large-buffer-requires : tie.Need-large-buffer-requires Inv-loop μ-loop
 large-buffer-requires c κs = search needs
 
--- src/main.rt:130:30
 slice-aggregate-read-full : tie.Need-slice-aggregate-read-full Inv-loop μ-loop
 slice-aggregate-read-full c = search needs
 
--- src/main.rt:130:9
 read-full-requires : tie.Need-read-full-requires Inv-loop μ-loop
 read-full-requires c κs = search needs
 
--- src/main.rt:131:32
 array-share-prefix-text : tie.Need-array-share-prefix-text Inv-loop μ-loop
 array-share-prefix-text c = search needs
 
--- src/main.rt:131:32
 slice-aggregate-next-number : tie.Need-slice-aggregate-next-number Inv-loop μ-loop
 slice-aggregate-next-number c = search needs
 
--- src/main.rt:131:9
 next-number-requires : tie.Need-next-number-requires Inv-loop μ-loop
 next-number-requires c κs = search needs
 
--- src/main.rt:133:5
 loop-holds : tie.Need-loop-holds Inv-loop μ-loop
 loop-holds c = search needs
 
--- src/main.rt:134:22
 array-share-prefix-text-2 : tie.Need-array-share-prefix-text-2 Inv-loop μ-loop
 array-share-prefix-text-2 c = search needs
 
--- src/main.rt:134:22
 slice-aggregate-channel : tie.Need-slice-aggregate-channel Inv-loop μ-loop
 slice-aggregate-channel c = search needs
 
--- src/main.rt:134:9
 channel-requires : tie.Need-channel-requires Inv-loop μ-loop
 channel-requires c κs = search needs
 
--- src/main.rt:133:9
 add-counter : tie.Need-add-counter Inv-loop μ-loop
 add-counter c = search needs
 
--- src/main.rt:133:5
 loop-less : tie.Need-loop-less Inv-loop μ-loop
 loop-less c = falls _ _ (c .before .before .loop-test .taken)
 
--- src/main.rt:133:5
 loop-again : tie.Need-loop-again Inv-loop μ-loop
 loop-again c = search needs
 
--- src/main.rt:128:1
 returns : tie.Need-returns Inv-loop μ-loop
 returns c = search needs
 

@@ -11,43 +11,33 @@ Inv-loop terminals text from at₀ counter₀ end at counter = counter ≤ end
 abbrev μ-loop : tie.MeasureT-loop
 μ-loop terminals text from at₀ counter₀ end at counter = end - counter
 
--- src/main.rt:79:9
 next-number-requires : tie.Need-next-number-requires Inv-loop μ-loop
 next-number-requires c κs = search needs
 
--- src/main.rt:81:5
 loop-holds : tie.Need-loop-holds Inv-loop μ-loop
 loop-holds c = search needs
 
--- src/main.rt:82:13
 next-number-requires-2 : tie.Need-next-number-requires-2 Inv-loop μ-loop
 next-number-requires-2 c κs = search needs
 
--- src/main.rt:83:13
 next-number-requires-3 : tie.Need-next-number-requires-3 Inv-loop μ-loop
 next-number-requires-3 c κs = search needs
 
--- src/main.rt:84:9
 print-positions-requires : tie.Need-print-positions-requires Inv-loop μ-loop
 print-positions-requires c κs = search needs
 
--- src/main.rt:85:9
 print-feasible-requires : tie.Need-print-feasible-requires Inv-loop μ-loop
 print-feasible-requires c κs = search needs
 
--- src/main.rt:81:9
 add-counter : tie.Need-add-counter Inv-loop μ-loop
 add-counter c = search needs
 
--- src/main.rt:81:5
 loop-less : tie.Need-loop-less Inv-loop μ-loop
 loop-less c = falls _ _ (c .before .before .before .before .loop-test .taken)
 
--- src/main.rt:81:5
 loop-again : tie.Need-loop-again Inv-loop μ-loop
 loop-again c = search needs
 
--- src/main.rt:76:1
 returns : tie.Need-returns Inv-loop μ-loop
 returns c = search needs
 

@@ -6,48 +6,38 @@ use Rattle.channel_test.proofs.print_feasible.Statement.{statement}
 use Rattle.channel_test.proofs.print_feasible.Tie as tie
 
 abbrev Inv-loop : tie.InvT-loop
-Inv-loop terminals lower upper t₀ t = t ≤ 34
+Inv-loop terminals lower upper t₀ t = t ≤ 35
 
 abbrev μ-loop : tie.MeasureT-loop
-μ-loop terminals lower upper t₀ t = 34 - t
+μ-loop terminals lower upper t₀ t = 35 - t
 
--- src/main.rt:61:5
 loop-holds : tie.Need-loop-holds Inv-loop μ-loop
 loop-holds c = search needs
 
--- src/main.rt:62:17
 cast-if1 : tie.Need-cast-if1 Inv-loop μ-loop
 cast-if1 c = search needs
 
--- src/main.rt:62:17
 add-if1 : tie.Need-add-if1 Inv-loop μ-loop
 add-if1 c = search needs
 
--- src/main.rt:63:23
 is-feasible-requires : tie.Need-is-feasible-requires Inv-loop μ-loop
 is-feasible-requires c κs = search needs
 
--- src/main.rt:63:13
 print-bit-requires : tie.Need-print-bit-requires Inv-loop μ-loop
 print-bit-requires c κs = search needs
 
--- src/main.rt:61:9
 add-t : tie.Need-add-t Inv-loop μ-loop
 add-t c = search needs
 
--- src/main.rt:61:5
 loop-less : tie.Need-loop-less Inv-loop μ-loop
 loop-less c = falls _ _ (c .before .before .loop-test .taken)
 
--- src/main.rt:61:5
 loop-again : tie.Need-loop-again Inv-loop μ-loop
 loop-again c = search needs
 
--- src/main.rt:66:5
 end-line-requires : tie.Need-end-line-requires Inv-loop μ-loop
 end-line-requires c κs = search needs
 
--- src/main.rt:58:1
 returns : tie.Need-returns Inv-loop μ-loop
 returns c = search needs
 

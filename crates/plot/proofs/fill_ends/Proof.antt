@@ -13,67 +13,51 @@ Inv-loop lower upper ahead₀ back₀ upto₀ ps qs j₀ j-end ahead back upto j
 abbrev μ-loop : tie.MeasureT-loop
 μ-loop lower upper ahead₀ back₀ upto₀ ps qs j₀ j-end ahead back upto j = j-end - j
 
--- src/lib.rt:328:5
 loop-holds : tie.Need-loop-holds Inv-loop μ-loop
 loop-holds c = (omega arith, c .before .before .pre .0 .few, levels-start _ _ _ _ _ _ _ (c .before .before .pre .1) (c .before .before .pre .2) (c .before .before .pre .3))
 
--- src/lib.rt:329:35
 mul-column : tie.Need-mul-column Inv-loop μ-loop
 mul-column c = search needs
 
--- src/lib.rt:329:35
 array-copy-out-column : tie.Need-array-copy-out-column Inv-loop μ-loop
 array-copy-out-column c = search needs
 
--- src/lib.rt:329:21
 column-requires : tie.Need-column-requires Inv-loop μ-loop
 column-requires c κs = c .before .before .before .before .before .pre .0 .lower-shown (c .before .before .loop .j) (c .before .loop-test .taken)
 
--- src/lib.rt:329:44
 cast-level : tie.Need-cast-level Inv-loop μ-loop
 cast-level c = search needs
 
--- src/lib.rt:329:21
 sub-level : tie.Need-sub-level Inv-loop μ-loop
 sub-level c = omega (arith, c .column .ensures, c .before .before .before .before .before .before .pre .0 .past (c .before .before .before .loop .j) (c .before .before .loop-test .taken))
 
--- src/lib.rt:330:9
 element-write-ahead : tie.Need-element-write-ahead Inv-loop μ-loop
 element-write-ahead c = search needs
 
--- src/lib.rt:331:14
 add-back : tie.Need-add-back Inv-loop μ-loop
 add-back c = search needs
 
--- src/lib.rt:331:9
 element-write-back : tie.Need-element-write-back Inv-loop μ-loop
 element-write-back c = search needs
 
--- src/lib.rt:332:33
 mul-column-2 : tie.Need-mul-column-2 Inv-loop μ-loop
 mul-column-2 c = search needs
 
--- src/lib.rt:332:33
 array-copy-out-column-2 : tie.Need-array-copy-out-column-2 Inv-loop μ-loop
 array-copy-out-column-2 c = search needs
 
--- src/lib.rt:332:19
 column-requires-2 : tie.Need-column-requires-2 Inv-loop μ-loop
 column-requires-2 c κs = c .before .before .before .before .before .before .before .pre .0 .upper-shown (c .before .before .before .before .loop .j) (c .before .before .before .loop-test .taken)
 
--- src/lib.rt:332:9
 element-write-upto : tie.Need-element-write-upto Inv-loop μ-loop
 element-write-upto c = search needs
 
--- src/lib.rt:328:9
 add-j : tie.Need-add-j Inv-loop μ-loop
 add-j c = search needs
 
--- src/lib.rt:328:5
 loop-less : tie.Need-loop-less Inv-loop μ-loop
 loop-less c = search needs
 
--- src/lib.rt:328:5
 loop-again : tie.Need-loop-again Inv-loop μ-loop
 loop-again c =
     let loop = c .before .before .before .before .before .loop in
@@ -85,7 +69,6 @@ loop-again c =
           (c .column2 .ensures) (omega (arith, c .column2 .ensures, asks .upper-shown (loop .j) taken)) (loop .inv .2),
     )
 
--- src/lib.rt:315:1
 returns : tie.Need-returns Inv-loop μ-loop
 returns c = levels-done _ _ _ _ (c .before .loop .j) _ _ _ _ (c .loop-test .left) (c .before .loop .inv .0) (c .before .loop .inv .2)
 

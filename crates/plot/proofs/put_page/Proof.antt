@@ -7,27 +7,21 @@ use borrow.Author.Needs.{needs}
 use Rattle.plot.proofs.put_page.Statement.{statement}
 use Rattle.plot.proofs.put_page.Tie as tie
 
--- src/lib.rt:357:13
 cast-t : tie.Need-cast-t
 cast-t c = search needs
 
--- src/lib.rt:358:31
 add-bytes : tie.Need-add-bytes
 add-bytes c = search needs
 
--- src/lib.rt:358:17
 mul-bytes : tie.Need-mul-bytes
 mul-bytes c = search needs
 
--- src/lib.rt:360:9
 returns : tie.Need-returns
 returns c = page-left-out _ _ _ _ (omega (arith, c .before .before .before .pre .1)) _ (search needs)
 
--- src/lib.rt:365:5
 fill-ends-requires : tie.Need-fill-ends-requires
 fill-ends-requires c κs = (ends-asked (c .before .before .before .before .before .before .args .terminals) _ _ _ (c .before .before .before .before .before .before .pre .0), refl, refl, refl)
 
--- src/lib.rt:366:5
 put-tracks-requires : tie.Need-put-tracks-requires
 put-tracks-requires c κs =
     let start = c .before .before .before .before .before .before .before .before .before .before .before in
@@ -39,11 +33,9 @@ put-tracks-requires c κs =
       start .pre .1,
     )
 
--- src/lib.rt:347:1
 same-length : tie.Need-same-length
 same-length c = search needs
 
--- src/lib.rt:347:1
 returns-2 : tie.Need-returns-2
 returns-2 c =
     let start = c .before .before .before .before .before .before .before .before .before .before .before .before .before .before in

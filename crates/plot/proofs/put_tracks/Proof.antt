@@ -17,45 +17,35 @@ Inv-loop out₀ ahead back upto m t starts₀ at₀ y₀ out starts at y = Lines
 abbrev μ-loop : tie.MeasureT-loop
 μ-loop out₀ ahead back upto m t starts₀ at₀ y₀ out starts at y = y
 
--- src/lib.rt:303:51
 add-fill-arrivals : tie.Need-add-fill-arrivals Inv-loop μ-loop
 add-fill-arrivals c = search needs
 
--- src/lib.rt:303:5
 fill-arrivals-requires : tie.Need-fill-arrivals-requires Inv-loop μ-loop
 fill-arrivals-requires c κs = (refl, c .before .before .pre .0, omega (arith, c .before .before .pre .4))
 
--- src/lib.rt:305:17
 add-y : tie.Need-add-y Inv-loop μ-loop
 add-y c = search needs
 
--- src/lib.rt:306:5
 loop-holds : tie.Need-loop-holds Inv-loop μ-loop
 loop-holds c = (lines-start _ _ _, c .fill-arrivals .ensures)
 
--- src/lib.rt:307:9
 sub-y : tie.Need-sub-y Inv-loop μ-loop
 sub-y c = search needs
 
--- src/lib.rt:309:9
 fill-arrivals-requires-2 : tie.Need-fill-arrivals-requires-2 Inv-loop μ-loop
 fill-arrivals-requires-2 c κs =
     let inv = c .before .before .loop .inv in
     (rw (inv .1) (length-tabulate 32 0 _), c .before .before .before .before .before .before .pre .0, omega (arith, inv .0 .place, c .before .before .before .before .before .before .pre .4))
 
--- src/lib.rt:310:19
 sub-put-track : tie.Need-sub-put-track Inv-loop μ-loop
 sub-put-track c = omega (arith, c .before .before .before .loop .inv .0 .place, c .before .before .before .loop .inv .0 .same-length, c .before .before .before .before .before .before .before .pre .3)
 
--- src/lib.rt:310:19
 part-put-track-start : tie.Need-part-put-track-start Inv-loop μ-loop
 part-put-track-start c = omega (arith, c .before .before .before .loop .inv .0 .place, c .before .before .before .loop .inv .0 .same-length, c .before .before .before .before .before .before .before .pre .3)
 
--- src/lib.rt:310:19
 part-put-track-end : tie.Need-part-put-track-end Inv-loop μ-loop
 part-put-track-end c = search needs
 
--- src/lib.rt:310:9
 put-track-requires : tie.Need-put-track-requires Inv-loop μ-loop
 put-track-requires c κs =
     let inv = c .before .before .before .before .before .before .loop .inv in
@@ -68,15 +58,12 @@ put-track-requires c κs =
       omega (arith, inv .0 .place, pre .4),
     )
 
--- src/lib.rt:311:9
 add-at : tie.Need-add-at Inv-loop μ-loop
 add-at c = omega (arith, c .before .before .before .before .before .before .before .before .before .loop .inv .0 .place, c .before .before .before .before .before .before .before .before .before .before .before .before .before .pre .4)
 
--- src/lib.rt:306:5
 loop-less : tie.Need-loop-less Inv-loop μ-loop
 loop-less c = omega (arith, c .before .before .before .before .before .before .before .before .loop-test .taken)
 
--- src/lib.rt:306:5
 loop-again : tie.Need-loop-again Inv-loop μ-loop
 loop-again c =
     let args = c .before .before .before .before .before .before .before .before .before .before .before .before .before .args in
@@ -88,11 +75,9 @@ loop-again c =
       filled,
     )
 
--- src/lib.rt:291:1
 same-length : tie.Need-same-length Inv-loop μ-loop
 same-length c = c .before .loop .inv .0 .same-length
 
--- src/lib.rt:291:1
 returns : tie.Need-returns Inv-loop μ-loop
 returns c = lines-end _ _ _ _ _ _ (c .loop-test .left) (c .before .loop .inv .0)
 
