@@ -59,7 +59,7 @@ pairs-bounded b s l u t c w h e =
     greatest-at-most b (c .pairs) t (length (c .pairs) - t) (2 * b) (λ i j. omega (arith, terminals-on l u (c .pairs) (search ands) i (omega arith)))
 
 pub low-bounded : (b s l u t : ℕ) (c : Channel) → s + 32 ≤ b → l ≤ s → channel-within l u c ≡ true → low-floored b c t ≤ 2 * b
-low-bounded b s l u t c w h e = low-floored-bounded b c t (pairs-bounded b s l u t c w h e)
+low-bounded b s l u t c w h e = low-floored-bounded b c t (pairs-bounded b s l u (t - 1) c w h e)
 
 pub longest-bounds : (l : ℕ) (ls : List ℕ) (s : ℕ) → longest (l ∷ ls) ≤ s → (l ≤ s) × (longest ls ≤ s)
 unfolding longest

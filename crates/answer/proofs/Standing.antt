@@ -20,7 +20,7 @@ use Rattle.stack.specs.declared.Stack.{Stack as Stack-struct}
 use Rattle.stack.specs.Sizes.{channels-held, strips-held, separations-held, totals-held}
 use Rattle.stack.proofs.Values.{channel-length, stack-channel}
 use Rattle.stack.proofs.Within.{strips-length, channel-in-limits, few-channels, few-pairs, small-floor, stack-channels, stack-strip}
-use Rattle.channel.specs.Limits.{low-floored, high-floored, Limits-of}
+use Rattle.channel.specs.Limits.{low-floored, high-floored, open-from, Limits-of}
 use Rattle.channel.proofs.Floors.{high-floored-bounded}
 use Rattle.channel.specs.declared.Limits.{Limits}
 use Rattle.spans.specs.Spans.{nonempty}
@@ -85,7 +85,7 @@ sides-set limits n x y h two =
     rw (getD-set-same limits n (set (sides limits n) 0 x) [] h, pair-set (sides limits n) x y two) (set-set limits n (set (sides limits n) 0 x) (x ∷ y ∷ []))
 
 pub limits-step : (k : Stack-struct) (n last : ℕ) (limits : List (List (List ℕ))) (lasts : List ℕ) (r : Limits) → n < k .count → k .count ≤ channels-held →
-    Limits-in (stack-of k) n limits lasts → Limits-of (channel-at k n) r → last ≡ max (getD (k .channels) n no-terminals .count) (floor-at k n) →
+    Limits-in (stack-of k) n limits lasts → Limits-of (channel-at k n) r → last ≡ max (open-from (getD (k .channels) n no-terminals .count)) (floor-at k n) →
     Limits-in (stack-of k) (n + 1) (side-set (side-set limits n 0 (r .low)) n 1 (r .high)) (set lasts n last)
 limits-step k n last limits lasts r h few s l e =
     rw (sides-set limits n (r .low) (r .high) (omega (arith, s .sized-limits)) (s .two n (omega arith)))
@@ -288,7 +288,7 @@ module _ (k : Stack-struct) (limits : List (List (List ℕ))) (lasts : List ℕ)
       record {
         channels = few-channels k e;
         listed = λ i h.
-            let last : entry lasts i ≡ max (getD (k .channels) i no-terminals .count) (floor-at k i) =
+            let last : entry lasts i ≡ max (open-from (getD (k .channels) i no-terminals .count)) (floor-at k i) =
             rw (stack-channel k i h, channel-length (getD (k .channels) i no-terminals)) at (l .lasts-are i h) in
             omega (arith, few-pairs k e i h, small-floor k e i h);
       }

@@ -4,7 +4,7 @@ use mathlib.Core.List.{List, [], _∷_}
 use Prim.Native.Nat.{ℕ, suc, _+_, _-_, max}
 use lib.ListN.{length, getD, drop}
 use Rattle.stack.specs.Stack.{Channel, Stack}
-use Rattle.channel.specs.Limits.{low-floored, high-floored}
+use Rattle.channel.specs.Limits.{low-floored, high-floored, open-from}
 use Rattle.spans.specs.Spans.{Span, span, Limit}
 use Rattle.spans.specs.Solver.{Level, level, least-total, separations, positions}
 use Rattle.arrays.specs.Arrays.{limits-from}
@@ -13,9 +13,9 @@ use Rattle.arrays.specs.Arrays.{limits-from}
 unfoldable pub window : (s length : ℕ) → Span
 window s l = span 0 (suc s - l)
 
--- the last separation of use in a channel, its count of pairs or its floor: there the limits leave every offset open
+-- the last separation of use in a channel, where its limits leave every offset open: from which on those of its pairs do, or its floor
 abbrev pub last-use : Channel → ℕ
-last-use c = max (length (c .pairs)) (c .floor)
+last-use c = max (open-from (length (c .pairs))) (c .floor)
 
 -- a channel's limits for the separations up to the last of use
 unfoldable pub channel-limits : (b : ℕ) → Channel → List Limit

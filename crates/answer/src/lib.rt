@@ -8,6 +8,7 @@ ghost use Rattle.stack.specs.Sizes.{channels-held, strips-held};
 ghost use Rattle.stack.specs.Limits.{within-limits};
 ghost use Rattle.stack.specs.Value.{tracks-of, columns-of, stack-of};
 ghost use Rattle.stack.specs.Stack.{longest};
+ghost use Rattle.channel.specs.Limits.{open-from};
 ghost use Rattle.answer.specs.Arrays.{Limits-in, Windows-in, Limits-sized, Held, Placed-is, Answer-is};
 ghost use Rattle.answer.specs.Solve.{answer-total};
 use arrays::ABOVE;
@@ -30,12 +31,22 @@ use stack::Columns;
 use stack::Stack;
 use stack::Tracks;
 
-// The last separation of use in a channel with so many pairs and this floor: there the limits leave every offset open.
-fn last_use(pairs: usize, floor: Tracks) -> usize
-    ensures { λ r. ⌜ r ≡ max pairs (floor .0) ⌝ }
+// The separation from which on the limits of so many pairs leave every offset open: one more than there are pairs, and 0 without pairs.
+fn open_from(pairs: usize) -> usize
+    requires { ⌜ pairs ≤ 32 ⌝ }
+    ensures { λ r. ⌜ r ≡ open-from pairs ⌝ }
 {
+    if 0 < pairs { pairs + 1 } else { 0 }
+}
+
+// The last separation of use in a channel with so many pairs and this floor: there its limits leave every offset open.
+fn last_use(pairs: usize, floor: Tracks) -> usize
+    requires { ⌜ pairs ≤ 32 ⌝ }
+    ensures { λ r. ⌜ r ≡ max (open-from pairs) (floor .0) ⌝ }
+{
+    let open = open_from(pairs);
     let least = floor.0 as usize;
-    if pairs < least { least } else { pairs }
+    if open < least { least } else { open }
 }
 
 // The limits and the last separations of use of a stack's channels, in the solver's arrays.

@@ -118,8 +118,8 @@ pub fn place_total(text: &[u8], spread: u32, total: Tracks) -> PlacementAnswer
     }
 }
 
-// Enough bytes for the table of every text, whatever its floors: a first line of 8, and at most 257 rows of at most 82.
-pub const TABLE_BYTES: usize = 21082;
+// Enough bytes for the table of every text, whatever its floors: a first line of 8, and at most 265 rows of at most 82.
+pub const TABLE_BYTES: usize = 21738;
 
 // How many bytes of a table or a page were written; none where it is refused.
 pub struct TableAnswer {

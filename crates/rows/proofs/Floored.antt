@@ -1,10 +1,10 @@
--- Where each channel's floor is at least its count of pairs, the floors themselves are the answer in every spread, and every strip stands at the left: no
+-- Where each channel's floor leaves every offset open, the floors themselves are the answer in every spread, and every strip stands at the left: no
 -- separation is below its floor, and the last separations of use, which are the floors then, serve every offset. Assumes nothing.
 use mathlib.Core.Path.{_≡_, refl, ap₂}
 use mathlib.Core.Bool.{Bool, true, _&&_}
 use mathlib.Core.Logic.{_⊎_, inl, inr}
 use mathlib.Core.List.{List, [], _∷_}
-use Prim.Native.Nat.{ℕ, _+_, _≤_, _<_, max}
+use Prim.Native.Nat.{ℕ, _+_, _≤_, _<_, min, max}
 use native.Mathlib.Omega.{arith}
 use lib.Dec.{leb}
 use lib.ListN.{length, getD}
@@ -15,18 +15,20 @@ use Rattle.stack.specs.Stack.{Channel, Stack, stack, channels-good, legal, sum,
 use Rattle.stack.specs.Limits.{channels-within, within-limits}
 use Rattle.stack.proofs.Feasible.{feasible-says}
 use Rattle.stack.proofs.Within.{strips-count}
+use Rattle.channel.specs.Limits.{open-from}
+use Rattle.answer.specs.Solve.{last-use}
 use Rattle.answer.proofs.Legal.{longest-bounds, placed-legal}
 use Rattle.answer.proofs.Alone.{legal-lengths}
 use Rattle.answer.proofs.Answers.{lasts-of, zeros-of, some-placed}
 
--- the floors of channels, and whether their counts of pairs are within them
+-- the floors of channels, and whether with these their pairs leave every offset open
 unfoldable pub floors-of : List Channel → List ℕ
 floors-of [] = []
 floors-of (c ∷ cs) = c .floor ∷ floors-of cs
 
 unfoldable pub all-covered : List Channel → Bool
 all-covered [] = true
-all-covered (c ∷ cs) = leb (length (c .pairs)) (c .floor) && all-covered cs
+all-covered (c ∷ cs) = leb (open-from (length (c .pairs))) (c .floor) && all-covered cs
 
 -- one not above the other, then the rest: not later
 first-not-later : (a b : ℕ) (xs ys : List ℕ) → a ≤ b → not-later xs ys ≡ true → not-later (a ∷ xs) (b ∷ ys) ≡ true
@@ -60,7 +62,7 @@ lasts-are-floors : (cs : List Channel) → all-covered cs ≡ true → lasts-of 
 unfolding lasts-of floors-of all-covered
 lasts-are-floors [] h = refl
 lasts-are-floors (c ∷ cs) h =
-    let most : max (length (c .pairs)) (c .floor) ≡ c .floor = omega (arith, leb-true (length (c .pairs)) (c .floor) (search ands)) in
+    let most : last-use c ≡ c .floor = omega (arith, leb-true (open-from (length (c .pairs))) (c .floor) (search ands)) in
     ap₂ _∷_ most (lasts-are-floors cs (search ands))
 
 floors-legal : (ls : List ℕ) (cs : List Channel) (s : ℕ) → channels-within ls cs ≡ true → longest ls ≤ s → all-covered cs ≡ true →

@@ -1,49 +1,51 @@
 -- Past the sum of the strips' lengths no total falls: separations that are possible in some spread are possible in that one. Strips whose offset is
--- between the limits of a channel with more pairs than tracks touch, and the others can be moved until they do; strips that touch one after another
--- take up no more columns than their lengths together. Assumes nothing.
+-- between the limits of a channel with more pairs than tracks between its edges touch, and the others can be moved until they do; strips that touch one after
+-- another take up no more columns than their lengths together. Assumes nothing.
 use mathlib.Core.Path.{_≡_, refl}
 use mathlib.Core.Bool.{Bool, true, false, _&&_, cond}
 use mathlib.Core.Logic.{_⊎_, inl, inr}
 use mathlib.Core.List.{List, [], _∷_}
-use Prim.Native.Nat.{ℕ, _+_, _*_, _-_, _≤_, _<_, max}
+use Prim.Native.Nat.{ℕ, _+_, _*_, _-_, _≤_, _<_, min, max}
 use native.Mathlib.Omega.{arith}
 use lib.Dec.{ltb, leb}
 use lib.ListN.{length}
 use borrow.Author.Tests.{leb-true, le-leb}
-use Rattle.numbers.proofs.Bools.{ands, and-right, and-both, or-left, impossible}
+use Rattle.numbers.proofs.Bools.{ands, and-right, and-both, impossible}
 use Rattle.numbers.proofs.Orders.{le-or-lt}
-use Rattle.stack.specs.Stack.{Channel, Stack, stack, wirable, feasible, in-spread, channels-good, legal, sum, longest}
+use Rattle.stack.specs.Stack.{Channel, Stack, stack, feasible, in-spread, channels-good, legal, sum, longest}
 use Rattle.stack.specs.Limits.{pairs-within, channel-within, channels-within, strips-within, within-limits}
-use Rattle.stack.proofs.Feasible.{By-pairs, by-pairs-wirable, wirable-by-pairs, feasible-says, says-feasible}
+use Rattle.stack.proofs.Feasible.{By-pairs, by-pairs-clear, clear-by-pairs, feasible-says, says-feasible}
 use Rattle.stack.proofs.OnStrips.{terminals-on}
 use Rattle.stack.proofs.Within.{strips-count, channels-few}
+use Rattle.channel.specs.Limits.{open-from}
 use Rattle.rows.specs.Walk.{widest}
 
-pub feasible-open : (c : Channel) (t x y : ℕ) → c .floor ≤ t → length (c .pairs) ≤ t → feasible c t x y ≡ true
-unfolding wirable
-feasible-open c t x y h k = says-feasible c t x y h (or-left _ _ (le-leb (length (c .pairs)) t k))
+pub feasible-open : (c : Channel) (t x y : ℕ) → c .floor ≤ t → open-from (length (c .pairs)) ≤ t → feasible c t x y ≡ true
+feasible-open c t x y h k =
+    says-feasible c t x y h (by-pairs-clear (c .pairs) t x y (record { left = λ j i e l. absurd (omega arith); right = λ j i e l. absurd (omega arith) }))
 
 -- feasibility goes by the offset alone
 feasible-moved : (c : Channel) (t x y x′ y′ : ℕ) → y + x′ ≡ y′ + x → feasible c t x y ≡ true → feasible c t x′ y′ ≡ true
 feasible-moved c t x y x′ y′ e f =
     let both = feasible-says c t x y f in
-    let g : By-pairs (c .pairs) t x y = wirable-by-pairs (c .pairs) t x y (both .1) in
+    let g : By-pairs (c .pairs) (t - 1) x y = clear-by-pairs (c .pairs) t x y (both .1) in
     says-feasible c t x′ y′ (both .0)
-    (by-pairs-wirable (c .pairs) t x′ y′
+    (by-pairs-clear (c .pairs) t x′ y′
     (record { left = λ j i h l. omega (arith, g .left j i h l); right = λ j i h l. omega (arith, g .right j i h l) }))
 
--- with more pairs than tracks the strips touch
+-- where some offset is closed there are more pairs than tracks between the edges, and the strips touch
 record Touch (l u x y : ℕ) : Type 0 where
   pub right : y ≤ x + l
   pub left : x ≤ y + u
 
-touch : (l u t x y : ℕ) (c : Channel) → channel-within l u c ≡ true → t < length (c .pairs) → feasible c t x y ≡ true → Touch l u x y
+touch : (l u t x y : ℕ) (c : Channel) → channel-within l u c ≡ true → t < open-from (length (c .pairs)) → feasible c t x y ≡ true → Touch l u x y
 unfolding channel-within pairs-within
 touch l u t x y c e h f =
-    let g : By-pairs (c .pairs) t x y = wirable-by-pairs (c .pairs) t x y (feasible-says c t x y f .1) in
-    let z : 0 + t ≡ t = omega arith in
-    let on = terminals-on l u (c .pairs) (search ands) t h in
-    omega (arith, g .left 0 t z h, g .right 0 t z h)
+    let g : By-pairs (c .pairs) (t - 1) x y = clear-by-pairs (c .pairs) t x y (feasible-says c t x y f .1) in
+    let z : 0 + (t - 1) ≡ t - 1 = omega arith in
+    let k : t - 1 < length (c .pairs) = omega arith in
+    let on = terminals-on l u (c .pairs) (search ands) (t - 1) k in
+    omega (arith, g .left 0 (t - 1) z k, g .right 0 (t - 1) z k)
 
 -- these separations can be had with the bottom strip at any x that leaves this many columns on its left, and this many from it on
 record Compact (l : ℕ) (ls : List ℕ) (cs : List Channel) (ts : List ℕ) : Type 0 where
@@ -106,12 +108,12 @@ compact l (u ∷ ls) [] ts s x xs e i g = impossible e
 compact l (u ∷ ls) (c ∷ cs) [] s x xs e i g = impossible g
 compact l (u ∷ ls) (c ∷ cs) (t ∷ ts) s x [] e i g = impossible (and-right (leb (x + l) s) false i)
 compact l (u ∷ ls) (c ∷ cs) (t ∷ ts) s x (y ∷ xs) e i g =
-    go (compact u ls cs ts s y xs (search ands) (search ands) (search ands)) (le-or-lt (length (c .pairs)) t) (le-or-lt x y)
+    go (compact u ls cs ts s y xs (search ands) (search ands) (search ands)) (le-or-lt (open-from (length (c .pairs))) t) (le-or-lt x y)
   where
     f : feasible c t x y ≡ true
     f = search ands
 
-    go : Compact u ls cs ts → (length (c .pairs) ≤ t) ⊎ (t < length (c .pairs)) → (x ≤ y) ⊎ (y < x) → Compact l (u ∷ ls) (c ∷ cs) (t ∷ ts)
+    go : Compact u ls cs ts → (open-from (length (c .pairs)) ≤ t) ⊎ (t < open-from (length (c .pairs))) → (x ≤ y) ⊎ (y < x) → Compact l (u ∷ ls) (c ∷ cs) (t ∷ ts)
     go k (inl h) o = to-the-right l u ls c cs t ts k 0 0 (omega arith) (omega arith) (feasible-open c t 0 0 (feasible-says c t x y f .0) h)
     go k (inr h) (inl o) = let m : Touch l u x y = touch l u t x y c (search ands) h f in to-the-right l u ls c cs t ts k x y o (m .right) f
     go k (inr h) (inr o) = let m : Touch l u x y = touch l u t x y c (search ands) h f in to-the-left l u ls c cs t ts k x y (omega arith) (m .left) f

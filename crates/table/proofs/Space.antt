@@ -1,7 +1,7 @@
--- A stated number of bytes, table-bytes, is enough for every table of a stack within the limits. A separation above its channel's floor and count of pairs
--- could be cut down to the greater of the two, so in an answer none is; a position is within the spread, and no row's spread is past the sum of the lengths: so
--- each row is within the limits of its numbers. Each further row has a smaller total than the row before it; the first one's is at most 32 a channel above the
--- sum of the floors, and no row's is below that sum: so there are at most 257 rows, whatever the floors are. Assumes nothing.
+-- A stated number of bytes, table-bytes, is enough for every table of a stack within the limits. A separation above the last one of use could be cut down to
+-- that, so in an answer none is; a position is within the spread, and no row's spread is past the sum of the lengths: so each row is within the limits of its
+-- numbers. Each further row has a smaller total than the row before it; the first one's is at most 33 a channel above the sum of the floors, and no row's is below
+-- that sum: so there are at most 265 rows, whatever the floors are. Assumes nothing.
 use mathlib.Core.Path.{_≡_, refl}
 use mathlib.Core.Bool.{true, _&&_}
 use mathlib.Core.Logic.{_⊎_, inl, inr}
@@ -60,9 +60,9 @@ lowered (c ∷ cs) (t ∷ ts) (x ∷ xs) g = go (lowered cs ts xs (search ands))
         each zero h l = omega (arith, r .below)
         each (suc i) h l = r .tight (omega arith) i (omega arith)
 
--- an answer's total is at most 32 a channel above the sum of the floors
-sum-below : (cs : List Channel) (ts : List ℕ) → length ts ≡ length cs → ((i : ℕ) → i < length ts → getD ts i 0 ≤ getD cs i no-channel .floor + 32) →
-    sum ts ≤ sum (floors-of cs) + 32 * length ts
+-- an answer's total is at most 33 a channel above the sum of the floors
+sum-below : (cs : List Channel) (ts : List ℕ) → length ts ≡ length cs → ((i : ℕ) → i < length ts → getD ts i 0 ≤ getD cs i no-channel .floor + 33) →
+    sum ts ≤ sum (floors-of cs) + 33 * length ts
 unfolding sum floors-of
 sum-below [] [] e h = omega arith
 sum-below [] (t ∷ ts) e h = absurd (omega arith)
@@ -111,7 +111,7 @@ module _ (k : Stack) (good : within-limits k ≡ true) where
     pub separations-small : (i : ℕ) → i < length ts → getD ts i 0 ≤ 64
     separations-small i l = omega (arith, separations-of-use i l, channel-limited i (in-channels i l))
 
-    total-above : sum ts ≤ sum (floors-of (k .channels)) + 32 * length (k .channels)
+    total-above : sum ts ≤ sum (floors-of (k .channels)) + 33 * length (k .channels)
     total-above =
         let n = legal-lengths k s ts xs (a .is-legal) in
         rw (n .0) at (sum-below (k .channels) ts (n .0) (λ i l. omega (arith, separations-of-use i l, channel-limited i (in-channels i l))))

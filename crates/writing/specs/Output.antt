@@ -48,9 +48,9 @@ line-bytes = 213
 unfoldable pub row-bytes : ℕ
 row-bytes = 82
 
--- the most rows of a table: a row for each total from the sum of the floors up to eight times 32 more, since past its floor and 32 tracks no channel gains
+-- the most rows of a table: a row for each total from the sum of the floors up to eight times 33 more, since past its floor and 33 tracks no channel gains
 unfoldable pub rows-most : ℕ
-rows-most = suc (8 * 32)
+rows-most = suc (8 * 33)
 
 -- enough for a table within the limits: the first line's 8 bytes, and these rows
 unfoldable pub table-bytes : ℕ

@@ -66,7 +66,9 @@ index-2-highs : tie.Need-index-2-highs Inv-loop μ-loop
 index-2-highs c = search needs
 
 last-use-requires : tie.Need-last-use-requires Inv-loop μ-loop
-last-use-requires c κs = search needs
+last-use-requires c κs =
+    let a = c .before .before .before .before .before .before .before in
+    few-pairs (a .args .t1) (a .pre .0) (c .before .before .before .before .before .before .loop .i) (c .before .before .before .before .before .loop-test .taken)
 
 mul-lasts : tie.Need-mul-lasts Inv-loop μ-loop
 mul-lasts c =
