@@ -37,7 +37,7 @@ unfolding byte-shown line-shown text-shown stacks.pair stacks.stack
 reading t = texts.stack-in (text-shown t)
 
 unfoldable pub replying : List ℕ → (s v space : ℕ) → (ts xs : List ℕ) → Total-reply × Placement-reply × Table-reply × Bool
-unfolding stacks.p-at stacks.q-at stacks.every stacks.left-good stacks.right-good stacks.wirable stacks.feasible stacks.in-spread stacks.channels-good stacks.legal
+unfolding stacks.p-at stacks.q-at stacks.every stacks.left-good stacks.right-good stacks.wirable stacks.edge-clear stacks.feasible stacks.in-spread stacks.channels-good stacks.legal
     stacks.sum stacks.longest stacks.row stacks.total
     limits.low-term limits.high-term limits.greatest limits.least limits.low-limit limits.high-limit limits.from-floor limits.low-floored limits.high-floored spans.last spans.low-at spans.high-at
     spans.gather solver.first solver.first-open solver.most solver.cell solver.back solver.first-total solver.least-total solver.serves
@@ -51,7 +51,7 @@ replying bs s v n ts xs = (total-reply bs s, placement-reply bs s v, table-reply
 unfoldable pub showing : List ℕ → (s channel space : ℕ) → List String → Table-reply × List ℕ
 unfolding dotted page-shown tabulate paths.point paths.next paths.same-column paths.same-point paths.on-path
     wiring.count wiring.right-test wiring.left-test wiring.right-track wiring.left-track wiring.riser wiring.rest wiring.staircase wiring.path-between
-    wiring.path wiring.listed wiring.wiring wiring.begins wiring.leads page.on-some page.steps-between page.joined page.before page.arm-left page.arm-right
+    wiring.path wiring.raised wiring.with-step-below wiring.drawn-path wiring.listed wiring.wiring wiring.begins wiring.leads page.on-some page.steps-between page.joined page.before page.arm-left page.arm-right
     page.arm-up page.arm-down page.how-many page.arms-character page.character page.in-three page.line-of page.track-line page.page-text
     page.channel-paths page.channel-page channel-refusal broad-refusal asked-refusal page-refusal page-for page-reply
 showing bs s c n p = (page-reply bs s c n, page-shown p)

@@ -1,5 +1,5 @@
 -- Wrong versions break the promises, each on a specimen: what such a version returns is not the specimen's reply. Document 01, "Reviewer's checklist" and
--- "Traps in the work"; document 02, P1 to P3. Assumes nothing.
+-- "Traps in the work"; document 02, P1 to P4. Assumes nothing.
 use mathlib.Core.Path.{_≡_, refl, sym, ap, _∙_}
 use mathlib.Core.Bool.{true, false}
 use mathlib.Core.List.{List, [], _∷_, _++_}
@@ -17,20 +17,21 @@ use Rattle.answer.proofs.Alone.{answer-total-is, answer-placed}
 use Rattle.answer.proofs.Answers.{zeros-of}
 use Rattle.rows.proofs.Floored.{floors-of, all-covered, floors-answer}
 use Rattle.text.proofs.Within.{accepted-within}
-use Rattle.routing.proofs.Drawable.{legal-drawable}
+use Rattle.routing.proofs.Drawable.{drawable-legal, legal-drawable}
 use Rattle.routing.specs.Paths as paths
 use Rattle.routing.specs.Paths.{point, Drawable}
 use Rattle.lines.specs.Lines.{same-bytes}
 use Rattle.text.specs.Text.{Refusal, refusal, fine, stack-in}
 use Rattle.text.specs.Outcome.{refusal-of}
-use Rattle.nabetsu.specs.Entry.{narrow-refusal, spread-refusal, total-told, Total-says, placed-is, Placed-for, placed, unmet, Placed-or, Placement-says, table-told, Table-says}
+use Rattle.nabetsu.specs.Entry.{narrow-refusal, spread-refusal, total-told, Total-says, placed-is, Placed-for, placed, unmet, Placed-or, Placement-says, table-told, Table-says, Trial-says}
 use Rattle.nabetsu.specs.Best.{Total-best}
 use Rattle.nabetsu.specs.Pages.{Page-says}
 use Rattle.nabetsu.proofs.Placements.{sum-padded, placement-best}
 use Rattle.nabetsu.specs.declared.PlacementAnswer.{PlacementAnswer}
 use Rattle.nabetsu.specs.declared.TableAnswer.{TableAnswer}
 use Rattle.nabetsu.specs.declared.TotalAnswer.{TotalAnswer}
-use Rattle.evidence.specs.Specimens.{text-shown, Specimen, spread-gives, spread-refused, place-gives, place-refused, table-gives, table-refused, page-gives, page-shown, page-a, Holds, All-hold, text-a, table-a, text-b, text-c, table-c, text-d, table-d, text-e, text-between, text-moved, text-a-3, text-b-2-5, text-512, specimens, Specimens-right}
+use Rattle.nabetsu.specs.declared.TrialAnswer.{TrialAnswer}
+use Rattle.evidence.specs.Specimens.{text-shown, Specimen, spread-gives, spread-refused, place-gives, place-refused, table-gives, table-refused, trial-gives, page-gives, page-shown, page-a, Holds, All-hold, text-a, table-a, text-b, text-c, table-c, text-d, table-d, text-e, text-between, text-moved, text-a-4, text-b-3-5, text-512, specimens, Specimens-right}
 use Rattle.evidence.proofs.Opened.{reading, replying, showing}
 use Rattle.evidence.proofs.Replies.{least-told, placement-told}
 use Rattle.evidence.proofs.Specimens.{specimens-right}
@@ -67,7 +68,11 @@ a-at-3 : Holds (spread-refused text-a 3 7 0 0)
 unfolding specimens Entry-holds
 a-at-3 = specimen 3
 
-a-at-5 : Holds (spread-gives text-a 5 1 (1 ∷ []) (1 ∷ 0 ∷ []))
+a-at-4 : Holds (spread-gives text-a 4 3 (3 ∷ []) (0 ∷ 0 ∷ []))
+unfolding specimens Entry-holds
+a-at-4 = specimen 4
+
+a-at-5 : Holds (spread-gives text-a 5 2 (2 ∷ []) (1 ∷ 0 ∷ []))
 unfolding specimens Entry-holds
 a-at-5 = specimen 5
 
@@ -75,11 +80,11 @@ a-at-100 : Holds (spread-gives text-a 100 0 (0 ∷ []) (2 ∷ 0 ∷ []))
 unfolding specimens Entry-holds
 a-at-100 = specimen 7
 
-b-at-5 : Holds (spread-gives text-b 5 3 (1 ∷ 2 ∷ []) (1 ∷ 0 ∷ 0 ∷ []))
+b-at-5 : Holds (spread-gives text-b 5 5 (2 ∷ 3 ∷ []) (1 ∷ 0 ∷ 0 ∷ []))
 unfolding specimens Entry-holds
 b-at-5 = specimen 10
 
-b-at-6 : Holds (spread-gives text-b 6 2 (0 ∷ 2 ∷ []) (2 ∷ 0 ∷ 0 ∷ []))
+b-at-6 : Holds (spread-gives text-b 6 3 (0 ∷ 3 ∷ []) (2 ∷ 0 ∷ 0 ∷ []))
 unfolding specimens Entry-holds
 b-at-6 = specimen 11
 
@@ -99,57 +104,61 @@ e-at-100 : Holds (spread-refused text-e 100 2 1 0)
 unfolding specimens Entry-holds
 e-at-100 = specimen 24
 
-between-at-2 : Holds (spread-gives text-between 2 1 (1 ∷ 0 ∷ []) (0 ∷ 1 ∷ 0 ∷ []))
+between-at-2 : Holds (spread-gives text-between 2 2 (2 ∷ 0 ∷ []) (0 ∷ 1 ∷ 0 ∷ []))
 unfolding specimens Entry-holds
 between-at-2 = specimen 39
 
-between-at-3 : Holds (spread-gives text-between 3 1 (0 ∷ 1 ∷ []) (1 ∷ 0 ∷ 0 ∷ []))
+between-at-3 : Holds (spread-gives text-between 3 2 (0 ∷ 2 ∷ []) (1 ∷ 0 ∷ 0 ∷ []))
 unfolding specimens Entry-holds
 between-at-3 = specimen 40
 
-a-page-at-4 : Holds (page-gives text-a 4 1 207 page-a)
+a-old-at-4 : Holds (trial-gives text-a 4 (2 ∷ []) (0 ∷ 0 ∷ []) false)
 unfolding specimens Entry-holds
-a-page-at-4 = specimen 43
+a-old-at-4 = specimen 43
 
-a-3-at-4 : Holds (spread-gives text-a-3 4 3 (3 ∷ []) (0 ∷ 0 ∷ []))
+a-page-at-4 : Holds (page-gives text-a 4 1 276 page-a)
 unfolding specimens Entry-holds
-a-3-at-4 = specimen 71
+a-page-at-4 = specimen 55
 
-b-2-5-at-9 : Holds (spread-gives text-b-2-5 9 7 (2 ∷ 5 ∷ []) (0 ∷ 0 ∷ 0 ∷ []))
+a-4-at-4 : Holds (spread-gives text-a-4 4 4 (4 ∷ []) (0 ∷ 0 ∷ []))
 unfolding specimens Entry-holds
-b-2-5-at-9 = specimen 77
+a-4-at-4 = specimen 83
 
-a-5-for-2 : Holds (place-gives text-a 5 2 (2 ∷ []) (0 ∷ 0 ∷ []))
+b-3-5-at-9 : Holds (spread-gives text-b-3-5 9 8 (3 ∷ 5 ∷ []) (0 ∷ 0 ∷ 0 ∷ []))
 unfolding specimens Entry-holds
-a-5-for-2 = specimen 103
+b-3-5-at-9 = specimen 89
+
+a-5-for-3 : Holds (place-gives text-a 5 3 (3 ∷ []) (0 ∷ 0 ∷ []))
+unfolding specimens Entry-holds
+a-5-for-3 = specimen 117
 
 a-100-for-7 : Holds (place-gives text-a 100 7 (7 ∷ []) (0 ∷ 0 ∷ []))
 unfolding specimens Entry-holds
-a-100-for-7 = specimen 105
+a-100-for-7 = specimen 120
 
-b-6-for-1 : Holds (place-refused text-b 6 1 10 0 0)
+b-6-for-2 : Holds (place-refused text-b 6 2 10 0 0)
 unfolding specimens Entry-holds
-b-6-for-1 = specimen 109
+b-6-for-2 = specimen 124
 
-b-6-for-3 : Holds (place-gives text-b 6 3 (0 ∷ 3 ∷ []) (2 ∷ 0 ∷ 0 ∷ []))
+b-6-for-4 : Holds (place-gives text-b 6 4 (0 ∷ 4 ∷ []) (2 ∷ 0 ∷ 0 ∷ []))
 unfolding specimens Entry-holds
-b-6-for-3 = specimen 111
+b-6-for-4 = specimen 126
 
-moved-for-2 : Holds (place-gives text-moved 2 2 (0 ∷ 2 ∷ []) (1 ∷ 0 ∷ 0 ∷ []))
+moved-for-3 : Holds (place-gives text-moved 2 3 (0 ∷ 3 ∷ []) (1 ∷ 0 ∷ 0 ∷ []))
 unfolding specimens Entry-holds
-moved-for-2 = specimen 120
+moved-for-3 = specimen 137
 
-a-3-4-for-2 : Holds (place-refused text-a-3 4 2 10 0 0)
+a-4-4-for-3 : Holds (place-refused text-a-4 4 3 10 0 0)
 unfolding specimens Entry-holds
-a-3-4-for-2 = specimen 121
+a-4-4-for-3 = specimen 138
 
-a-3-100-for-2 : Holds (place-refused text-a-3 100 2 10 0 0)
+a-4-100-for-3 : Holds (place-refused text-a-4 100 3 10 0 0)
 unfolding specimens Entry-holds
-a-3-100-for-2 = specimen 123
+a-4-100-for-3 = specimen 140
 
-b-2-5-for-6 : Holds (place-refused text-b-2-5 9 6 10 0 0)
+b-3-5-for-7 : Holds (place-refused text-b-3-5 9 7 10 0 0)
 unfolding specimens Entry-holds
-b-2-5-for-6 = specimen 125
+b-3-5-for-7 = specimen 142
 
 -- bytes that differ
 bytes-same : (a : List ℕ) → same-bytes a a ≡ true
@@ -191,7 +200,7 @@ full-count-not-least r w b = omega (arith, b .none-smaller refl (0 ∷ []) (2 �
 
 -- FIRST ROW RIGHT and then repeated
 pub repeated-row-breaks : (r : TableAnswer) (o x : List ℕ) → length o ≡ 50 →
-    x ≡ text-shown ("TABLE 1" ∷ "ROW 4 2 2 0 0" ∷ "ROW 4 2 2 0 0" ∷ "ROW 4 2 2 0 0" ∷ []) → Table-says (text-shown text-a) r o x → ⊥
+    x ≡ text-shown ("TABLE 1" ∷ "ROW 4 3 3 0 0" ∷ "ROW 4 3 3 0 0" ∷ "ROW 4 3 3 0 0" ∷ []) → Table-says (text-shown text-a) r o x → ⊥
 unfolding Holds reading
 repeated-row-breaks r o x l w a = differ _ _ refl (sym w ∙ a-in-50 r o x l .0 a .1)
 
@@ -227,7 +236,7 @@ pub other-total-breaks : (bs : List ℕ) (s v : ℕ) (r : PlacementAnswer) → r
 other-total-breaks bs s v r w a = omega (arith, total-is-sum bs s v r a)
 
 pub other-total-row-breaks : (r : TableAnswer) (o x : List ℕ) → length o ≡ 50 →
-    x ≡ text-shown ("TABLE 1" ∷ "ROW 4 3 2 0 0" ∷ "ROW 5 1 1 1 0" ∷ "ROW 6 0 0 2 0" ∷ []) → Table-says (text-shown text-a) r o x → ⊥
+    x ≡ text-shown ("TABLE 1" ∷ "ROW 4 4 3 0 0" ∷ "ROW 5 2 2 1 0" ∷ "ROW 6 0 0 2 0" ∷ []) → Table-says (text-shown text-a) r o x → ⊥
 unfolding Holds reading
 other-total-row-breaks r o x l w a = differ _ _ refl (sym w ∙ a-in-50 r o x l .0 a .1)
 
@@ -271,75 +280,75 @@ pub between-totals : (q r : TotalAnswer) → Total-says (text-shown text-between
 unfolding Holds total-told
 between-totals q r a b = between-at-2 .0 q .0 a .1 ∙ sym (between-at-3 .0 r .0 b .1)
 
-pub reused-placement-breaks : (r : PlacementAnswer) → Placement-says (text-shown text-between) 2 1 r → Placement-says (text-shown text-between) 3 1 r → ⊥
+pub reused-placement-breaks : (r : PlacementAnswer) → Placement-says (text-shown text-between) 2 2 r → Placement-says (text-shown text-between) 3 2 r → ⊥
 unfolding Holds placed-is padded same-bytes
-reused-placement-breaks r a b = other-separations _ 1 (1 ∷ 0 ∷ []) (0 ∷ 1 ∷ []) (1 ∷ 0 ∷ 0 ∷ []) r refl (between-at-2 .1 r .0 a .2) (between-at-3 .1 r .0 b)
+reused-placement-breaks r a b = other-separations _ 2 (2 ∷ 0 ∷ []) (0 ∷ 2 ∷ []) (1 ∷ 0 ∷ 0 ∷ []) r refl (between-at-2 .1 r .0 a .2) (between-at-3 .1 r .0 b)
 
 -- EACH CHANNEL'S LEAST SEPARATION ALONE, and added: A is each channel of B by itself
 pub added-alone-breaks : (q r : TotalAnswer) → Total-says (text-shown text-a) 5 q → r .total .0 ≡ q .total .0 + q .total .0 → Total-says (text-shown text-b) 5 r → ⊥
 unfolding Holds total-told
 added-alone-breaks q r a w b = omega (arith, a-at-5 .0 q .0 a .1, b-at-5 .0 r .0 b .1)
 
--- A PAGE COUNTED ONE COLUMN EARLY: A's first path runs on track 1 from column 0 on, where document 02's runs on track 0 to column 1
-pub early-count-breaks : (r : TableAnswer) (o x : List ℕ) → length o ≡ 207 →
-    x ≡ page-shown ("  2 ..o.o" ∷ "  1 +-+.|" ∷ "  0 o.o-+" ∷ []) → Page-says (text-shown text-a) 4 1 r o x → ⊥
+-- A PAGE COUNTED ONE COLUMN EARLY: A's first path runs on track 2 from column 0 on, where document 02's runs on track 1 to column 1
+pub early-count-breaks : (r : TableAnswer) (o x : List ℕ) → length o ≡ 276 →
+    x ≡ page-shown ("  3 ..o.o" ∷ "  2 +-+.|" ∷ "  1 |.+-+" ∷ "  0 o.o" ∷ []) → Page-says (text-shown text-a) 4 1 r o x → ⊥
 unfolding Holds reading showing
 early-count-breaks r o x l w a = differ _ _ refl (sym w ∙ a-page-at-4 r o x l .0 a .1)
 
 -- WITHOUT THE LAST UPRIGHT PIECE: A's paths end on the tracks of their last runs
-pub dropped-piece-breaks : (r : TableAnswer) (o x : List ℕ) → length o ≡ 207 →
-    x ≡ page-shown ("  2 " ∷ "  1 .+o" ∷ "  0 o+o-o" ∷ []) → Page-says (text-shown text-a) 4 1 r o x → ⊥
+pub dropped-piece-breaks : (r : TableAnswer) (o x : List ℕ) → length o ≡ 276 →
+    x ≡ page-shown ("  3 " ∷ "  2 .+o" ∷ "  1 +++-o" ∷ "  0 o.o" ∷ []) → Page-says (text-shown text-a) 4 1 r o x → ⊥
 unfolding Holds reading showing
 dropped-piece-breaks r o x l w a = differ _ _ refl (sym w ∙ a-page-at-4 r o x l .0 a .1)
 
--- THE FLOOR IGNORED: the answer of A at spread 4 is smaller than that of A with floor 3 and can be drawn in A, but it does not count: with the floor it can't be
+-- THE FLOOR IGNORED: the answer of A at spread 4 is smaller than that of A with floor 4 and can be drawn in A, but it does not count: with the floor it can't be
 -- drawn, and it is not the answer
-a-drawn-at-4 : Drawable (stack-in (text-shown text-a)) 4 (2 ∷ []) (0 ∷ 0 ∷ [])
+a-drawn-at-4 : Drawable (stack-in (text-shown text-a)) 4 (3 ∷ []) (0 ∷ 0 ∷ [])
 unfolding reading replying all-rising rising rises-above
-a-drawn-at-4 = legal-drawable (stack-in (text-shown text-a)) 4 (2 ∷ []) (0 ∷ 0 ∷ []) refl refl
+a-drawn-at-4 = legal-drawable (stack-in (text-shown text-a)) 4 (3 ∷ []) (0 ∷ 0 ∷ []) refl refl
 
-pub smaller-drawn-without-floor : (r : TotalAnswer) → Total-says (text-shown text-a-3) 4 r → Drawable (stack-in (text-shown text-a)) 4 (2 ∷ []) (0 ∷ 0 ∷ []) × (2 < r .total .0)
+pub smaller-drawn-without-floor : (r : TotalAnswer) → Total-says (text-shown text-a-4) 4 r → Drawable (stack-in (text-shown text-a)) 4 (3 ∷ []) (0 ∷ 0 ∷ []) × (3 < r .total .0)
 unfolding Holds total-told
-smaller-drawn-without-floor r a = (a-drawn-at-4, omega (arith, a-3-at-4 .0 r .0 a .1))
+smaller-drawn-without-floor r a = (a-drawn-at-4, omega (arith, a-4-at-4 .0 r .0 a .1))
 
-pub not-drawn-with-floor : Drawable (stack-in (text-shown text-a-3)) 4 (2 ∷ []) (0 ∷ 0 ∷ []) → ⊥
+pub not-drawn-with-floor : Drawable (stack-in (text-shown text-a-4)) 4 (3 ∷ []) (0 ∷ 0 ∷ []) → ⊥
 unfolding reading paths.Channels-drawn
 not-drawn-with-floor d = omega (arith, d .drawn .0)
 
-pub floor-ignored-breaks-total : (r : TotalAnswer) → r .total .0 ≡ 2 → Total-says (text-shown text-a-3) 4 r → ⊥
+pub floor-ignored-breaks-total : (r : TotalAnswer) → r .total .0 ≡ 3 → Total-says (text-shown text-a-4) 4 r → ⊥
 unfolding Holds total-told
-floor-ignored-breaks-total r w a = omega (arith, a-3-at-4 .0 r .0 a .1)
+floor-ignored-breaks-total r w a = omega (arith, a-4-at-4 .0 r .0 a .1)
 
-pub floor-ignored-breaks : (r : PlacementAnswer) → tracks-of (r .separations) ≡ padded 8 (2 ∷ []) → Placement-says (text-shown text-a-3) 4 3 r → ⊥
+pub floor-ignored-breaks : (r : PlacementAnswer) → tracks-of (r .separations) ≡ padded 8 (3 ∷ []) → Placement-says (text-shown text-a-4) 4 4 r → ⊥
 unfolding Holds padded same-bytes
-floor-ignored-breaks r w a = other-separations _ _ (2 ∷ []) (3 ∷ []) _ r refl w (a-3-at-4 .1 r .0 a)
+floor-ignored-breaks r w a = other-separations _ _ (3 ∷ []) (4 ∷ []) _ r refl w (a-4-at-4 .1 r .0 a)
 
 -- and where the stated total is below the floor
-pub floor-ignored-breaks-below : (r : PlacementAnswer) → tracks-of (r .separations) ≡ padded 8 (2 ∷ []) → Placement-says (text-shown text-a-3) 4 2 r → ⊥
+pub floor-ignored-breaks-below : (r : PlacementAnswer) → tracks-of (r .separations) ≡ padded 8 (3 ∷ []) → Placement-says (text-shown text-a-4) 4 3 r → ⊥
 unfolding Holds padded same-bytes
-floor-ignored-breaks-below r w a = other-separations _ _ (2 ∷ []) [] _ r refl w (a-3-4-for-2 r .0 a)
+floor-ignored-breaks-below r w a = other-separations _ _ (3 ∷ []) [] _ r refl w (a-4-4-for-3 r .0 a)
 
 -- THE FLOOR IGNORED IN ONE CHANNEL, the second of B
-pub one-floor-ignored-breaks-total : (r : TotalAnswer) → r .total .0 ≡ 2 → Total-says (text-shown text-b-2-5) 9 r → ⊥
+pub one-floor-ignored-breaks-total : (r : TotalAnswer) → r .total .0 ≡ 3 → Total-says (text-shown text-b-3-5) 9 r → ⊥
 unfolding Holds total-told
-one-floor-ignored-breaks-total r w a = omega (arith, b-2-5-at-9 .0 r .0 a .1)
+one-floor-ignored-breaks-total r w a = omega (arith, b-3-5-at-9 .0 r .0 a .1)
 
-pub one-floor-ignored-breaks : (r : PlacementAnswer) → tracks-of (r .separations) ≡ padded 8 (2 ∷ 0 ∷ []) → Placement-says (text-shown text-b-2-5) 9 7 r → ⊥
+pub one-floor-ignored-breaks : (r : PlacementAnswer) → tracks-of (r .separations) ≡ padded 8 (3 ∷ 0 ∷ []) → Placement-says (text-shown text-b-3-5) 9 8 r → ⊥
 unfolding Holds padded same-bytes
-one-floor-ignored-breaks r w a = other-separations _ _ (2 ∷ 0 ∷ []) (2 ∷ 5 ∷ []) _ r refl w (b-2-5-at-9 .1 r .0 a)
+one-floor-ignored-breaks r w a = other-separations _ _ (3 ∷ 0 ∷ []) (3 ∷ 5 ∷ []) _ r refl w (b-3-5-at-9 .1 r .0 a)
 
-pub one-floor-ignored-breaks-below : (r : PlacementAnswer) → tracks-of (r .separations) ≡ padded 8 (2 ∷ 4 ∷ []) → Placement-says (text-shown text-b-2-5) 9 6 r → ⊥
+pub one-floor-ignored-breaks-below : (r : PlacementAnswer) → tracks-of (r .separations) ≡ padded 8 (3 ∷ 4 ∷ []) → Placement-says (text-shown text-b-3-5) 9 7 r → ⊥
 unfolding Holds padded same-bytes
-one-floor-ignored-breaks-below r w a = other-separations _ _ (2 ∷ 4 ∷ []) [] _ r refl w (b-2-5-for-6 r .0 a)
+one-floor-ignored-breaks-below r w a = other-separations _ _ (3 ∷ 4 ∷ []) [] _ r refl w (b-3-5-for-7 r .0 a)
 
--- THE FLOOR ADDED to the separation that the pairs need: 2 and 3
-pub floor-added-breaks-total : (r : TotalAnswer) → r .total .0 ≡ 5 → Total-says (text-shown text-a-3) 4 r → ⊥
+-- THE FLOOR ADDED to the separation that the pairs need: 3 and 4
+pub floor-added-breaks-total : (r : TotalAnswer) → r .total .0 ≡ 7 → Total-says (text-shown text-a-4) 4 r → ⊥
 unfolding Holds total-told
-floor-added-breaks-total r w a = omega (arith, a-3-at-4 .0 r .0 a .1)
+floor-added-breaks-total r w a = omega (arith, a-4-at-4 .0 r .0 a .1)
 
-pub floor-added-breaks : (r : PlacementAnswer) → tracks-of (r .separations) ≡ padded 8 (5 ∷ []) → Placement-says (text-shown text-a-3) 4 3 r → ⊥
+pub floor-added-breaks : (r : PlacementAnswer) → tracks-of (r .separations) ≡ padded 8 (7 ∷ []) → Placement-says (text-shown text-a-4) 4 4 r → ⊥
 unfolding Holds padded same-bytes
-floor-added-breaks r w a = other-separations _ _ (5 ∷ []) (3 ∷ []) _ r refl w (a-3-at-4 .1 r .0 a)
+floor-added-breaks r w a = other-separations _ _ (7 ∷ []) (4 ∷ []) _ r refl w (a-4-at-4 .1 r .0 a)
 
 -- THE GREATEST TOTAL: eight channels with floor 64. It is a specimen too, but one that takes too long to compute: the floors are the answer
 floors-answered : Answer (stack-in (text-shown text-512)) 1 (replicate 8 64) (replicate 9 0)
@@ -355,74 +364,74 @@ greatest-total =
     )
 
 -- A TOTAL ABOVE THE LEAST from least_total
-pub greater-total-breaks : (r : TotalAnswer) → 2 < r .total .0 → Total-says (text-shown text-b) 6 r → ⊥
+pub greater-total-breaks : (r : TotalAnswer) → 3 < r .total .0 → Total-says (text-shown text-b) 6 r → ⊥
 unfolding Holds total-told
 greater-total-breaks r w a = omega (arith, b-at-6 .0 r .0 a .1)
 
--- THE STATED TOTAL IGNORED: no one placement serves totals 2 and 3
-pub ignored-total-breaks : (r : PlacementAnswer) → Placement-says (text-shown text-b) 6 2 r → Placement-says (text-shown text-b) 6 3 r → ⊥
+-- THE STATED TOTAL IGNORED: no one placement serves totals 3 and 4
+pub ignored-total-breaks : (r : PlacementAnswer) → Placement-says (text-shown text-b) 6 3 r → Placement-says (text-shown text-b) 6 4 r → ⊥
 unfolding Holds placed-is
-ignored-total-breaks r a b = omega (arith, b-at-6 .1 r .0 a .1, b-6-for-3 r .0 b .1)
+ignored-total-breaks r a b = omega (arith, b-at-6 .1 r .0 a .1, b-6-for-4 r .0 b .1)
 
 -- A PLACEMENT WITH ANOTHER TOTAL than the stated one, for every text, spread and stated total
 pub other-than-stated-breaks : (bs : List ℕ) (s v : ℕ) (r : PlacementAnswer) → refusal-of (r .outcome) .number ≡ 0 → (sum (tracks-of (r .separations)) ≡ v → ⊥) →
     Placement-says bs s v r → ⊥
 other-than-stated-breaks bs s v r z w a = w (placement-best bs s v r a .total-is z .1)
 
--- OTHER SEPARATIONS FOR TOTAL 3 than 0 and 3, B at spread 6: a placement with a smaller total, and two that are legal and have that total, but are later
-other-for-3-breaks : (ts : List ℕ) (r : PlacementAnswer) → same-bytes (padded 8 ts) (padded 8 (0 ∷ 3 ∷ [])) ≡ false → tracks-of (r .separations) ≡ padded 8 ts →
-    Placement-says (text-shown text-b) 6 3 r → ⊥
+-- OTHER SEPARATIONS FOR TOTAL 4 than 0 and 4, B at spread 6: a placement with a smaller total, and two that are legal and have that total, but are later
+other-for-4-breaks : (ts : List ℕ) (r : PlacementAnswer) → same-bytes (padded 8 ts) (padded 8 (0 ∷ 4 ∷ [])) ≡ false → tracks-of (r .separations) ≡ padded 8 ts →
+    Placement-says (text-shown text-b) 6 4 r → ⊥
 unfolding Holds
-other-for-3-breaks ts r d w a = other-separations _ _ ts (0 ∷ 3 ∷ []) _ r d w (b-6-for-3 r .0 a)
+other-for-4-breaks ts r d w a = other-separations _ _ ts (0 ∷ 4 ∷ []) _ r d w (b-6-for-4 r .0 a)
 
-pub smaller-total-breaks : (r : PlacementAnswer) → tracks-of (r .separations) ≡ padded 8 (0 ∷ 2 ∷ []) → Placement-says (text-shown text-b) 6 3 r → ⊥
+pub smaller-total-breaks : (r : PlacementAnswer) → tracks-of (r .separations) ≡ padded 8 (0 ∷ 3 ∷ []) → Placement-says (text-shown text-b) 6 4 r → ⊥
 unfolding padded same-bytes
-smaller-total-breaks r w a = other-for-3-breaks (0 ∷ 2 ∷ []) r refl w a
+smaller-total-breaks r w a = other-for-4-breaks (0 ∷ 3 ∷ []) r refl w a
 
-pub surplus-in-first-breaks : (r : PlacementAnswer) → tracks-of (r .separations) ≡ padded 8 (3 ∷ 0 ∷ []) → Placement-says (text-shown text-b) 6 3 r → ⊥
+pub surplus-in-first-breaks : (r : PlacementAnswer) → tracks-of (r .separations) ≡ padded 8 (4 ∷ 0 ∷ []) → Placement-says (text-shown text-b) 6 4 r → ⊥
 unfolding padded same-bytes
-surplus-in-first-breaks r w a = other-for-3-breaks (3 ∷ 0 ∷ []) r refl w a
+surplus-in-first-breaks r w a = other-for-4-breaks (4 ∷ 0 ∷ []) r refl w a
 
-pub surplus-added-first-breaks : (r : PlacementAnswer) → tracks-of (r .separations) ≡ padded 8 (1 ∷ 2 ∷ []) → Placement-says (text-shown text-b) 6 3 r → ⊥
+pub surplus-added-first-breaks : (r : PlacementAnswer) → tracks-of (r .separations) ≡ padded 8 (1 ∷ 3 ∷ []) → Placement-says (text-shown text-b) 6 4 r → ⊥
 unfolding padded same-bytes
-surplus-added-first-breaks r w a = other-for-3-breaks (1 ∷ 2 ∷ []) r refl w a
+surplus-added-first-breaks r w a = other-for-4-breaks (1 ∷ 3 ∷ []) r refl w a
 
 pub later-legal : let k = stack-in (text-shown text-b) in
-    (legal k 6 (3 ∷ 0 ∷ []) (0 ∷ 2 ∷ 0 ∷ []) ≡ true) × (legal k 6 (1 ∷ 2 ∷ []) (1 ∷ 0 ∷ 0 ∷ []) ≡ true)
+    (legal k 6 (4 ∷ 0 ∷ []) (0 ∷ 2 ∷ 0 ∷ []) ≡ true) × (legal k 6 (1 ∷ 3 ∷ []) (2 ∷ 0 ∷ 0 ∷ []) ≡ true)
 unfolding reading replying
 later-legal = (refl, refl)
 
 -- THE SURPLUS ADDED TO THE ANSWER'S LAST SEPARATION: legal, but for one track more a smaller first separation serves
-pub surplus-added-last-breaks : (r : PlacementAnswer) → tracks-of (r .separations) ≡ padded 8 (1 ∷ 1 ∷ []) → Placement-says (text-shown text-moved) 2 2 r → ⊥
+pub surplus-added-last-breaks : (r : PlacementAnswer) → tracks-of (r .separations) ≡ padded 8 (2 ∷ 1 ∷ []) → Placement-says (text-shown text-moved) 2 3 r → ⊥
 unfolding Holds padded same-bytes
-surplus-added-last-breaks r w a = other-separations _ _ (1 ∷ 1 ∷ []) (0 ∷ 2 ∷ []) _ r refl w (moved-for-2 r .0 a)
+surplus-added-last-breaks r w a = other-separations _ _ (2 ∷ 1 ∷ []) (0 ∷ 3 ∷ []) _ r refl w (moved-for-3 r .0 a)
 
-pub surplus-added-last-legal : legal (stack-in (text-shown text-moved)) 2 (1 ∷ 1 ∷ []) (0 ∷ 1 ∷ 0 ∷ []) ≡ true
+pub surplus-added-last-legal : legal (stack-in (text-shown text-moved)) 2 (2 ∷ 1 ∷ []) (0 ∷ 1 ∷ 0 ∷ []) ≡ true
 unfolding reading replying
 surplus-added-last-legal = refl
 
 -- THE ANSWER'S POSITIONS KEPT: legal for a greater total too, but later
-pub kept-positions-breaks : (r : PlacementAnswer) → columns-of (r .positions) ≡ padded 9 (1 ∷ 0 ∷ []) → Placement-says (text-shown text-a) 5 2 r → ⊥
+pub kept-positions-breaks : (r : PlacementAnswer) → columns-of (r .positions) ≡ padded 9 (1 ∷ 0 ∷ []) → Placement-says (text-shown text-a) 5 3 r → ⊥
 unfolding Holds placed-is padded same-bytes
-kept-positions-breaks r w a = differ (padded 9 (1 ∷ 0 ∷ [])) (padded 9 (0 ∷ 0 ∷ [])) refl (sym w ∙ a-5-for-2 r .0 a .3)
+kept-positions-breaks r w a = differ (padded 9 (1 ∷ 0 ∷ [])) (padded 9 (0 ∷ 0 ∷ [])) refl (sym w ∙ a-5-for-3 r .0 a .3)
 
-pub kept-positions-legal : legal (stack-in (text-shown text-a)) 5 (2 ∷ []) (1 ∷ 0 ∷ []) ≡ true
+pub kept-positions-legal : legal (stack-in (text-shown text-a)) 5 (3 ∷ []) (1 ∷ 0 ∷ []) ≡ true
 unfolding reading replying
 kept-positions-legal = refl
 
 -- THE LEAST TOTAL REFUSED, and a total below it not refused
-pub least-refused-breaks : (r : PlacementAnswer) → refusal-of (r .outcome) .number ≡ 10 → Placement-says (text-shown text-b) 6 2 r → ⊥
+pub least-refused-breaks : (r : PlacementAnswer) → refusal-of (r .outcome) .number ≡ 10 → Placement-says (text-shown text-b) 6 3 r → ⊥
 unfolding Holds placed-is
 least-refused-breaks r w a = omega (arith, number-told 0 0 0 _ (b-at-6 .1 r .0 a .0))
 
-pub below-not-refused-breaks : (r : PlacementAnswer) → refusal-of (r .outcome) .number ≡ 0 → Placement-says (text-shown text-b) 6 1 r → ⊥
+pub below-not-refused-breaks : (r : PlacementAnswer) → refusal-of (r .outcome) .number ≡ 0 → Placement-says (text-shown text-b) 6 2 r → ⊥
 unfolding Holds placed-is
-below-not-refused-breaks r w a = omega (arith, number-told 10 0 0 _ (b-6-for-1 r .0 a .0))
+below-not-refused-breaks r w a = omega (arith, number-told 10 0 0 _ (b-6-for-2 r .0 a .0))
 
 -- 9 BEFORE 10, and 9 at all: a spread above 63 is too broad for a page alone
-pub broad-first-breaks : (r : PlacementAnswer) → refusal-of (r .outcome) .number ≡ 9 → Placement-says (text-shown text-a-3) 100 2 r → ⊥
+pub broad-first-breaks : (r : PlacementAnswer) → refusal-of (r .outcome) .number ≡ 9 → Placement-says (text-shown text-a-4) 100 3 r → ⊥
 unfolding Holds placed-is
-broad-first-breaks r w a = omega (arith, number-told 10 0 0 _ (a-3-100-for-2 r .0 a .0))
+broad-first-breaks r w a = omega (arith, number-told 10 0 0 _ (a-4-100-for-3 r .0 a .0))
 
 pub broad-breaks : (r : PlacementAnswer) → refusal-of (r .outcome) .number ≡ 9 → Placement-says (text-shown text-a) 100 7 r → ⊥
 unfolding Holds placed-is
@@ -436,3 +445,47 @@ unmet-before-narrow-breaks v r w a = omega (arith, number-told 7 0 0 _ (a-at-3 .
 pub unmet-before-text-breaks : (v : ℕ) (r : PlacementAnswer) → refusal-of (r .outcome) .number ≡ 10 → Placement-says (text-shown text-e) 100 v r → ⊥
 unfolding Holds placed-is
 unmet-before-text-breaks v r w a = omega (arith, number-told 2 1 0 _ (e-at-100 .1 v r .0 a .0))
+
+-- THE FORMER RULE'S ANSWERS: A's row at spread 4 had a track less, with horizontal steps on track 0. Its placement is not legal, a trial says so, and no paths of
+-- any kind draw it; nor is its total the least one, nor its table the table
+pub former-placement-tried : (r : TrialAnswer) → Trial-says (text-shown text-a) 4 (padded 8 (2 ∷ [])) (padded 9 (0 ∷ 0 ∷ [])) r → r .legal ≡ false
+unfolding Holds
+former-placement-tried r a = a-old-at-4 r .0 a .1
+
+pub former-placement-not-drawn : Drawable (stack-in (text-shown text-a)) 4 (2 ∷ []) (0 ∷ 0 ∷ []) → ⊥
+unfolding reading replying all-rising rising rises-above
+former-placement-not-drawn d = impossible (drawable-legal (stack-in (text-shown text-a)) 4 (2 ∷ []) (0 ∷ 0 ∷ []) refl d)
+
+pub former-total-breaks : (r : TotalAnswer) → r .total .0 ≡ 2 → Total-says (text-shown text-a) 4 r → ⊥
+unfolding Holds total-told
+former-total-breaks r w a = omega (arith, a-at-4 .0 r .0 a .1)
+
+pub former-table-breaks : (r : TableAnswer) (o x : List ℕ) → length o ≡ 50 →
+    x ≡ text-shown ("TABLE 1" ∷ "ROW 4 2 2 0 0" ∷ "ROW 5 1 1 1 0" ∷ "ROW 6 0 0 2 0" ∷ []) → Table-says (text-shown text-a) r o x → ⊥
+unfolding Holds reading
+former-table-breaks r o x l w a = differ _ _ refl (sym w ∙ a-in-50 r o x l .0 a .1)
+
+-- A SHIFT BY TWO: legal, but a track too tall
+pub track-too-tall-breaks : (r : TotalAnswer) → r .total .0 ≡ 4 → Total-says (text-shown text-a) 4 r → ⊥
+unfolding Holds total-told
+track-too-tall-breaks r w a = omega (arith, a-at-4 .0 r .0 a .1)
+
+pub track-too-tall-legal : legal (stack-in (text-shown text-a)) 4 (4 ∷ []) (0 ∷ 0 ∷ []) ≡ true
+unfolding reading replying
+track-too-tall-legal = refl
+
+-- THE FLOOR SHIFTED TOO, so that a floor of 4 asks for separation 5
+pub floor-shifted-breaks : (r : TotalAnswer) → r .total .0 ≡ 5 → Total-says (text-shown text-a-4) 4 r → ⊥
+unfolding Holds total-told
+floor-shifted-breaks r w a = omega (arith, a-4-at-4 .0 r .0 a .1)
+
+-- A PAGE WITHOUT THE UPRIGHT STEP: A's paths begin on track 1, or run on track 0 and reach a track more at the end
+pub step-left-out-breaks : (r : TableAnswer) (o x : List ℕ) → length o ≡ 276 →
+    x ≡ page-shown ("  3 ..o.o" ∷ "  2 .++.|" ∷ "  1 o+o-+" ∷ "  0 " ∷ []) → Page-says (text-shown text-a) 4 1 r o x → ⊥
+unfolding Holds reading showing
+step-left-out-breaks r o x l w a = differ _ _ refl (sym w ∙ a-page-at-4 r o x l .0 a .1)
+
+pub runs-on-edge-breaks : (r : TableAnswer) (o x : List ℕ) → length o ≡ 276 →
+    x ≡ page-shown ("  3 ..o.o" ∷ "  2 ..|.|" ∷ "  1 .++.|" ∷ "  0 o+o-+" ∷ []) → Page-says (text-shown text-a) 4 1 r o x → ⊥
+unfolding Holds reading showing
+runs-on-edge-breaks r o x l w a = differ _ _ refl (sym w ∙ a-page-at-4 r o x l .0 a .1)

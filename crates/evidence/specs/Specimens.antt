@@ -1,5 +1,6 @@
 -- TRUSTED. Document 01's specimen cards: one table of texts, questions and replies, and what each says of an entry's result. proofs/Specimens.antt proves all
--- of them. Document 01, "Specimen cards"; document 02: their pages by P1, floors by P2, stated totals by P3. Assumes nothing: these are definitions.
+-- of them. Document 01, "Specimen cards"; document 02: their pages by P1, floors by P2, stated totals by P3, all by P4's rule. Assumes nothing: these are
+-- definitions.
 use mathlib.Core.Path.{_≡_}
 use mathlib.Core.Bool.{Bool, true, false, cond}
 use mathlib.Core.List.{List, [], _∷_, _++_}
@@ -90,7 +91,7 @@ abbrev pub text-a : List String
 text-a = "STACK 1" ∷ "PART 4" ∷ "PART 4" ∷ "NETS 0 2 2 4" ∷ []
 
 abbrev pub table-a : List String
-table-a = "TABLE 1" ∷ "ROW 4 2 2 0 0" ∷ "ROW 5 1 1 1 0" ∷ "ROW 6 0 0 2 0" ∷ []
+table-a = "TABLE 1" ∷ "ROW 4 3 3 0 0" ∷ "ROW 5 2 2 1 0" ∷ "ROW 6 0 0 2 0" ∷ []
 
 abbrev pub text-b : List String
 text-b = "STACK 2" ∷ "PART 4" ∷ "PART 4" ∷ "PART 4" ∷ "NETS 0 2 2 4" ∷ "NETS 0 2 2 4" ∷ []
@@ -98,10 +99,10 @@ text-b = "STACK 2" ∷ "PART 4" ∷ "PART 4" ∷ "PART 4" ∷ "NETS 0 2 2 4" ∷
 abbrev pub table-b : List String
 table-b =
     "TABLE 2"
-    ∷ "ROW 4 4 2 2 0 0 0"
-    ∷ "ROW 5 3 1 2 1 0 0"
-    ∷ "ROW 6 2 0 2 2 0 0"
-    ∷ "ROW 7 1 0 1 3 1 0"
+    ∷ "ROW 4 6 3 3 0 0 0"
+    ∷ "ROW 5 5 2 3 1 0 0"
+    ∷ "ROW 6 3 0 3 2 0 0"
+    ∷ "ROW 7 2 0 2 3 1 0"
     ∷ "ROW 8 0 0 0 4 2 0"
     ∷ []
 
@@ -115,7 +116,7 @@ abbrev pub text-d : List String
 text-d = "STACK 1" ∷ "PART 1" ∷ "PART 1" ∷ "NETS 1 0" ∷ []
 
 abbrev pub table-d : List String
-table-d = "TABLE 1" ∷ "ROW 1 1 1 0 0" ∷ "ROW 2 0 0 0 1" ∷ []
+table-d = "TABLE 1" ∷ "ROW 1 2 2 0 0" ∷ "ROW 2 0 0 0 1" ∷ []
 
 abbrev pub text-e : List String
 text-e = []
@@ -158,26 +159,42 @@ abbrev pub text-between : List String
 text-between = "STACK 2" ∷ "PART 2" ∷ "PART 1" ∷ "PART 1" ∷ "NETS 0 1" ∷ "NETS 0 1" ∷ []
 
 abbrev pub table-between : List String
-table-between = "TABLE 2" ∷ "ROW 2 1 1 0 0 1 0" ∷ "ROW 4 0 0 0 2 1 0" ∷ []
+table-between = "TABLE 2" ∷ "ROW 2 2 2 0 0 1 0" ∷ "ROW 4 0 0 0 2 1 0" ∷ []
 
--- not of document 01: at spread 2 the answer has a track in channel 1, and the placement for one track more has none there
+-- not of document 01: at spread 2 the answer has two tracks in channel 1, and the placement for one track more has none there
 abbrev pub text-moved : List String
 text-moved = "STACK 2" ∷ "PART 1" ∷ "PART 1" ∷ "PART 2" ∷ "NETS 0 1" ∷ "NETS 0 1 1 2" ∷ []
 
--- A'S PAGE at spread 4: separation 2, both strips at 0
-abbrev pub page-a : List String
-page-a = "  2 ..o.o" ∷ "  1 .++.|" ∷ "  0 o+o-+" ∷ []
+-- not of document 01: two pairs in each of two channels and six rows, one more than there could be by the former rule: at spread 10 two tracks in each channel, at
+-- 12 three in one
+abbrev pub text-six : List String
+text-six = "STACK 2" ∷ "PART 8" ∷ "PART 8" ∷ "PART 8" ∷ "NETS 0 4 4 8" ∷ "NETS 0 4 4 8" ∷ []
 
--- and at spread 5: separation 1, the lower strip at 1
+abbrev pub table-six : List String
+table-six =
+    "TABLE 2"
+    ∷ "ROW 8 6 3 3 0 0 0"
+    ∷ "ROW 9 5 2 3 1 0 0"
+    ∷ "ROW 10 4 2 2 2 1 0"
+    ∷ "ROW 12 3 0 3 4 0 0"
+    ∷ "ROW 13 2 0 2 5 1 0"
+    ∷ "ROW 16 0 0 0 8 4 0"
+    ∷ []
+
+-- A'S PAGE at spread 4: separation 3, both strips at 0
+abbrev pub page-a : List String
+page-a = "  3 ..o.o" ∷ "  2 .++.|" ∷ "  1 +++-+" ∷ "  0 o.o" ∷ []
+
+-- and at spread 5: separation 2, the lower strip at 1
 abbrev pub page-a-5 : List String
-page-a-5 = "  1 ..o.o" ∷ "  0 .o+o+" ∷ []
+page-a-5 = "  2 ..o.o" ∷ "  1 .++++" ∷ "  0 .o.o" ∷ []
 
 -- not of document 01: one path straight up and two to the left, the second on the track above the first
 abbrev pub text-left : List String
 text-left = "STACK 1" ∷ "PART 4" ∷ "PART 4" ∷ "NETS 0 0 3 1 4 2" ∷ []
 
 abbrev pub page-left : List String
-page-left = "  2 ooo" ∷ "  1 ||+-+" ∷ "  0 o+-oo" ∷ []
+page-left = "  3 ooo" ∷ "  2 ||+-+" ∷ "  1 |+-+|" ∷ "  0 o..oo" ∷ []
 
 -- WITH FLOORS: lines behind a text
 abbrev pub with-lines : (text lines : List String) → List String
@@ -186,29 +203,35 @@ with-lines t ls = t ++ ls
 abbrev pub text-a-1 : List String
 text-a-1 = with-lines text-a ("GAP 1 1" ∷ [])
 
+-- separation 1 has the offsets of 0
 abbrev pub table-a-1 : List String
-table-a-1 = "TABLE 1" ∷ "ROW 4 2 2 0 0" ∷ "ROW 5 1 1 1 0" ∷ []
+table-a-1 = "TABLE 1" ∷ "ROW 4 3 3 0 0" ∷ "ROW 5 2 2 1 0" ∷ "ROW 6 1 1 2 0" ∷ []
 
-abbrev pub text-a-3 : List String
-text-a-3 = with-lines text-a ("GAP 1 3" ∷ [])
+-- and both of its points are shown for each pair
+abbrev pub page-a-1 : List String
+page-a-1 = "  1 ..o.o" ∷ "  0 ..o.o" ∷ []
 
-abbrev pub table-a-3 : List String
-table-a-3 = "TABLE 1" ∷ "ROW 4 3 3 0 0" ∷ []
+abbrev pub text-a-4 : List String
+text-a-4 = with-lines text-a ("GAP 1 4" ∷ [])
+
+abbrev pub table-a-4 : List String
+table-a-4 = "TABLE 1" ∷ "ROW 4 4 4 0 0" ∷ []
 
 -- the last upright piece is a track longer
-abbrev pub page-a-3 : List String
-page-a-3 = "  3 ..o.o" ∷ "  2 ..|.|" ∷ "  1 .++.|" ∷ "  0 o+o-+" ∷ []
+abbrev pub page-a-4 : List String
+page-a-4 = "  4 ..o.o" ∷ "  3 ..|.|" ∷ "  2 .++.|" ∷ "  1 +++-+" ∷ "  0 o.o" ∷ []
 
--- B with a floor in channel 1: at spread 6 separations 1, 1 are first
+-- B with a floor in channel 1: at spread 6 separations 3, 0 are first
 abbrev pub text-b-1 : List String
 text-b-1 = with-lines text-b ("GAP 1 1" ∷ [])
 
 abbrev pub table-b-1 : List String
-table-b-1 = "TABLE 2" ∷ "ROW 4 4 2 2 0 0 0" ∷ "ROW 5 3 1 2 1 0 0" ∷ "ROW 6 2 1 1 2 1 0" ∷ "ROW 7 1 1 0 3 2 0" ∷ []
+table-b-1 =
+    "TABLE 2" ∷ "ROW 4 6 3 3 0 0 0" ∷ "ROW 5 5 2 3 1 0 0" ∷ "ROW 6 3 3 0 0 2 0" ∷ "ROW 7 2 2 0 3 2 0" ∷ "ROW 8 1 1 0 4 2 0" ∷ []
 
 -- and with floors in both channels, which no spread lowers
-abbrev pub text-b-2-5 : List String
-text-b-2-5 = with-lines text-b ("GAP 1 2" ∷ "GAP 2 5" ∷ [])
+abbrev pub text-b-3-5 : List String
+text-b-3-5 = with-lines text-b ("GAP 1 3" ∷ "GAP 2 5" ∷ [])
 
 -- a channel without pairs
 abbrev pub text-c-3 : List String
@@ -230,17 +253,17 @@ specimens =
     ∷ table-gives text-a 51 table-a
     ∷ table-refused text-a 49 8 0 0
     ∷ spread-refused text-a 3 7 0 0
-    ∷ spread-gives text-a 4 2 (2 ∷ []) (0 ∷ 0 ∷ [])
-    ∷ spread-gives text-a 5 1 (1 ∷ []) (1 ∷ 0 ∷ [])
+    ∷ spread-gives text-a 4 3 (3 ∷ []) (0 ∷ 0 ∷ [])
+    ∷ spread-gives text-a 5 2 (2 ∷ []) (1 ∷ 0 ∷ [])
     ∷ spread-gives text-a 6 0 (0 ∷ []) (2 ∷ 0 ∷ [])
     ∷ spread-gives text-a 100 0 (0 ∷ []) (2 ∷ 0 ∷ [])
-    -- B
+    -- B; at spread 6 separations 3, 0 also total 3
     ∷ table-gives text-b 98 table-b
-    ∷ spread-gives text-b 4 4 (2 ∷ 2 ∷ []) (0 ∷ 0 ∷ 0 ∷ [])
-    ∷ spread-gives text-b 5 3 (1 ∷ 2 ∷ []) (1 ∷ 0 ∷ 0 ∷ [])
-    ∷ spread-gives text-b 6 2 (0 ∷ 2 ∷ []) (2 ∷ 0 ∷ 0 ∷ [])
-    ∷ trial-gives text-b 6 (1 ∷ 1 ∷ []) (2 ∷ 1 ∷ 0 ∷ []) true
-    ∷ spread-gives text-b 7 1 (0 ∷ 1 ∷ []) (3 ∷ 1 ∷ 0 ∷ [])
+    ∷ spread-gives text-b 4 6 (3 ∷ 3 ∷ []) (0 ∷ 0 ∷ 0 ∷ [])
+    ∷ spread-gives text-b 5 5 (2 ∷ 3 ∷ []) (1 ∷ 0 ∷ 0 ∷ [])
+    ∷ spread-gives text-b 6 3 (0 ∷ 3 ∷ []) (2 ∷ 0 ∷ 0 ∷ [])
+    ∷ trial-gives text-b 6 (3 ∷ 0 ∷ []) (0 ∷ 2 ∷ 0 ∷ []) true
+    ∷ spread-gives text-b 7 2 (0 ∷ 2 ∷ []) (3 ∷ 1 ∷ 0 ∷ [])
     ∷ spread-gives text-b 8 0 (0 ∷ 0 ∷ []) (4 ∷ 2 ∷ 0 ∷ [])
     ∷ spread-gives text-b 9 0 (0 ∷ 0 ∷ []) (4 ∷ 2 ∷ 0 ∷ [])
     -- C
@@ -249,7 +272,7 @@ specimens =
     ∷ spread-gives text-c 6 0 (0 ∷ []) (0 ∷ 0 ∷ [])
     -- D
     ∷ table-gives text-d 50 table-d
-    ∷ spread-gives text-d 1 1 (1 ∷ []) (0 ∷ 0 ∷ [])
+    ∷ spread-gives text-d 1 2 (2 ∷ []) (0 ∷ 0 ∷ [])
     ∷ spread-gives text-d 2 0 (0 ∷ []) (0 ∷ 1 ∷ [])
     ∷ spread-gives text-d 3 0 (0 ∷ []) (0 ∷ 1 ∷ [])
     -- E to H
@@ -266,36 +289,51 @@ specimens =
     ∷ spread-gives text-32 40 0 (0 ∷ []) (0 ∷ 0 ∷ [])
     ∷ table-refused text-33 50 3 4 66
     ∷ spread-refused text-33 40 3 4 66
-    ∷ spread-gives text-1000 1000 2 (2 ∷ []) (0 ∷ 0 ∷ [])
+    ∷ spread-gives text-1000 1000 3 (3 ∷ []) (0 ∷ 0 ∷ [])
     ∷ table-refused text-1001 50 4 2 2
     ∷ spread-refused text-1001 1001 4 2 2
     -- between two rows
     ∷ table-gives text-between 44 table-between
-    ∷ spread-gives text-between 2 1 (1 ∷ 0 ∷ []) (0 ∷ 1 ∷ 0 ∷ [])
-    ∷ spread-gives text-between 3 1 (0 ∷ 1 ∷ []) (1 ∷ 0 ∷ 0 ∷ [])
+    ∷ spread-gives text-between 2 2 (2 ∷ 0 ∷ []) (0 ∷ 1 ∷ 0 ∷ [])
+    ∷ spread-gives text-between 3 2 (0 ∷ 2 ∷ []) (1 ∷ 0 ∷ 0 ∷ [])
     -- a number in an unused place
     ∷ trial-gives text-a 6 (0 ∷ []) (2 ∷ 0 ∷ []) true
     ∷ trial-gives text-a 6 (0 ∷ 1 ∷ []) (2 ∷ 0 ∷ []) false
+    -- the rows of document 01, by the rule before P4, are not legal where they have tracks; nor is what totalled as much as B's row at 6
+    ∷ trial-gives text-a 4 (2 ∷ []) (0 ∷ 0 ∷ []) false
+    ∷ trial-gives text-a 5 (1 ∷ []) (1 ∷ 0 ∷ []) false
+    ∷ trial-gives text-b 4 (2 ∷ 2 ∷ []) (0 ∷ 0 ∷ 0 ∷ []) false
+    ∷ trial-gives text-b 6 (0 ∷ 2 ∷ []) (2 ∷ 0 ∷ 0 ∷ []) false
+    ∷ trial-gives text-b 6 (1 ∷ 1 ∷ []) (2 ∷ 1 ∷ 0 ∷ []) false
+    ∷ trial-gives text-d 1 (1 ∷ []) (0 ∷ 0 ∷ []) false
+    -- separation 1 has the offsets of 0, from 3 on every offset serves
+    ∷ trial-gives text-a 6 (1 ∷ []) (2 ∷ 0 ∷ []) true
+    ∷ trial-gives text-a 6 (1 ∷ []) (1 ∷ 0 ∷ []) false
+    ∷ trial-gives text-a 6 (2 ∷ []) (1 ∷ 0 ∷ []) true
+    ∷ trial-gives text-a 6 (2 ∷ []) (0 ∷ 0 ∷ []) false
+    ∷ trial-gives text-a 6 (3 ∷ []) (0 ∷ 2 ∷ []) true
+    -- six rows
+    ∷ table-gives text-six 120 table-six
     -- pages of A: paths to the right, and at spread 6 paths of one point
-    ∷ page-gives text-a 4 1 207 page-a
+    ∷ page-gives text-a 4 1 276 page-a
     ∷ page-gives text-a 4 1 300 page-a
-    ∷ page-gives text-a 5 1 138 page-a-5
+    ∷ page-gives text-a 5 1 207 page-a-5
     ∷ page-gives text-a 6 1 69 ("  0 ..o.o" ∷ [])
     ∷ page-gives text-a 63 1 69 ("  0 ..o.o" ∷ [])
     -- of B
-    ∷ page-gives text-b 4 1 207 page-a
-    ∷ page-gives text-b 4 2 207 page-a
-    ∷ page-gives text-b 5 1 138 page-a-5
-    ∷ page-gives text-b 5 2 207 page-a
+    ∷ page-gives text-b 4 1 276 page-a
+    ∷ page-gives text-b 4 2 276 page-a
+    ∷ page-gives text-b 5 1 207 page-a-5
+    ∷ page-gives text-b 5 2 276 page-a
     ∷ page-gives text-b 7 1 69 ("  0 ...o.o" ∷ [])
-    ∷ page-gives text-b 7 2 138 page-a-5
+    ∷ page-gives text-b 7 2 207 page-a-5
     -- of C, without pairs
     ∷ page-gives text-c 5 1 69 ("  0 " ∷ [])
     ∷ page-gives text-c 63 1 70 ("  0 " ∷ [])
     -- of D: a path to the left, and one of one point
-    ∷ page-gives text-d 1 1 138 ("  1 o" ∷ "  0 +o" ∷ [])
+    ∷ page-gives text-d 1 1 207 ("  2 o" ∷ "  1 ++" ∷ "  0 .o" ∷ [])
     ∷ page-gives text-d 2 1 69 ("  0 .o" ∷ [])
-    ∷ page-gives text-left 4 1 207 page-left
+    ∷ page-gives text-left 4 1 276 page-left
     -- the page's refusals, in their order
     ∷ page-refused text-e 4 0 300 2 1 0
     ∷ page-refused text-a 3 0 300 3 0 0
@@ -304,30 +342,32 @@ specimens =
     ∷ page-refused text-1000 999 1 300 7 0 0
     ∷ page-refused text-1000 1000 1 0 9 0 0
     ∷ page-refused text-a 64 1 300 9 0 0
-    ∷ page-refused text-a 4 1 206 8 0 0
+    ∷ page-refused text-a 4 1 275 8 0 0
     -- floors that raise a total: from spread 6 on, and at every spread; between two rows; and one that raises none
     ∷ table-gives text-a-1 50 table-a-1
-    ∷ spread-gives text-a-1 6 1 (1 ∷ []) (1 ∷ 0 ∷ [])
-    ∷ table-gives text-a-3 22 table-a-3
-    ∷ table-refused text-a-3 21 8 0 0
-    ∷ spread-gives text-a-3 4 3 (3 ∷ []) (0 ∷ 0 ∷ [])
-    ∷ spread-gives text-a-3 100 3 (3 ∷ []) (0 ∷ 0 ∷ [])
-    ∷ spread-refused text-a-3 3 7 0 0
+    ∷ spread-gives text-a-1 7 1 (1 ∷ []) (2 ∷ 0 ∷ [])
+    ∷ table-gives text-a-4 22 table-a-4
+    ∷ table-refused text-a-4 21 8 0 0
+    ∷ spread-gives text-a-4 4 4 (4 ∷ []) (0 ∷ 0 ∷ [])
+    ∷ spread-gives text-a-4 100 4 (4 ∷ []) (0 ∷ 0 ∷ [])
+    ∷ spread-refused text-a-4 3 7 0 0
     ∷ table-gives (with-lines text-a ("GAP 1 0" ∷ [])) 50 table-a
-    ∷ table-gives text-b-1 80 table-b-1
-    ∷ spread-gives text-b-1 8 1 (1 ∷ 0 ∷ []) (3 ∷ 2 ∷ 0 ∷ [])
-    ∷ spread-gives text-b-2-5 9 7 (2 ∷ 5 ∷ []) (0 ∷ 0 ∷ 0 ∷ [])
+    ∷ table-gives text-b-1 98 table-b-1
+    ∷ spread-gives text-b-1 9 1 (1 ∷ 0 ∷ []) (4 ∷ 2 ∷ 0 ∷ [])
+    ∷ spread-gives text-b-3-5 9 8 (3 ∷ 5 ∷ []) (0 ∷ 0 ∷ 0 ∷ [])
     -- a channel without pairs, and the greatest floor
     ∷ table-gives text-c-3 22 ("TABLE 1" ∷ "ROW 5 3 3 0 0" ∷ [])
+    ∷ spread-gives (with-lines text-c ("GAP 1 1" ∷ [])) 5 1 (1 ∷ []) (0 ∷ 0 ∷ [])
     ∷ spread-gives (with-lines text-a ("GAP 1 64" ∷ [])) 4 64 (64 ∷ []) (0 ∷ 0 ∷ [])
-    -- trials at a floor and below it
-    ∷ trial-gives text-a-3 4 (3 ∷ []) (0 ∷ 0 ∷ []) true
-    ∷ trial-gives text-a-3 4 (2 ∷ []) (0 ∷ 0 ∷ []) false
+    -- trials at a floor, which is not a track less, and below it
+    ∷ trial-gives text-a-4 4 (4 ∷ []) (0 ∷ 0 ∷ []) true
+    ∷ trial-gives text-a-4 4 (3 ∷ []) (0 ∷ 0 ∷ []) false
     ∷ trial-gives text-c-3 5 (2 ∷ []) (0 ∷ 0 ∷ []) false
     ∷ trial-gives text-512 1 (64 ∷ 64 ∷ 64 ∷ 64 ∷ 64 ∷ 64 ∷ 64 ∷ 64 ∷ []) (replicate 9 0) true
     ∷ trial-gives text-512 1 (64 ∷ 64 ∷ 64 ∷ 64 ∷ 64 ∷ 64 ∷ 64 ∷ 63 ∷ []) (replicate 9 0) false
     -- pages
-    ∷ page-gives text-a-3 6 1 276 page-a-3
+    ∷ page-gives text-a-1 6 1 138 page-a-1
+    ∷ page-gives text-a-4 6 1 345 page-a-4
     ∷ page-gives text-c-3 5 1 276 ("  3 " ∷ "  2 " ∷ "  1 " ∷ "  0 " ∷ [])
     -- refusals of a GAP line, in their order
     ∷ table-refused (with-lines text-a ("GAP 1" ∷ [])) 50 2 5 0
@@ -337,44 +377,47 @@ specimens =
     ∷ table-refused (with-lines text-a ("GAP 0 1" ∷ [])) 50 3 5 2
     ∷ table-refused (with-lines text-a ("GAP 2 65" ∷ [])) 50 3 5 2
     ∷ spread-refused (with-lines text-a ("GAP 1 65" ∷ [])) 3 3 5 3
-    ∷ trial-refused (with-lines text-a ("GAP 1 65" ∷ [])) 4 (2 ∷ []) (0 ∷ 0 ∷ []) 3 5 3
+    ∷ trial-refused (with-lines text-a ("GAP 1 65" ∷ [])) 4 (3 ∷ []) (0 ∷ 0 ∷ []) 3 5 3
     ∷ page-refused (with-lines text-a ("GAP 1 65" ∷ [])) 64 2 300 3 5 3
     ∷ table-refused (with-lines text-a-1 ("GAP 1 1" ∷ [])) 50 6 6 2
     ∷ table-refused (with-lines text-a-1 ("GAP 1 65" ∷ [])) 50 3 6 3
     ∷ table-refused (with-lines text-b ("GAP 2 1" ∷ "GAP 1 1" ∷ [])) 50 6 8 2
-    -- stated totals of A: below the least one and above it, up to the greatest number; with a greater separation strips can be further left
+    -- stated totals of A: below the least one and above it, up to the greatest number; with a greater separation strips can be further left, but not with one track
     ∷ place-refused text-a 4 0 10 0 0
-    ∷ place-refused text-a 4 1 10 0 0
-    ∷ place-gives text-a 4 3 (3 ∷ []) (0 ∷ 0 ∷ [])
+    ∷ place-refused text-a 4 2 10 0 0
+    ∷ place-gives text-a 4 4 (4 ∷ []) (0 ∷ 0 ∷ [])
     ∷ place-gives text-a 4 4294967295 (4294967295 ∷ []) (0 ∷ 0 ∷ [])
-    ∷ place-gives text-a 5 2 (2 ∷ []) (0 ∷ 0 ∷ [])
-    ∷ place-gives text-a 6 1 (1 ∷ []) (1 ∷ 0 ∷ [])
+    ∷ place-gives text-a 5 3 (3 ∷ []) (0 ∷ 0 ∷ [])
+    ∷ place-gives text-a 6 1 (1 ∷ []) (2 ∷ 0 ∷ [])
+    ∷ place-gives text-a 6 2 (2 ∷ []) (1 ∷ 0 ∷ [])
     ∷ place-gives text-a 100 7 (7 ∷ []) (0 ∷ 0 ∷ [])
     -- of B: all that can be is in the last channel
-    ∷ place-refused text-b 5 2 10 0 0
-    ∷ place-gives text-b 5 4 (1 ∷ 3 ∷ []) (1 ∷ 0 ∷ 0 ∷ [])
-    ∷ place-gives text-b 5 5 (1 ∷ 4 ∷ []) (1 ∷ 0 ∷ 0 ∷ [])
-    ∷ place-refused text-b 6 1 10 0 0
-    ∷ place-gives text-b 6 2 (0 ∷ 2 ∷ []) (2 ∷ 0 ∷ 0 ∷ [])
+    ∷ place-refused text-b 5 4 10 0 0
+    ∷ place-gives text-b 5 6 (2 ∷ 4 ∷ []) (1 ∷ 0 ∷ 0 ∷ [])
+    ∷ place-gives text-b 5 7 (2 ∷ 5 ∷ []) (1 ∷ 0 ∷ 0 ∷ [])
+    ∷ place-refused text-b 6 2 10 0 0
     ∷ place-gives text-b 6 3 (0 ∷ 3 ∷ []) (2 ∷ 0 ∷ 0 ∷ [])
-    ∷ place-gives text-b 6 5 (0 ∷ 5 ∷ []) (2 ∷ 0 ∷ 0 ∷ [])
+    ∷ place-gives text-b 6 4 (0 ∷ 4 ∷ []) (2 ∷ 0 ∷ 0 ∷ [])
+    ∷ place-gives text-b 6 6 (0 ∷ 6 ∷ []) (2 ∷ 0 ∷ 0 ∷ [])
     ∷ place-gives text-b 6 4294967295 (0 ∷ 4294967295 ∷ []) (2 ∷ 0 ∷ 0 ∷ [])
-    ∷ place-gives text-b 7 2 (0 ∷ 2 ∷ []) (2 ∷ 0 ∷ 0 ∷ [])
+    ∷ place-gives text-b 7 3 (0 ∷ 3 ∷ []) (2 ∷ 0 ∷ 0 ∷ [])
+    ∷ place-gives text-b 8 1 (0 ∷ 1 ∷ []) (4 ∷ 2 ∷ 0 ∷ [])
     -- of C, without pairs, and of D
     ∷ place-gives text-c 5 3 (3 ∷ []) (0 ∷ 0 ∷ [])
-    ∷ place-refused text-d 1 0 10 0 0
-    ∷ place-gives text-d 2 1 (1 ∷ []) (0 ∷ 0 ∷ [])
+    ∷ place-refused text-d 1 1 10 0 0
+    ∷ place-gives text-d 2 1 (1 ∷ []) (0 ∷ 1 ∷ [])
+    ∷ place-gives text-d 2 2 (2 ∷ []) (0 ∷ 0 ∷ [])
     -- for a greater total strips move, or the first separation is smaller
-    ∷ place-gives text-between 2 2 (1 ∷ 1 ∷ []) (0 ∷ 0 ∷ 0 ∷ [])
-    ∷ spread-gives text-moved 2 1 (1 ∷ 0 ∷ []) (0 ∷ 1 ∷ 0 ∷ [])
-    ∷ place-gives text-moved 2 2 (0 ∷ 2 ∷ []) (1 ∷ 0 ∷ 0 ∷ [])
+    ∷ place-gives text-between 2 4 (2 ∷ 2 ∷ []) (0 ∷ 0 ∷ 0 ∷ [])
+    ∷ spread-gives text-moved 2 2 (2 ∷ 0 ∷ []) (0 ∷ 1 ∷ 0 ∷ [])
+    ∷ place-gives text-moved 2 3 (0 ∷ 3 ∷ []) (1 ∷ 0 ∷ 0 ∷ [])
     -- with floors; at a spread too broad for a page a total below the floor is 10
-    ∷ place-refused text-a-3 4 2 10 0 0
-    ∷ place-gives text-a-3 4 4 (4 ∷ []) (0 ∷ 0 ∷ [])
-    ∷ place-refused text-a-3 100 2 10 0 0
-    ∷ place-gives text-b-1 6 3 (1 ∷ 2 ∷ []) (1 ∷ 0 ∷ 0 ∷ [])
-    ∷ place-refused text-b-2-5 9 6 10 0 0
-    ∷ place-gives text-b-2-5 9 8 (2 ∷ 6 ∷ []) (0 ∷ 0 ∷ 0 ∷ [])
+    ∷ place-refused text-a-4 4 3 10 0 0
+    ∷ place-gives text-a-4 4 5 (5 ∷ []) (0 ∷ 0 ∷ [])
+    ∷ place-refused text-a-4 100 3 10 0 0
+    ∷ place-gives text-b-1 6 4 (1 ∷ 3 ∷ []) (2 ∷ 0 ∷ 0 ∷ [])
+    ∷ place-refused text-b-3-5 9 7 10 0 0
+    ∷ place-gives text-b-3-5 9 9 (3 ∷ 6 ∷ []) (0 ∷ 0 ∷ 0 ∷ [])
     -- 1 to 6, then 7, before 10
     ∷ place-refused text-e 100 0 2 1 0
     ∷ place-refused text-h 3 0 6 4 4
