@@ -85,6 +85,7 @@ fn print_help() -> u32
   page: the paths of a channel, from 1, in the answer for spread N, at most 63;
   trial: legal or not legal, for separations T1..TK and positions X0..XK in spread N.
 A line GAP, a channel and a floor behind the stack's NETS lines is a least separation of that channel.
+In a channel with separation T paths run along tracks 1 to T - 1 only: the tracks of both strips' edges, 0 and T, stay clear.
 Where the stack, the spread, the total or the channel is refused it prints the refusal's number, line and field.
 A number is 1 to 10 decimal digits, at most 4294967295.
 It exits with 0 for an answer, 1 for a refusal, 2 for anything said on standard error.
@@ -99,7 +100,7 @@ Example: two strips of 4 columns and two pairs, in a spread of 5
 fn print_version() -> u32
     ensures { λ r. ⌜ Passed-on 0 r ⌝ }
 {
-    print(b"stacktable 1.3\n", ANSWERED)
+    print(b"stacktable 1.4\n", ANSWERED)
 }
 
 // Says what is wrong with the arguments, and how the program is used.

@@ -7,7 +7,7 @@ use mathlib.Core.Bool.{Bool, true, _&&_, _||_}
 use mathlib.Core.List.{List, [], _∷_}
 use mathlib.Core.Logic.{⊎-elim}
 use Prim.Native.Nat.{ℕ, zero, suc, _+_, _≤_, _<_}
-use lib.Dec.{ltb, leb, eqb}
+use lib.Dec.{leb, eqb}
 use lib.IntN.{ℤ, pos, negsuc}
 use native.Mathlib.Decide.{ℕ-discrete, decLt}
 use native.Mathlib.Omega.{arith}
@@ -102,10 +102,10 @@ module _ (t : ℕ) (c : ℕ → ℕ) (k : Cut t c) (a b : Point) where
         first = λ u. absurd (omega arith);
       }
 
-  along-slow : a .track ≡ b .track → Inner t (a .track) → far (a .column) ≤ suc (far (b .column)) → far (b .column) ≤ suc (far (a .column))
+  along-slow : a .track ≡ b .track → 0 < a .track → a .track < t → far (a .column) ≤ suc (far (b .column)) → far (b .column) ≤ suc (far (a .column))
       → Slow t column-of (cut-at c) a b
   unfolding column-of cut-at
-  along-slow y l i j = let e = ap c y in omega arith
+  along-slow y o l i j = let e = ap c y in omega arith
 
   step-slow : is-step t a b ≡ true → Slow t column-of (cut-at c) a b
   unfolding is-step
@@ -114,11 +114,8 @@ module _ (t : ℕ) (c : ℕ → ℕ) (k : Cut t c) (a b : Point) where
       (eqb (a .track) (b .track) && _) _ _ s
       (λ w e u. up-slow (search same-column-equal) (search eqb-true) (search (ands, leb-true)))
       (λ w e d. down-slow (search same-column-equal) (search eqb-true) (search (ands, leb-true)))
-      (λ f r. let e = next-far (a .column) (b .column) r in along-slow (search (ands, eqb-true)) (inner f) (e .0) (e .1))
-      (λ f l. let e = next-far (b .column) (a .column) l in along-slow (search (ands, eqb-true)) (inner f) (e .1) (e .0))
-    where
-      inner : (eqb (a .track) (b .track) && (ltb 0 (a .track) && ltb (a .track) t)) ≡ true → Inner t (a .track)
-      inner f = (ltb-true 0 (a .track) (search ands), ltb-true (a .track) t (search ands))
+      (λ f r. let e = next-far (a .column) (b .column) r in along-slow (search (ands, eqb-true)) (search (ands, ltb-true)) (search (ands, ltb-true)) (e .0) (e .1))
+      (λ f l. let e = next-far (b .column) (a .column) l in along-slow (search (ands, eqb-true)) (search (ands, ltb-true)) (search (ands, ltb-true)) (e .1) (e .0))
 
 -- a point of the path at which f and g agree, between the edges
 record Met (t : ℕ) (f g : Point → ℕ) (ws : List Point) : Type 0 where
