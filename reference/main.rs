@@ -3,6 +3,7 @@
 
 mod channel;
 mod page;
+mod paths;
 mod random;
 mod reader;
 mod solver;
@@ -10,6 +11,7 @@ mod specimens;
 
 use random::Random;
 use reader::{Refusal, Stack};
+use std::collections::BTreeMap;
 use std::io::{Read, Write};
 
 const USAGE: &str = "usage: reference channels < crates/channel_test/stdin
@@ -20,7 +22,8 @@ const USAGE: &str = "usage: reference channels < crates/channel_test/stdin
        reference page SPREAD CHANNEL < STACK
        reference trial SPREAD SEPARATION.. POSITION.. < STACK    (k separations, k + 1 positions)
        reference specimens
-       reference agree SEED COUNT";
+       reference agree SEED COUNT
+       reference paths";
 
 fn channels(input: &str) {
     let mut numbers = input.split_whitespace().map(|w| w.parse::<i64>().expect("a number"));
@@ -36,13 +39,13 @@ fn channels(input: &str) {
             continue;
         }
         print!("pairs {}", m);
-        for t in 0..m {
-            print!("\t{} to {}", channel::left_limit(&pairs, t).unwrap(), channel::right_limit(&pairs, t).unwrap());
+        for (l, r) in (0..).map_while(|t| channel::limits(&pairs, t)) {
+            print!("\t{} to {}", l, r);
         }
         println!();
         for _ in 0..next() {
             let (lower, upper) = (next(), next());
-            let bits: String = (0..=m + 1).map(|t| if channel::feasible(&pairs, t, upper - lower) { '1' } else { '0' }).collect();
+            let bits: String = (0..=m + 2).map(|t| if channel::feasible(&pairs, t, upper - lower) { '1' } else { '0' }).collect();
             println!("{} {}: {}", lower, upper, bits);
         }
     }
@@ -197,6 +200,16 @@ fn check_agreement(seed: u64, count: usize) -> Result<(usize, usize), Vec<u8>> {
     Ok((spreads, placements))
 }
 
+/// The search over paths beside the condition on a channel: what was met how often, or the first difference.
+fn check_paths() -> Result<String, String> {
+    let mut counts = BTreeMap::new();
+    paths::compare(|what| *counts.entry(what).or_insert(0) += 1)?;
+    if let Some(what) = paths::MET.iter().find(|what| !counts.contains_key(*what)) {
+        return Err(format!("never met: {}", what));
+    }
+    Ok(counts.iter().map(|(what, count)| format!("{:>9} {}\n", count, what)).collect())
+}
+
 fn read_input() -> Vec<u8> {
     let mut input = Vec::new();
     std::io::stdin().read_to_end(&mut input).expect("input");
@@ -239,6 +252,10 @@ fn run(words: &[String]) -> Option<(String, bool)> {
                 Some((format!("{} stacks, {} spreads, {} placements: no difference\n", rest[1], spreads, placements), true))
             }
             Err(text) => Some((format!("a difference:\n{}", String::from_utf8(text).unwrap()), false)),
+        },
+        ("paths", 0) => match check_paths() {
+            Ok(counts) => Some((counts + "paths: no difference\n", true)),
+            Err(difference) => Some((format!("a difference: {}\n", difference), false)),
         },
         _ => None,
     }

@@ -1,5 +1,5 @@
 //! The page of a channel, by document 02, P1: each path point by point, the arms of its points, a line for each track.
-//! With a floor (P2) there may be tracks above the runs, where paths go straight up.
+//! The lower edge's track has no runs (P4), and with a floor (P2) there may be tracks above the runs: there paths go straight up.
 //! What P1 says of the paths is looked at for every page; where it does not hold, the program ends with words.
 
 use crate::reader::{Refusal, Stack};
@@ -41,8 +41,8 @@ fn upright(path: &mut Vec<Point>, track: i64) {
     }
 }
 
-/// Pair j's path to a column of track t, by the columns of the lower edge.
-fn path(lower: &[i64], j: usize, end: i64, t: i64) -> Vec<Point> {
+/// P1's path of pair j to a column of track t, by the columns of the lower edge.
+fn former_path(lower: &[i64], j: usize, end: i64, t: i64) -> Vec<Point> {
     let mut path = vec![(lower[j], 0)];
     let step = (end - lower[j]).signum();
     let mut c = lower[j];
@@ -56,7 +56,16 @@ fn path(lower: &[i64], j: usize, end: i64, t: i64) -> Vec<Point> {
     path
 }
 
-/// Document 01's rule for one path.
+/// The path by P4: from separation 1 on the former one of one track less, one track higher, with an upright step below.
+fn path(lower: &[i64], j: usize, end: i64, t: i64) -> Vec<Point> {
+    if t == 0 {
+        return former_path(lower, j, end, t);
+    }
+    let higher = former_path(lower, j, end, t - 1).into_iter().map(|(c, track)| (c, track + 1));
+    std::iter::once((lower[j], 0)).chain(higher).collect()
+}
+
+/// Document 01's rule for one path, with P4's tracks.
 fn check_path(path: &[Point], from: i64, upto: i64, t: i64) {
     assert_eq!(path.first(), Some(&(from, 0)), "a path begins elsewhere");
     assert_eq!(path.last(), Some(&(upto, t)), "a path ends elsewhere");
@@ -64,11 +73,11 @@ fn check_path(path: &[Point], from: i64, upto: i64, t: i64) {
     for step in path.windows(2) {
         let (across, along) = ((step[1].0 - step[0].0).abs(), (step[1].1 - step[0].1).abs());
         assert_eq!(across + along, 1, "no unit step: {:?}", step);
-        assert!(across == 0 || step[0].1 < t, "a horizontal step on the last track: {:?}", step);
+        assert!(across == 0 || 0 < step[0].1 && step[0].1 < t, "a horizontal step along an edge: {:?}", step);
     }
 }
 
-/// The paths of a channel in a placement, each by document 01's rule and within the spread.
+/// The paths of a channel in a placement, each by the rule and within the spread.
 fn paths(stack: &Stack, answer: &Answer, spread: i64, channel: usize) -> Vec<Vec<Point>> {
     let pairs = &stack.channels[channel - 1];
     let t = answer.separations[channel - 1] as i64;

@@ -80,14 +80,14 @@ impl Random {
         self.with_floors(lengths, channels)
     }
 
-    /// A floor for a channel of m pairs: small or below half their count; unless it is to be low, also below their count or about it, the
-    /// greatest, or any.
+    /// A floor for a channel of m pairs: small, 1 the most often, or below half their count; unless it is to be low, also below their count or about one more,
+    /// from where on every offset is feasible, the greatest, or any.
     fn floor(&mut self, m: usize, low: bool) -> usize {
         let floor = match self.below(if low { 2 } else { 7 }) {
-            0 => self.below(3),
+            0 => [0, 1, 1, 2][self.below(4)],
             1 => self.below(1 + m / 2),
             2 => self.below(1 + m),
-            3 | 4 => (m + self.below(5)).saturating_sub(2),
+            3 | 4 => (m + self.below(5)).saturating_sub(1),
             5 => 64,
             _ => self.below(65),
         };

@@ -1,7 +1,7 @@
 //! The least total in a spread and the placement for a stated total, by trying: totals from 0 on; the separations of a total in dictionary order; for each
 //! the positions, strip 0 first.
 
-use crate::channel::{feasible, left_limit, right_limit, Pair};
+use crate::channel::{feasible, limits};
 use crate::reader::Stack;
 
 /// A placement and its total.
@@ -46,11 +46,11 @@ fn place_by_trying(stack: &Stack, spread: i64, separations: &[usize], placed: &m
 fn place_by_ranges(stack: &Stack, spread: i64, separations: &[usize]) -> Option<Vec<i64>> {
     let n = separations.len() + 1;
     let far = spread + 5000;
-    let limits = |c: &[Pair], t: usize| (left_limit(c, t).unwrap_or(-far), right_limit(c, t).unwrap_or(far));
+    let limits = |i: usize| limits(&stack.channels[i], separations[i]).unwrap_or((-far, far));
     let mut ranges = vec![(0, 0); n];
     ranges[n - 1] = (0, spread - stack.lengths[n - 1]);
     for i in (0..n - 1).rev() {
-        let (l, r) = limits(&stack.channels[i], separations[i]);
+        let (l, r) = limits(i);
         let (lo, up) = ranges[i + 1];
         if l > r || lo > up {
             return None;
@@ -62,7 +62,7 @@ fn place_by_ranges(stack: &Stack, spread: i64, separations: &[usize]) -> Option<
     }
     let mut placed = vec![ranges[0].0];
     for i in 1..n {
-        let (l, _) = limits(&stack.channels[i - 1], separations[i - 1]);
+        let (l, _) = limits(i - 1);
         placed.push((placed[i - 1] + l).max(ranges[i].0));
     }
     legal(stack, spread, separations, &placed).then_some(placed)
@@ -70,13 +70,12 @@ fn place_by_ranges(stack: &Stack, spread: i64, separations: &[usize]) -> Option<
 
 /// The least separation of a channel that is feasible at some offset.
 fn least_open(stack: &Stack, i: usize) -> usize {
-    let pairs = &stack.channels[i];
-    (stack.floors[i]..pairs.len()).find(|&t| left_limit(pairs, t) <= right_limit(pairs, t)).unwrap_or(least_free(stack, i))
+    (stack.floors[i]..).find(|t| limits(&stack.channels[i], *t).map_or(true, |(l, r)| l <= r)).expect("a separation")
 }
 
-/// The least separation of a channel that is feasible at every offset.
+/// The least separation of a channel that is feasible at every offset: its floor, or one more than its pairs where it has any.
 fn least_free(stack: &Stack, i: usize) -> usize {
-    stack.channels[i].len().max(stack.floors[i])
+    (stack.floors[i]..).find(|t| limits(&stack.channels[i], *t).is_none()).expect("a separation")
 }
 
 /// The sum of these over the channels: from such a total on nothing keeps a strip from the left.

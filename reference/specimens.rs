@@ -1,5 +1,5 @@
-//! The specimens of document 01: a stack's text with what it is answered, their pages by document 02 too; then with floors, by P2, and for greater totals,
-//! by P3.
+//! The specimens of document 01 with P4's tracks: a stack's text with what it is answered, their pages by P1 too; then with floors, by P2, and for greater
+//! totals, by P3.
 //! Tabs are written as spaces here.
 
 /// Specimen A's text, and lines behind it.
@@ -16,21 +16,32 @@ macro_rules! b {
     };
 }
 
-const A_TABLE: &str = "TABLE 1\nROW 4 2 2 0 0\nROW 5 1 1 1 0\nROW 6 0 0 2 0\n";
+/// Specimen D's text, and lines behind it.
+macro_rules! d {
+    ($behind:literal) => {
+        concat!("STACK 1\nPART 1\nPART 1\nNETS 1 0\n", $behind)
+    };
+}
+
+const A_TABLE: &str = "TABLE 1\nROW 4 3 3 0 0\nROW 5 2 2 1 0\nROW 6 0 0 2 0\n";
 const FLOOR_1: &str = a!("GAP 1 1\n");
 const FLOOR_2: &str = a!("GAP 1 2\n");
+const FLOOR_3: &str = a!("GAP 1 3\n");
+const FLOOR_4: &str = a!("GAP 1 4\n");
 const FLOOR_64: &str = a!("GAP 1 64\n");
 const FLOOR_65: &str = a!("GAP 1 65\n");
 const FLOOR_BELOW: &str = b!("GAP 1 1\n");
 const FLOOR_ABOVE: &str = b!("GAP 2 1\n");
 const NO_PAIRS: &str = "STACK 1\nPART 3\nPART 5\nNETS\nGAP 1 3\n";
+const NO_PAIRS_1: &str = "STACK 1\nPART 3\nPART 5\nNETS\nGAP 1 1\n";
+const D_FLOOR_1: &str = d!("GAP 1 1\n");
 
 /// The text, and the table or the refusal's line.
-pub const TABLES: [(&str, &str, &str); 29] = [
+pub const TABLES: [(&str, &str, &str); 33] = [
     ("A", a!(""), A_TABLE),
-    ("B", b!(""), "TABLE 2\nROW 4 4 2 2 0 0 0\nROW 5 3 1 2 1 0 0\nROW 6 2 0 2 2 0 0\nROW 7 1 0 1 3 1 0\nROW 8 0 0 0 4 2 0\n"),
+    ("B", b!(""), "TABLE 2\nROW 4 6 3 3 0 0 0\nROW 5 5 2 3 1 0 0\nROW 6 3 0 3 2 0 0\nROW 7 2 0 2 3 1 0\nROW 8 0 0 0 4 2 0\n"),
     ("C", "STACK 1\nPART 3\nPART 5\nNETS\n", "TABLE 1\nROW 5 0 0 0 0\n"),
-    ("D", "STACK 1\nPART 1\nPART 1\nNETS 1 0\n", "TABLE 1\nROW 1 1 1 0 0\nROW 2 0 0 0 1\n"),
+    ("D", d!(""), "TABLE 1\nROW 1 2 2 0 0\nROW 2 0 0 0 1\n"),
     ("E", "", "2 1 0\n"),
     ("F", "STACK 1\nPART 0\nPART 4\nNETS 0 2 2 4\n", "4 2 2\n"),
     ("G", "STACK 1\nPART 4\nPART 4\nNETS 0 2 2 5\n", "5 4 5\n"),
@@ -40,15 +51,28 @@ pub const TABLES: [(&str, &str, &str); 29] = [
     ("no channel", "STACK 0\nPART 1\n", "3 1 2\n"),
     ("nine channels", "STACK 9\n", "3 1 2\n"),
     ("A, floor 0", a!("GAP 1 0\n"), A_TABLE),
-    ("A, floor 1", FLOOR_1, "TABLE 1\nROW 4 2 2 0 0\nROW 5 1 1 1 0\n"),
-    ("A, floor 2", FLOOR_2, "TABLE 1\nROW 4 2 2 0 0\n"),
+    // With a separation of 1 the strips stand as with 0.
+    ("A, floor 1", FLOOR_1, "TABLE 1\nROW 4 3 3 0 0\nROW 5 2 2 1 0\nROW 6 1 1 2 0\n"),
+    ("A, floor 2", FLOOR_2, "TABLE 1\nROW 4 3 3 0 0\nROW 5 2 2 1 0\n"),
+    ("A, floor 3", FLOOR_3, "TABLE 1\nROW 4 3 3 0 0\n"),
+    ("A, floor 4", FLOOR_4, "TABLE 1\nROW 4 4 4 0 0\n"),
     ("A, floor 64", FLOOR_64, "TABLE 1\nROW 4 64 64 0 0\n"),
-    // At spread 6 the floor forbids separations 0, 2; then 1, 1 are first.
-    ("B, floor 1 below", FLOOR_BELOW, "TABLE 2\nROW 4 4 2 2 0 0 0\nROW 5 3 1 2 1 0 0\nROW 6 2 1 1 2 1 0\nROW 7 1 1 0 3 2 0\n"),
-    ("B, floor 1 above", FLOOR_ABOVE, "TABLE 2\nROW 4 4 2 2 0 0 0\nROW 5 3 1 2 1 0 0\nROW 6 2 0 2 2 0 0\nROW 7 1 0 1 3 1 0\n"),
-    ("B, floors 2 and 5", b!("GAP 1 2\nGAP 2 5\n"), "TABLE 2\nROW 4 7 2 5 0 0 0\n"),
+    // At spread 6 the floor forbids separations 0, 3, at 7 it forbids 0, 2; the totals are met by 3, 0 and 2, 0.
+    (
+        "B, floor 1 below",
+        FLOOR_BELOW,
+        "TABLE 2\nROW 4 6 3 3 0 0 0\nROW 5 5 2 3 1 0 0\nROW 6 3 3 0 0 2 0\nROW 7 2 2 0 3 2 0\nROW 8 1 1 0 4 2 0\n",
+    ),
+    (
+        "B, floor 1 above",
+        FLOOR_ABOVE,
+        "TABLE 2\nROW 4 6 3 3 0 0 0\nROW 5 5 2 3 1 0 0\nROW 6 3 0 3 2 0 0\nROW 7 2 0 2 3 1 0\nROW 8 1 0 1 4 2 0\n",
+    ),
+    ("B, floors 2 and 5", b!("GAP 1 2\nGAP 2 5\n"), "TABLE 2\nROW 4 8 3 5 0 0 0\nROW 5 7 2 5 1 0 0\n"),
+    ("C, floor 1", NO_PAIRS_1, "TABLE 1\nROW 5 1 1 0 0\n"),
     ("C, floor 3", NO_PAIRS, "TABLE 1\nROW 5 3 3 0 0\n"),
-    ("D, floor 1", "STACK 1\nPART 1\nPART 1\nNETS 1 0\nGAP 1 1\n", "TABLE 1\nROW 1 1 1 0 0\n"),
+    ("D, floor 1", D_FLOOR_1, "TABLE 1\nROW 1 2 2 0 0\nROW 2 1 1 0 1\n"),
+    ("D, floor 2", d!("GAP 1 2\n"), "TABLE 1\nROW 1 2 2 0 0\n"),
     ("GAP with one number", a!("GAP 1\n"), "2 5 0\n"),
     ("GAP before NETS", "STACK 1\nPART 4\nPART 4\nGAP 1 1\nNETS 0 2 2 4\n", "2 4 0\n"),
     ("a line behind GAP", a!("GAP 1 1\nNETS\n"), "2 6 0\n"),
@@ -60,124 +84,177 @@ pub const TABLES: [(&str, &str, &str); 29] = [
 ];
 
 /// The text, a spread, and the row or the refusal's line.
-pub const SPREADS: [(&str, &str, u32, &str); 9] = [
+pub const SPREADS: [(&str, &str, u32, &str); 13] = [
     ("A at 3", TABLES[0].1, 3, "7 0 0\n"),
     ("A at 100", TABLES[0].1, 100, "ROW 100 0 0 2 0\n"),
-    ("B at 6", TABLES[1].1, 6, "ROW 6 2 0 2 2 0 0\n"),
+    ("B at 6", TABLES[1].1, 6, "ROW 6 3 0 3 2 0 0\n"),
     ("A at the widest", TABLES[0].1, u32::MAX, "ROW 4294967295 0 0 2 0\n"),
-    ("A, floor 1, at 6", FLOOR_1, 6, "ROW 6 1 1 1 0\n"),
-    ("A, floor 2, at 6", FLOOR_2, 6, "ROW 6 2 2 0 0\n"),
+    ("A, floor 1, at 6", FLOOR_1, 6, "ROW 6 1 1 2 0\n"),
+    ("A, floor 1, at 5", FLOOR_1, 5, "ROW 5 2 2 1 0\n"),
+    ("A, floor 2, at 6", FLOOR_2, 6, "ROW 6 2 2 1 0\n"),
+    ("A, floor 3, at 6", FLOOR_3, 6, "ROW 6 3 3 0 0\n"),
     ("A, floor 64, at 3", FLOOR_64, 3, "7 0 0\n"),
-    ("B, floor 1 below, at 8", FLOOR_BELOW, 8, "ROW 8 1 1 0 3 2 0\n"),
-    ("B, floor 1 above, at 8", FLOOR_ABOVE, 8, "ROW 8 1 0 1 3 1 0\n"),
+    ("B, floor 1 below, at 8", FLOOR_BELOW, 8, "ROW 8 1 1 0 4 2 0\n"),
+    ("B, floor 1 below, at 9", FLOOR_BELOW, 9, "ROW 9 1 1 0 4 2 0\n"),
+    ("B, floor 1 above, at 8", FLOOR_ABOVE, 8, "ROW 8 1 0 1 4 2 0\n"),
+    ("D, floor 1, at 3", D_FLOOR_1, 3, "ROW 3 1 1 0 1\n"),
 ];
 
-/// The least total at spread 6 has channel 1 at 1, so that strip 1 stands at 1 and channel 2 is straight. With one track more channel 1 is straight, and
-/// channel 2 needs two: the surplus goes into the middle, and none into the last channel, which is straight both times.
+/// The least total at spread 6 has channel 1 at 2, so that strip 1 stands at 1 and channel 2 is straight. With one track more channel 1 is straight, and
+/// channel 2 needs three: the surplus goes into the middle, and none into the last channel, which is straight both times.
 const MIDDLE: &str = "STACK 3\nPART 4\nPART 4\nPART 4\nPART 4\nNETS 0 2 2 4\nNETS 1 2 2 3\nNETS 0 0\n";
 
 /// The text, a spread, a stated total, and the row or the refusal's line.
-pub const PLACES: [(&str, &str, u32, u32, &str); 58] = [
-    ("A at 4", TABLES[0].1, 4, 2, "ROW 4 2 2 0 0\n"),
-    ("A at 4, one below", TABLES[0].1, 4, 1, "10 0 0\n"),
+pub const PLACES: [(&str, &str, u32, u32, &str); 71] = [
+    ("A at 4", TABLES[0].1, 4, 3, "ROW 4 3 3 0 0\n"),
+    ("A at 4, one below", TABLES[0].1, 4, 2, "10 0 0\n"),
     ("A at 4, none", TABLES[0].1, 4, 0, "10 0 0\n"),
-    ("A at 4, one more", TABLES[0].1, 4, 3, "ROW 4 3 3 0 0\n"),
+    ("A at 4, one more", TABLES[0].1, 4, 4, "ROW 4 4 4 0 0\n"),
     ("A at 4, many more", TABLES[0].1, 4, 1000, "ROW 4 1000 1000 0 0\n"),
     ("A at 4, the most", TABLES[0].1, 4, u32::MAX, "ROW 4 4294967295 4294967295 0 0\n"),
     ("A at 5, none", TABLES[0].1, 5, 0, "10 0 0\n"),
-    ("A at 5", TABLES[0].1, 5, 1, "ROW 5 1 1 1 0\n"),
-    ("A at 5, one more", TABLES[0].1, 5, 2, "ROW 5 2 2 0 0\n"),
+    ("A at 5, one below", TABLES[0].1, 5, 1, "10 0 0\n"),
+    ("A at 5", TABLES[0].1, 5, 2, "ROW 5 2 2 1 0\n"),
+    ("A at 5, one more", TABLES[0].1, 5, 3, "ROW 5 3 3 0 0\n"),
     ("A at 6", TABLES[0].1, 6, 0, "ROW 6 0 0 2 0\n"),
-    ("A at 6, one more", TABLES[0].1, 6, 1, "ROW 6 1 1 1 0\n"),
-    ("A at 6, two more", TABLES[0].1, 6, 2, "ROW 6 2 2 0 0\n"),
-    ("A at 100, one more", TABLES[0].1, 100, 1, "ROW 100 1 1 1 0\n"),
+    ("A at 6, one more", TABLES[0].1, 6, 1, "ROW 6 1 1 2 0\n"),
+    ("A at 6, two more", TABLES[0].1, 6, 2, "ROW 6 2 2 1 0\n"),
+    ("A at 6, three more", TABLES[0].1, 6, 3, "ROW 6 3 3 0 0\n"),
+    ("A at 100, one more", TABLES[0].1, 100, 1, "ROW 100 1 1 2 0\n"),
     ("A at the widest, the most", TABLES[0].1, u32::MAX, u32::MAX, "ROW 4294967295 4294967295 4294967295 0 0\n"),
     ("A at 3, none: 7 before 10", TABLES[0].1, 3, 0, "7 0 0\n"),
-    ("A at 3", TABLES[0].1, 3, 2, "7 0 0\n"),
-    ("B at 4, one below", TABLES[1].1, 4, 3, "10 0 0\n"),
-    ("B at 4", TABLES[1].1, 4, 4, "ROW 4 4 2 2 0 0 0\n"),
-    ("B at 4, one more", TABLES[1].1, 4, 5, "ROW 4 5 2 3 0 0 0\n"),
-    ("B at 5, one below", TABLES[1].1, 5, 2, "10 0 0\n"),
-    ("B at 5", TABLES[1].1, 5, 3, "ROW 5 3 1 2 1 0 0\n"),
-    ("B at 5, one more", TABLES[1].1, 5, 4, "ROW 5 4 1 3 1 0 0\n"),
-    ("B at 6, one below", TABLES[1].1, 6, 1, "10 0 0\n"),
-    ("B at 6", TABLES[1].1, 6, 2, "ROW 6 2 0 2 2 0 0\n"),
-    ("B at 6, one more", TABLES[1].1, 6, 3, "ROW 6 3 0 3 2 0 0\n"),
-    ("B at 6, three more", TABLES[1].1, 6, 5, "ROW 6 5 0 5 2 0 0\n"),
+    ("A at 3", TABLES[0].1, 3, 3, "7 0 0\n"),
+    ("B at 4, one below", TABLES[1].1, 4, 5, "10 0 0\n"),
+    ("B at 4", TABLES[1].1, 4, 6, "ROW 4 6 3 3 0 0 0\n"),
+    ("B at 4, one more", TABLES[1].1, 4, 7, "ROW 4 7 3 4 0 0 0\n"),
+    ("B at 5, one below", TABLES[1].1, 5, 4, "10 0 0\n"),
+    ("B at 5", TABLES[1].1, 5, 5, "ROW 5 5 2 3 1 0 0\n"),
+    ("B at 5, one more", TABLES[1].1, 5, 6, "ROW 5 6 2 4 1 0 0\n"),
+    ("B at 6, one below", TABLES[1].1, 6, 2, "10 0 0\n"),
+    ("B at 6", TABLES[1].1, 6, 3, "ROW 6 3 0 3 2 0 0\n"),
+    ("B at 6, one more", TABLES[1].1, 6, 4, "ROW 6 4 0 4 2 0 0\n"),
+    ("B at 6, three more", TABLES[1].1, 6, 6, "ROW 6 6 0 6 2 0 0\n"),
     ("B at 6, the most", TABLES[1].1, 6, u32::MAX, "ROW 6 4294967295 0 4294967295 2 0 0\n"),
-    ("B at 7", TABLES[1].1, 7, 1, "ROW 7 1 0 1 3 1 0\n"),
-    ("B at 7, one more", TABLES[1].1, 7, 2, "ROW 7 2 0 2 2 0 0\n"),
+    ("B at 7, one below", TABLES[1].1, 7, 1, "10 0 0\n"),
+    ("B at 7", TABLES[1].1, 7, 2, "ROW 7 2 0 2 3 1 0\n"),
+    ("B at 7, one more", TABLES[1].1, 7, 3, "ROW 7 3 0 3 2 0 0\n"),
     ("B at 8", TABLES[1].1, 8, 0, "ROW 8 0 0 0 4 2 0\n"),
-    ("B at 8, one more", TABLES[1].1, 8, 1, "ROW 8 1 0 1 3 1 0\n"),
-    ("B at 8, two more", TABLES[1].1, 8, 2, "ROW 8 2 0 2 2 0 0\n"),
+    ("B at 8, one more", TABLES[1].1, 8, 1, "ROW 8 1 0 1 4 2 0\n"),
+    ("B at 8, two more", TABLES[1].1, 8, 2, "ROW 8 2 0 2 3 1 0\n"),
+    ("B at 8, three more", TABLES[1].1, 8, 3, "ROW 8 3 0 3 2 0 0\n"),
     ("C at 5", TABLES[2].1, 5, 0, "ROW 5 0 0 0 0\n"),
+    ("C at 5, one more", TABLES[2].1, 5, 1, "ROW 5 1 1 0 0\n"),
     ("C at 5, nine more", TABLES[2].1, 5, 9, "ROW 5 9 9 0 0\n"),
     ("D at 1, none", TABLES[3].1, 1, 0, "10 0 0\n"),
-    ("D at 1", TABLES[3].1, 1, 1, "ROW 1 1 1 0 0\n"),
+    ("D at 1, one below", TABLES[3].1, 1, 1, "10 0 0\n"),
+    ("D at 1", TABLES[3].1, 1, 2, "ROW 1 2 2 0 0\n"),
     ("D at 2", TABLES[3].1, 2, 0, "ROW 2 0 0 0 1\n"),
-    ("D at 2, one more", TABLES[3].1, 2, 1, "ROW 2 1 1 0 0\n"),
+    ("D at 2, one more", TABLES[3].1, 2, 1, "ROW 2 1 1 0 1\n"),
+    ("D at 2, two more", TABLES[3].1, 2, 2, "ROW 2 2 2 0 0\n"),
     ("E: 2 before 7 and 10", TABLES[4].1, 0, 0, "2 1 0\n"),
     ("H: 6 before 7 and 10", TABLES[7].1, 3, 0, "6 4 4\n"),
     ("middle at 6, none", MIDDLE, 6, 0, "10 0 0\n"),
-    ("middle at 6", MIDDLE, 6, 1, "ROW 6 1 1 0 0 2 1 0 0\n"),
-    ("middle at 6, one more", MIDDLE, 6, 2, "ROW 6 2 0 2 0 2 0 0 0\n"),
-    ("middle at 6, two more", MIDDLE, 6, 3, "ROW 6 3 0 2 1 2 0 0 0\n"),
-    ("middle at 6, the most", MIDDLE, 6, u32::MAX, "ROW 6 4294967295 0 2 4294967293 2 0 0 0\n"),
+    ("middle at 6, one below", MIDDLE, 6, 1, "10 0 0\n"),
+    ("middle at 6", MIDDLE, 6, 2, "ROW 6 2 2 0 0 2 1 0 0\n"),
+    ("middle at 6, one more", MIDDLE, 6, 3, "ROW 6 3 0 3 0 2 0 0 0\n"),
+    ("middle at 6, two more", MIDDLE, 6, 4, "ROW 6 4 0 3 1 2 0 0 0\n"),
+    ("middle at 6, the most", MIDDLE, 6, u32::MAX, "ROW 6 4294967295 0 3 4294967292 2 0 0 0\n"),
     ("A, floor 1, at 6, none", FLOOR_1, 6, 0, "10 0 0\n"),
-    ("A, floor 1, at 6", FLOOR_1, 6, 1, "ROW 6 1 1 1 0\n"),
-    ("A, floor 1, at 6, one more", FLOOR_1, 6, 2, "ROW 6 2 2 0 0\n"),
+    ("A, floor 1, at 6", FLOOR_1, 6, 1, "ROW 6 1 1 2 0\n"),
+    ("A, floor 1, at 6, one more", FLOOR_1, 6, 2, "ROW 6 2 2 1 0\n"),
+    ("A, floor 1, at 6, two more", FLOOR_1, 6, 3, "ROW 6 3 3 0 0\n"),
     ("A, floor 1, at 64, none: 9 is of pages", FLOOR_1, 64, 0, "10 0 0\n"),
     ("A, floor 64, at 4, one below", FLOOR_64, 4, 63, "10 0 0\n"),
     ("A, floor 64, at 4", FLOOR_64, 4, 64, "ROW 4 64 64 0 0\n"),
     ("A, floor 64, at 4, one more", FLOOR_64, 4, 65, "ROW 4 65 65 0 0\n"),
-    ("B, floor 1 below, at 8", FLOOR_BELOW, 8, 1, "ROW 8 1 1 0 3 2 0\n"),
-    ("B, floor 1 below, at 8, one more", FLOOR_BELOW, 8, 2, "ROW 8 2 1 1 2 1 0\n"),
-    ("B, floor 1 below, at 8, two more", FLOOR_BELOW, 8, 3, "ROW 8 3 1 2 1 0 0\n"),
+    // With one track more channel 1 comes down from 3 to its floor: separations 2, 2 are legal too and come behind 1, 3.
+    ("B, floor 1 below, at 6, one more", FLOOR_BELOW, 6, 4, "ROW 6 4 1 3 2 0 0\n"),
+    ("B, floor 1 below, at 8", FLOOR_BELOW, 8, 1, "ROW 8 1 1 0 4 2 0\n"),
+    ("B, floor 1 below, at 8, one more", FLOOR_BELOW, 8, 2, "ROW 8 2 1 1 4 2 0\n"),
+    ("B, floor 1 below, at 8, two more", FLOOR_BELOW, 8, 3, "ROW 8 3 1 2 3 1 0\n"),
+    ("B, floor 1 below, at 8, three more", FLOOR_BELOW, 8, 4, "ROW 8 4 1 3 2 0 0\n"),
     ("B, floor 1 above, at 8, none", FLOOR_ABOVE, 8, 0, "10 0 0\n"),
+    ("C, floor 1, at 5, one more", NO_PAIRS_1, 5, 2, "ROW 5 2 2 0 0\n"),
     ("C, floor 3, at 5, one below", NO_PAIRS, 5, 2, "10 0 0\n"),
     ("C, floor 3, at 5, four more", NO_PAIRS, 5, 7, "ROW 5 7 7 0 0\n"),
+    ("D, floor 1, at 2, one more", D_FLOOR_1, 2, 2, "ROW 2 2 2 0 0\n"),
 ];
 
-/// The text, a spread, separations and positions, and whether they are legal.
-pub const TRIALS: [(&str, &str, u32, &[u32], &[u32], bool); 12] = [
-    ("B at 6 with 1, 1", TABLES[1].1, 6, &[1, 1], &[2, 1, 0], true),
+/// The text, a spread, separations and positions, and whether they are legal. A's offsets: -2 with 0 and 1, -3 to -1 with 2, every one from 3 on.
+pub const TRIALS: [(&str, &str, u32, &[u32], &[u32], bool); 36] = [
+    ("B at 6 with 3, 0: its total too", TABLES[1].1, 6, &[3, 0], &[0, 2, 0], true),
+    ("B at 6 with 2, 2", TABLES[1].1, 6, &[2, 2], &[2, 1, 0], true),
+    ("B at 6 with 1, 1: legal before P4", TABLES[1].1, 6, &[1, 1], &[2, 1, 0], false),
     ("B at 5 with 1, 1", TABLES[1].1, 5, &[1, 1], &[1, 0, 0], false),
+    ("B at 8 with 1, 1", TABLES[1].1, 8, &[1, 1], &[4, 2, 0], true),
+    ("A at 4 with 2: its row before P4", TABLES[0].1, 4, &[2], &[0, 0], false),
+    ("A at 5 with 1: its row before P4", TABLES[0].1, 5, &[1], &[1, 0], false),
+    ("A at 4 with 3", TABLES[0].1, 4, &[3], &[0, 0], true),
+    ("A at 5 with 2", TABLES[0].1, 5, &[2], &[1, 0], true),
     ("A at 6 with 0", TABLES[0].1, 6, &[0], &[2, 0], true),
     ("A at 5 with 0", TABLES[0].1, 5, &[0], &[2, 0], false),
+    ("A at 6 with 0, offset -1", TABLES[0].1, 6, &[0], &[1, 0], false),
+    ("A at 7 with 0, offset -3", TABLES[0].1, 7, &[0], &[3, 0], false),
+    ("A at 6 with 1", TABLES[0].1, 6, &[1], &[2, 0], true),
+    ("A at 5 with 1", TABLES[0].1, 5, &[1], &[2, 0], false),
+    ("A at 6 with 1, offset -1", TABLES[0].1, 6, &[1], &[1, 0], false),
+    ("A at 7 with 1, offset -3", TABLES[0].1, 7, &[1], &[3, 0], false),
+    ("A at 7 with 2, offset -3", TABLES[0].1, 7, &[2], &[3, 0], true),
+    ("A at 8 with 2, offset -4", TABLES[0].1, 8, &[2], &[4, 0], false),
+    ("A at 8 with 3, offset -4", TABLES[0].1, 8, &[3], &[4, 0], true),
     ("A, floor 1, at 6 with 1", FLOOR_1, 6, &[1], &[2, 0], true),
+    ("A, floor 1, at 6 with 1, offset -1", FLOOR_1, 6, &[1], &[1, 0], false),
     ("A, floor 1, at 6 with 0", FLOOR_1, 6, &[0], &[2, 0], false),
+    ("A, floor 2, at 6 with 2", FLOOR_2, 6, &[2], &[2, 0], true),
+    ("A, floor 2, at 6 with 1", FLOOR_2, 6, &[1], &[2, 0], false),
     ("A, floor 64, at 4 with 64", FLOOR_64, 4, &[64], &[0, 0], true),
     ("A, floor 64, at 4 with 63", FLOOR_64, 4, &[63], &[0, 0], false),
     ("B, floor 1 above, at 8 with 0, 1", FLOOR_ABOVE, 8, &[0, 1], &[4, 2, 0], true),
     ("B, floor 1 above, at 8 with 0, 0", FLOOR_ABOVE, 8, &[0, 0], &[4, 2, 0], false),
+    ("C, floor 1, at 5 with 1", NO_PAIRS_1, 5, &[1], &[2, 0], true),
+    ("C, floor 1, at 5 with 0", NO_PAIRS_1, 5, &[0], &[2, 0], false),
     ("C, floor 3, at 5 with 3", NO_PAIRS, 5, &[3], &[2, 0], true),
     ("C, floor 3, at 5 with 2", NO_PAIRS, 5, &[2], &[2, 0], false),
+    ("D at 1 with 1: its row before P4", TABLES[3].1, 1, &[1], &[0, 0], false),
+    ("D at 1 with 2", TABLES[3].1, 1, &[2], &[0, 0], true),
+    ("D at 2 with 1", TABLES[3].1, 2, &[1], &[0, 1], true),
 ];
 
 const TWO_LEFT: &str = "STACK 1\nPART 4\nPART 4\nNETS 0 0 3 1 4 2\n";
 const STRAIGHT: &str = "STACK 1\nPART 1\nPART 1\nNETS 0 0\nGAP 1 2\n";
-const HIGHER: &str = b!("GAP 2 3\n");
+const STRAIGHT_1: &str = "STACK 1\nPART 1\nPART 1\nNETS 0 0\nGAP 1 1\n";
 const BOTH_WAYS: &str = "STACK 1\nPART 6\nPART 6\nNETS 1 0 2 1 4 5 5 6\n";
+const THREE_RIGHT: &str = "STACK 1\nPART 5\nPART 5\nNETS 0 3 1 4 2 5\n";
+const THREE_LEFT: &str = "STACK 1\nPART 5\nPART 5\nNETS 3 0 4 1 5 2\n";
 
 /// The lines of a page, each up to its last character that is not a dot, or the refusal.
 type Page = Result<&'static [&'static str], (u32, u32, u32)>;
 
+/// A's pages with offsets -2, -1 and 0.
+const A_1: Page = Ok(&["  1 ..o.o", "  0 ..o.o"]);
+const A_2: Page = Ok(&["  2 ..o.o", "  1 .++++", "  0 .o.o"]);
+const A_3: Page = Ok(&["  3 ..o.o", "  2 .++.|", "  1 +++-+", "  0 o.o"]);
+const A_4: Page = Ok(&["  4 ..o.o", "  3 ..|.|", "  2 .++.|", "  1 +++-+", "  0 o.o"]);
+const D_2: Page = Ok(&["  2 o", "  1 ++", "  0 .o"]);
+
 /// The text, a spread, a channel, and the page.
-pub const PAGES: [(&str, &str, u32, u32, Page); 34] = [
-    ("A at 4", TABLES[0].1, 4, 1, Ok(&["  2 ..o.o", "  1 .++.|", "  0 o+o-+"])),
-    ("A at 5", TABLES[0].1, 5, 1, Ok(&["  1 ..o.o", "  0 .o+o+"])),
+pub const PAGES: [(&str, &str, u32, u32, Page); 43] = [
+    ("A at 4", TABLES[0].1, 4, 1, A_3),
+    ("A at 5", TABLES[0].1, 5, 1, A_2),
     ("A at 6", TABLES[0].1, 6, 1, Ok(&["  0 ..o.o"])),
     ("A at 63", TABLES[0].1, 63, 1, Ok(&["  0 ..o.o"])),
-    ("B at 5, channel 1", TABLES[1].1, 5, 1, Ok(&["  1 ..o.o", "  0 .o+o+"])),
-    ("B at 5, channel 2", TABLES[1].1, 5, 2, Ok(&["  2 ..o.o", "  1 .++.|", "  0 o+o-+"])),
+    ("B at 5, channel 1", TABLES[1].1, 5, 1, A_2),
+    ("B at 5, channel 2", TABLES[1].1, 5, 2, A_3),
     ("B at 7, channel 1", TABLES[1].1, 7, 1, Ok(&["  0 ...o.o"])),
-    ("B at 7, channel 2", TABLES[1].1, 7, 2, Ok(&["  1 ..o.o", "  0 .o+o+"])),
+    ("B at 7, channel 2", TABLES[1].1, 7, 2, A_2),
     ("C at 5", TABLES[2].1, 5, 1, Ok(&["  0 "])),
     ("C at 63", TABLES[2].1, 63, 1, Ok(&["  0 "])),
-    ("D at 1", TABLES[3].1, 1, 1, Ok(&["  1 o", "  0 +o"])),
+    ("D at 1", TABLES[3].1, 1, 1, D_2),
     ("D at 2", TABLES[3].1, 2, 1, Ok(&["  0 .o"])),
-    ("two to the left", TWO_LEFT, 4, 1, Ok(&["  2 ooo", "  1 ||+-+", "  0 o+-oo"])),
-    ("both ways", BOTH_WAYS, 6, 1, Ok(&["  2 oo...oo", "  1 |++.++|", "  0 +oo.oo+"])),
+    ("two to the left", TWO_LEFT, 4, 1, Ok(&["  3 ooo", "  2 ||+-+", "  1 |+-+|", "  0 o..oo"])),
+    ("both ways", BOTH_WAYS, 6, 1, Ok(&["  3 oo...oo", "  2 |++.++|", "  1 ++|.|++", "  0 .oo.oo"])),
+    ("three to the right", THREE_RIGHT, 5, 1, Ok(&["  4 ...ooo", "  3 +--+||", "  2 |+--+|", "  1 ||+--+", "  0 ooo"])),
+    ("three to the left", THREE_LEFT, 5, 1, Ok(&["  4 ooo", "  3 ||+--+", "  2 |+--+|", "  1 +--+||", "  0 ...ooo"])),
     ("E, channel 0, at 64", TABLES[4].1, 64, 0, Err((2, 1, 0))),
     ("H, channel 2, at 3", TABLES[7].1, 3, 2, Err((6, 4, 4))),
     ("H at 3", TABLES[7].1, 3, 1, Err((6, 4, 4))),
@@ -191,10 +268,17 @@ pub const PAGES: [(&str, &str, u32, u32, Page); 34] = [
     ("A at 64", TABLES[0].1, 64, 1, Err((9, 0, 0))),
     ("length 1,000 at 999", TABLES[8].1, 999, 1, Err((7, 0, 0))),
     ("length 1,000 at 1,000", TABLES[8].1, 1000, 1, Err((9, 0, 0))),
-    ("A, floor 1, at 6", FLOOR_1, 6, 1, Ok(&["  1 ..o.o", "  0 .o+o+"])),
-    ("A, floor 2, at 6", FLOOR_2, 6, 1, Ok(&["  2 ..o.o", "  1 .++.|", "  0 o+o-+"])),
-    ("B, floor 3 above, at 6", HIGHER, 6, 2, Ok(&["  3 ..o.o", "  2 ..|.|", "  1 .++.|", "  0 o+o-+"])),
+    ("A, floor 1, at 6", FLOOR_1, 6, 1, A_1),
+    ("A, floor 2, at 6", FLOOR_2, 6, 1, A_2),
+    ("A, floor 3, at 6", FLOOR_3, 6, 1, A_3),
+    ("A, floor 4, at 6", FLOOR_4, 6, 1, A_4),
+    ("B, floor 3 above, at 6", b!("GAP 2 3\n"), 6, 2, A_3),
+    ("B, floor 4 above, at 6", b!("GAP 2 4\n"), 6, 2, A_4),
+    ("B, floor 1 below, at 8, channel 1", FLOOR_BELOW, 8, 1, Ok(&["  1 ....o.o", "  0 ....o.o"])),
+    ("C, floor 1, at 63", NO_PAIRS_1, 63, 1, Ok(&["  1 ", "  0 "])),
     ("C, floor 3, at 63", NO_PAIRS, 63, 1, Ok(&["  3 ", "  2 ", "  1 ", "  0 "])),
+    ("D, floor 1, at 2", D_FLOOR_1, 2, 1, Ok(&["  1 .o", "  0 .o"])),
+    ("straight, floor 1, at 1", STRAIGHT_1, 1, 1, Ok(&["  1 o", "  0 o"])),
     ("straight, floor 2, at 1", STRAIGHT, 1, 1, Ok(&["  2 o", "  1 |", "  0 o"])),
     ("floor 65, channel 2, at 3", FLOOR_65, 3, 2, Err((3, 5, 3))),
     ("A, floor 64, at 64", FLOOR_64, 64, 1, Err((9, 0, 0))),
