@@ -69,7 +69,7 @@ fn skewed() -> String {
     text(&[1000; CHANNELS + 1], &channels)
 }
 
-/// As `skewed`, with a floor in each channel: below what the pairs need at every spread, between that and their count, and above their count.
+/// As `skewed`, with a floor in each channel: below what the pairs need at every spread, between that and the most they need, and above it.
 fn floors() -> String {
     let mut random = Random(4);
     let channels: Vec<_> = (0..CHANNELS).map(|_| (random.terminals(0, 120), random.terminals(880, 1000))).collect();
@@ -78,7 +78,7 @@ fn floors() -> String {
     text(&[1000; CHANNELS + 1], &channels) + &gaps
 }
 
-/// As many rows as can be: each column more saves a track in one channel, channel 1 first. Neighbouring channels are drawn to opposite sides.
+/// Many rows: each column more saves a track in one channel, the last one two, channel 1 first. Neighbouring channels are drawn to opposite sides.
 fn rows() -> String {
     let near: Terminals = (0..PAIRS as u64).map(|j| 2 * j).collect();
     let channel = |i: usize| {
@@ -93,7 +93,7 @@ fn rows() -> String {
     text(&[(2 * (PAIRS - 1) + PAIRS * CHANNELS) as u64; CHANNELS + 1], &channels)
 }
 
-/// Lengths of 1,000, terminals far apart, each edge's about a constant away from the other's: a track a channel, once the strips are moved.
+/// Lengths of 1,000, terminals far apart, each edge's about a constant away from the other's: two tracks a channel, once the strips are moved.
 fn loose() -> String {
     let mut random = Random(5);
     let mut edge = || {
@@ -113,7 +113,7 @@ pub fn sized(channels: usize, pairs: usize, length: u64) -> String {
     text(&vec![length; channels + 1], &all)
 }
 
-/// One channel between strips of 63, the last that a page shows, by pair; all 32 tracks are needed.
+/// One channel between strips of 63, the last that a page shows, by pair; 33 tracks are needed, a run on each of 32.
 fn paged(pair: impl Fn(u64) -> (u64, u64)) -> String {
     text(&[63; 2], &[(0..PAIRS as u64).map(pair).unzip()])
 }

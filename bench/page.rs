@@ -25,7 +25,7 @@ struct Drawing {
     /// By pair: the first and the last pair of its level.
     first: [u8; PAIRS],
     last: [u8; PAIRS],
-    /// By track below the count of pairs, the only ones with runs: the paths that run right there, and left.
+    /// By track above the lower edge's, as many as pairs, the only ones with runs: the paths that run right there, and left.
     right: [u32; PAIRS],
     left: [u32; PAIRS],
     /// The line of a track without runs.
@@ -72,7 +72,8 @@ impl Drawing {
         self.at[j] = (next - BEFORE) as u8;
     }
 
-    /// Draws the runs on a track: each ends at the path's last column, or where the next pair further, or back, that is not passed yet makes it rise.
+    /// Draws the runs on a track, counted from 0 above the lower edge's: each ends at the path's last column, or where the next pair further, or back, that is
+    /// not passed yet makes it rise.
     fn runs(&mut self, line: &mut Line, track: usize, m: usize) {
         let mut right = self.right[track];
         while right != 0 {
@@ -105,8 +106,8 @@ impl Drawing {
         for (track, line) in lines.iter_mut().rev().enumerate() {
             number(&mut self.uprights, track);
             *line = self.uprights;
-            if track < lower.len() {
-                self.runs(line, track, lower.len());
+            if (1..=lower.len()).contains(&track) {
+                self.runs(line, track - 1, lower.len());
             }
         }
         let t = lines.len() - 1;

@@ -5,8 +5,10 @@
 const CHANNELS: usize = 8;
 const STRIPS: usize = CHANNELS + 1;
 pub const PAIRS: usize = 32;
+/// Separations with limits: 0 and one for each pair.
+const LIMITED: usize = PAIRS + 1;
 /// Totals above the floors: a channel needs no more than its pairs do, or its floor.
-const TOTALS: usize = CHANNELS * PAIRS + 1;
+const TOTALS: usize = CHANNELS * LIMITED + 1;
 const GREATEST_FLOOR: i16 = 64;
 
 // Columns fit sixteen bits, so that a vector holds many: nine strips of 1,000 are 9,000 wide.
@@ -151,30 +153,32 @@ pub fn read(text: &[u8]) -> Result<Stack, Refusal> {
 // From here on separations and totals are counted above the floors: a channel of m pairs and a floor is like one whose first limits are
 // left out, so floors cost nothing.
 
-/// The limits of one channel, that of separation t in place PAIRS - 1 - t, so that limits and spans run the same way when a total is
+/// The limits of one channel, that of separation t in place PAIRS - t, so that limits and spans run the same way when a total is
 /// parted between a separation and the channels above. From a separation of `count` on every offset is feasible.
 #[derive(Clone, Copy)]
 struct Limits {
-    low: [i16; PAIRS],
-    high: [i16; PAIRS],
+    low: [i16; LIMITED],
+    high: [i16; LIMITED],
     least: usize,
     count: usize,
 }
 
 fn limits(p: &[i16], q: &[i16], floor: usize) -> Limits {
     let m = p.len();
-    let count = m.saturating_sub(floor);
-    let mut limits = Limits { low: [CLOSED; PAIRS], high: [-CLOSED; PAIRS], least: count, count };
-    for t in (floor..m).rev() {
-        let shift = t as i16;
-        let low = p.iter().zip(&q[t..]).map(|(p, q)| p - q).max().unwrap_or(0) + shift;
-        let high = p[t..].iter().zip(q).map(|(p, q)| p - q).min().unwrap_or(0) - shift;
+    let count = if m == 0 { 0 } else { (m + 1).saturating_sub(floor) };
+    let mut limits = Limits { low: [CLOSED; LIMITED], high: [-CLOSED; LIMITED], least: count, count };
+    for t in (floor.max(1)..=m).rev() {
+        // Those that document 01 has for one track less.
+        let less = t - 1;
+        let low = p.iter().zip(&q[less..]).map(|(p, q)| p - q).max().unwrap_or(0) + less as i16;
+        let high = p[less..].iter().zip(q).map(|(p, q)| p - q).min().unwrap_or(0) - less as i16;
         if low > high {
-            break;
+            return limits;
         }
-        limits.least = t - floor;
-        limits.low[PAIRS - 1 - limits.least] = low;
-        limits.high[PAIRS - 1 - limits.least] = high;
+        limits.set(t - floor, (low, high));
+    }
+    if floor == 0 && m > 0 {
+        limits.set(0, limits.at(1));
     }
     limits
 }
@@ -184,25 +188,31 @@ impl Limits {
         if t >= self.count {
             return (-CLOSED, CLOSED);
         }
-        (self.low[PAIRS - 1 - t], self.high[PAIRS - 1 - t])
+        (self.low[PAIRS - t], self.high[PAIRS - t])
+    }
+
+    /// Sets the limits of a separation less than all before.
+    fn set(&mut self, t: usize, limits: (i16, i16)) {
+        self.least = t;
+        (self.low[PAIRS - t], self.high[PAIRS - t]) = limits;
     }
 }
 
 /// The spans of one strip by total, half open: positions from which the strips above can be placed with at most that total.
-/// That of total v is in place PAIRS - 1 + v, behind empty ones.
+/// That of total v is in place PAIRS + v, behind empty ones.
 #[derive(Clone, Copy)]
 struct Spans {
-    from: [i16; PAIRS - 1 + TOTALS],
-    upto: [i16; PAIRS - 1 + TOTALS],
+    from: [i16; PAIRS + TOTALS],
+    upto: [i16; PAIRS + TOTALS],
 }
 
 impl Spans {
     fn at(&self, v: usize) -> (i16, i16) {
-        (self.from[PAIRS - 1 + v], self.upto[PAIRS - 1 + v])
+        (self.from[PAIRS + v], self.upto[PAIRS + v])
     }
 
     fn set(&mut self, v: usize, span: (i16, i16)) {
-        (self.from[PAIRS - 1 + v], self.upto[PAIRS - 1 + v]) = span;
+        (self.from[PAIRS + v], self.upto[PAIRS + v]) = span;
     }
 
     fn is_open(&self, v: usize) -> bool {
@@ -210,15 +220,20 @@ impl Spans {
         from < upto
     }
 
-    /// The nearest start and the furthest end of the spans for what separations below their count leave of total v, shifted back by the limits.
+    /// The nearest start and the furthest end of the spans for what separations below their count leave of total v, shifted back by the limits. Separation 0,
+    /// feasible in few channels, is left out of the loop, which then has as many turns as there are pairs: whole vectors.
     fn shifted_back(&self, limits: &Limits, v: usize) -> (i16, i16) {
-        let from: &[i16; PAIRS] = self.from[v..v + PAIRS].try_into().unwrap();
-        let upto: &[i16; PAIRS] = self.upto[v..v + PAIRS].try_into().unwrap();
+        let from: &[i16; LIMITED] = self.from[v..v + LIMITED].try_into().unwrap();
+        let upto: &[i16; LIMITED] = self.upto[v..v + LIMITED].try_into().unwrap();
         let mut nearest = NOWHERE;
         let mut furthest = -NOWHERE;
         for place in 0..PAIRS {
             nearest = nearest.min(from[place] - limits.high[place]);
             furthest = furthest.max(upto[place] - limits.low[place]);
+        }
+        if limits.least == 0 {
+            nearest = nearest.min(from[PAIRS] - limits.high[PAIRS]);
+            furthest = furthest.max(upto[PAIRS] - limits.low[PAIRS]);
         }
         (nearest, furthest)
     }
@@ -245,7 +260,7 @@ pub struct Placement {
 
 impl Solver {
     fn new(stack: &Stack) -> Solver {
-        let none = Limits { low: [0; PAIRS], high: [0; PAIRS], least: 0, count: 0 };
+        let none = Limits { low: [0; LIMITED], high: [0; LIMITED], least: 0, count: 0 };
         let mut solver = Solver {
             k: stack.k,
             lengths: stack.lengths,
@@ -254,7 +269,7 @@ impl Solver {
             least: 0,
             floors: stack.floors,
             windows: [0; STRIPS],
-            spans: [Spans { from: [NOWHERE; PAIRS - 1 + TOTALS], upto: [-NOWHERE; PAIRS - 1 + TOTALS] }; STRIPS],
+            spans: [Spans { from: [NOWHERE; PAIRS + TOTALS], upto: [-NOWHERE; PAIRS + TOTALS] }; STRIPS],
         };
         for i in (0..stack.k).rev() {
             let m = stack.counts[i];
