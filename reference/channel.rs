@@ -2,6 +2,9 @@
 
 pub type Pair = (i64, i64);
 
+/// A condition on a channel's pairs, separation and offset.
+pub type Condition<'a> = &'a dyn Fn(&[Pair], usize, i64) -> bool;
+
 /// Document 01's L(t), or None where it sets no limit.
 pub fn left_limit(pairs: &[Pair], t: usize) -> Option<i64> {
     (t..pairs.len()).map(|j| pairs[j - t].0 + t as i64 - pairs[j].1).max()

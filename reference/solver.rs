@@ -1,7 +1,7 @@
 //! The least total in a spread and the placement for a stated total, by trying: totals from 0 on; the separations of a total in dictionary order; for each
 //! the positions, strip 0 first.
 
-use crate::channel::{feasible, limits};
+use crate::channel::{feasible, limits, Condition};
 use crate::reader::Stack;
 
 /// A placement and its total.
@@ -12,14 +12,19 @@ pub struct Answer {
     pub positions: Vec<i64>,
 }
 
-/// Channel i, from 0: by its pairs, and from its floor upward.
-fn feasible_in(stack: &Stack, i: usize, t: usize, offset: i64) -> bool {
-    t >= stack.floors[i] && feasible(&stack.channels[i], t, offset)
+/// Channel i, from 0: from its floor upward, and by a condition.
+fn wired_in(stack: &Stack, i: usize, t: usize, offset: i64, wired: Condition) -> bool {
+    t >= stack.floors[i] && wired(&stack.channels[i], t, offset)
+}
+
+/// Whether a placement lies within the spread and every channel keeps its floor and a condition.
+pub fn legal_by(stack: &Stack, spread: i64, separations: &[usize], positions: &[i64], wired: Condition) -> bool {
+    let within = positions.iter().zip(&stack.lengths).all(|(x, l)| *x >= 0 && x + l <= spread);
+    within && separations.iter().enumerate().all(|(i, t)| wired_in(stack, i, *t, positions[i + 1] - positions[i], wired))
 }
 
 pub fn legal(stack: &Stack, spread: i64, separations: &[usize], positions: &[i64]) -> bool {
-    let within = positions.iter().zip(&stack.lengths).all(|(x, l)| *x >= 0 && x + l <= spread);
-    within && separations.iter().enumerate().all(|(i, t)| feasible_in(stack, i, *t, positions[i + 1] - positions[i]))
+    legal_by(stack, spread, separations, positions, &feasible)
 }
 
 /// The first positions in dictionary order for these separations, each position tried from the left.
@@ -29,7 +34,7 @@ fn place_by_trying(stack: &Stack, spread: i64, separations: &[usize], placed: &m
         return true;
     }
     for x in 0..=spread - stack.lengths[i] {
-        if i > 0 && !feasible_in(stack, i - 1, separations[i - 1], x - placed[i - 1]) {
+        if i > 0 && !wired_in(stack, i - 1, separations[i - 1], x - placed[i - 1], &feasible) {
             continue;
         }
         placed.push(x);

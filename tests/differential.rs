@@ -1,5 +1,5 @@
-//! The proved library against the independent program in reference/ and the plain one in bench/, on random stacks and damaged texts.
-//! It stops at the first difference.
+//! The proved library against the independent program in reference/ and the plain one in bench/, on random stacks and damaged texts; before that the condition
+//! on a channel against a search for paths. It stops at the first difference.
 
 #[path = "../reference/channel.rs"]
 mod channel;
@@ -7,6 +7,8 @@ mod damage;
 mod library;
 #[path = "../reference/page.rs"]
 mod page;
+#[path = "../reference/paths.rs"]
+mod paths;
 #[path = "../bench"]
 mod plain {
     pub mod page;
@@ -26,6 +28,7 @@ mod specimens;
 use library::{code, Refusal};
 use random::Random;
 use reader::Stack;
+use std::cell::Cell;
 use std::collections::BTreeMap;
 
 const USAGE: &str =
@@ -35,7 +38,8 @@ const USAGE: &str =
 const COUNTS: [u64; 5] = [4000, 1500, 50000, 50, 2000];
 
 /// What is counted and must have been met, in a run of at least the usual counts.
-const MET: [&str; 22] = [
+const MET: [&str; 30] = [
+    "tables, a total that falls by 2 or more",
     "stacks with floors",
     "stacks with a floor on a channel without pairs",
     "stacks with a floor of 0 written",
@@ -52,7 +56,14 @@ const MET: [&str; 22] = [
     "placements, refused 10 at a spread above 63",
     "placements, refused 10 before 8",
     "pages, tracks above the pairs' own",
+    "pages, a separation of 1",
+    "pages, an upright step below runs",
     "trials, not legal by a floor alone",
+    "trials, not legal but by the former rule",
+    "trials, a separation of 1, legal",
+    "trials, a separation of 1, not legal",
+    "trials, legal by a search for paths",
+    "trials, not legal by a search for paths",
     "refusal 2 of a GAP line",
     "refusal 2 of another line behind NETS",
     "refusal 3 of a GAP line's channel",
@@ -146,6 +157,26 @@ fn drawn_page(stack: &Stack, answer: &solver::Answer, channel: usize) -> &'stati
     }
 }
 
+/// What is counted of the tracks of a page that is drawn.
+fn page_tracks(stack: &Stack, answer: &solver::Answer, channel: usize) -> Vec<&'static str> {
+    let (pairs, t) = (&stack.channels[channel - 1], answer.separations[channel - 1]);
+    let offset = answer.positions[channel] - answer.positions[channel - 1];
+    let mut all = Vec::new();
+    if t >= 10 {
+        all.push("pages, numbers of two digits");
+    }
+    if t > 0 && channel::limits(pairs, t - 1).is_none() {
+        all.push("pages, tracks above the pairs' own");
+    }
+    if t == 1 && !pairs.is_empty() {
+        all.push("pages, a separation of 1");
+    }
+    if pairs.iter().any(|p| p.1 + offset != p.0) {
+        all.push("pages, an upright step below runs");
+    }
+    all
+}
+
 /// What is counted of a refusal at a line behind the last `NETS`.
 fn refused_gap(text: &[u8], r: Refusal) -> Option<&'static str> {
     // A refusal behind the first line says that the first is good: its number is at byte 6.
@@ -168,13 +199,30 @@ fn without_gaps(text: &[u8]) -> Option<&[u8]> {
     text.windows(4).position(|w| w == b"\nGAP").map(|at| &text[..=at])
 }
 
-/// The trial's verdict on eight separations and nine positions.
-fn judged(stack: &Stack, spread: u32, placement: &[u32; 17]) -> bool {
+/// Whether eight separations and nine positions are legal by a condition on each channel.
+fn judged_by(stack: &Stack, spread: u32, placement: &[u32; 17], wired: channel::Condition) -> bool {
     let k = stack.channels.len();
     let unused = placement[k..8].iter().chain(&placement[9 + k..]).all(|v| *v == 0);
     let separations: Vec<usize> = placement[..k].iter().map(|t| *t as usize).collect();
     let positions: Vec<i64> = placement[8..=8 + k].iter().map(|x| *x as i64).collect();
-    unused && solver::legal(stack, spread as i64, &separations, &positions)
+    unused && solver::legal_by(stack, spread as i64, &separations, &positions, wired)
+}
+
+/// The trial's verdict.
+fn judged(stack: &Stack, spread: u32, placement: &[u32; 17]) -> bool {
+    judged_by(stack, spread, placement, &channel::feasible)
+}
+
+/// The same by a search for paths in each channel; None where a grid is too large for it.
+fn searched(stack: &Stack, spread: u32, placement: &[u32; 17]) -> Option<bool> {
+    let too_large = Cell::new(false);
+    let wired = |pairs: &[channel::Pair], t: usize, offset: i64| {
+        let found = paths::drawable(pairs, t, offset);
+        too_large.set(too_large.get() || found.is_none());
+        found == Some(true)
+    };
+    let drawn = judged_by(stack, spread, placement, &wired);
+    (!too_large.get()).then_some(drawn)
 }
 
 /// The placement in a total, eight separations and nine positions, if it is legal and adds up.
@@ -284,13 +332,7 @@ impl Run {
                 let answer = answer.ok_or("no answer to draw a page from")?;
                 self.count("pages");
                 self.count(drawn_page(stack, answer, channel as usize));
-                let t = answer.separations[channel as usize - 1];
-                if t >= 10 {
-                    self.count("pages, numbers of two digits");
-                }
-                if t > stack.channels[channel as usize - 1].len() {
-                    self.count("pages, tracks above the pairs' own");
-                }
+                page_tracks(stack, answer, channel as usize).into_iter().for_each(|what| self.count(what));
                 let drawn = std::panic::catch_unwind(|| page::page(stack, answer, spread as i64, channel as usize));
                 Ok(drawn.map_err(|_| format!("page {} at spread {} breaks a rule", channel, spread))?.into_bytes())
             }
@@ -420,6 +462,15 @@ impl Run {
     /// The trial of a placement of a stack.
     fn try_on(&mut self, stack: &Stack, text: &[u8], spread: u32, placement: &[u32; 17]) -> Checked {
         let legal = judged(stack, spread, placement);
+        if solver::small(stack) {
+            self.search(stack, spread, placement, legal)?;
+        }
+        if !legal && judged_by(stack, spread, placement, &channel::formerly_feasible) {
+            self.count("trials, not legal but by the former rule");
+        }
+        if stack.channels.iter().zip(placement).any(|(pairs, t)| !pairs.is_empty() && *t == 1) {
+            self.count(if legal { "trials, a separation of 1, legal" } else { "trials, a separation of 1, not legal" });
+        }
         if !legal && placement.iter().zip(&stack.floors).any(|(t, floor)| (*t as usize) < *floor) {
             let bare = Stack { floors: vec![0; stack.floors.len()], ..stack.clone() };
             if judged(&bare, spread, placement) {
@@ -427,6 +478,19 @@ impl Run {
             }
         }
         self.trial(text, spread, placement, Ok(legal))
+    }
+
+    /// The trial of a small stack's placement by a search for paths: it is legal exactly if it can be drawn.
+    fn search(&mut self, stack: &Stack, spread: u32, placement: &[u32; 17], legal: bool) -> Checked {
+        match searched(stack, spread, placement) {
+            None => self.count("trials, a grid too large for a search"),
+            Some(drawn) if drawn != legal => {
+                return Err(format!("trial at spread {} of {:?}: drawable by search: {}", spread, placement, drawn));
+            }
+            Some(true) => self.count("trials, legal by a search for paths"),
+            Some(false) => self.count("trials, not legal by a search for paths"),
+        }
+        Ok(())
     }
 
     fn trial(&mut self, text: &[u8], spread: u32, placement: &[u32; 17], due: Result<bool, Refusal>) -> Checked {
@@ -458,8 +522,8 @@ impl Run {
             with(place, base[place].wrapping_add(1));
         }
         for (i, channel) in stack.channels.iter().enumerate() {
-            let floor = stack.floors[i] as u32;
-            for value in [channel.len() as u32, floor, floor.saturating_sub(1)] {
+            let (m, floor) = (channel.len() as u32, stack.floors[i] as u32);
+            for value in [0, 1, 2, m, m + 1, floor, floor.saturating_sub(1)] {
                 with(i, value);
             }
         }
@@ -483,7 +547,7 @@ impl Run {
         let mut placement = [0; 17];
         for (i, channel) in stack.channels.iter().enumerate() {
             // By the pairs, about the floor, or enough for both.
-            let (any, floor) = (self.random.below(channel.len() + 2), stack.floors[i]);
+            let (any, floor) = (self.random.below(channel.len() + 3), stack.floors[i]);
             placement[i] = [any, (floor + self.random.below(3)).saturating_sub(1), any.max(floor)][self.random.below(3)] as u32;
         }
         for (i, length) in stack.lengths.iter().enumerate() {
@@ -530,6 +594,9 @@ impl Run {
             return Err("the reference reads another stack".to_string());
         }
         let rows = solver::rows(stack, brute);
+        if rows.windows(2).any(|w| w[0].1.total - w[1].1.total >= 2) {
+            self.count("tables, a total that falls by 2 or more");
+        }
         self.table(text, &Ok(solver::table_text(stack, &rows).into_bytes()))?;
         let row_spreads: Vec<u32> = rows.iter().map(|r| r.0 as u32).collect();
         for spread in self.spreads(stack, &row_spreads) {
@@ -666,7 +733,7 @@ impl Run {
             let length = self.random.between(1, 60);
             let pairs = self.random.between(0, 6) as usize;
             let stack = self.random.stack(k, length, pairs);
-            let choices: usize = stack.channels.iter().map(|c| c.len() + 1).product();
+            let choices: usize = stack.channels.iter().map(|c| c.len() + 2).product();
             if choices <= 500_000 {
                 return stack;
             }
@@ -850,6 +917,8 @@ fn main() {
         }
     };
     let mut run = Run { random: Random(seed), counts: BTreeMap::new() };
+    let compared = paths::compare(|what| run.count(what));
+    expect("paths in small channels", b"", compared);
     check_specimens(&mut run);
     check_page_specimens(&mut run);
     let mut bases = Vec::new();
@@ -865,7 +934,7 @@ fn main() {
         println!("{:>9} {}", count, what);
     }
     let usual = counts.iter().zip(COUNTS).all(|(given, usual)| *given >= usual);
-    if let Some(what) = MET.iter().find(|what| usual && !run.counts.contains_key(*what)) {
+    if let Some(what) = MET.iter().chain(&paths::MET).find(|what| usual && !run.counts.contains_key(*what)) {
         println!("never met: {}", what);
         std::process::exit(1);
     }

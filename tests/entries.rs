@@ -15,6 +15,10 @@ use library::{code, Refusal};
 
 const A: &str = "STACK\t1\nPART\t4\nPART\t4\nNETS\t0\t2\t2\t4\n";
 
+/// Enough for every table: the first line, and rows for totals from 0 to eight times 33 above the floors. Enough for every page: 65 lines.
+const TABLE_BYTES: usize = 8 + 265 * 82;
+const PAGE_BYTES: usize = 65 * 69;
+
 fn fail(what: &str, text: &[u8], found: String, due: String) -> ! {
     println!("{}: found {}, due {}; the text:\n{}", what, found, due, text.escape_ascii());
     std::process::exit(1);
@@ -48,7 +52,7 @@ fn table_in(text: &[u8], space: usize) -> (u64, Vec<u8>) {
 fn check_table(name: &str, text: &[u8], table: &str) {
     let length = table.len();
     let due = Ok(table.as_bytes().to_vec());
-    for space in [0, 1, length - 1, length, length + 1, length + 100, 21082] {
+    for space in [0, 1, length - 1, length, length + 1, length + 100, TABLE_BYTES] {
         let due = in_space(&due, length as u64, space);
         same(&format!("{}, table in {} bytes", name, space), text, table_in(text, space), due);
     }
@@ -65,7 +69,7 @@ fn page_in(text: &[u8], spread: u32, channel: u32, space: usize) -> (u64, Vec<u8
 fn check_page(name: &str, text: &str, spread: u32, channel: u32, due: Result<String, Refusal>) {
     let length = due.as_ref().map_or(69, |page| page.len());
     let due = due.map(String::into_bytes);
-    for space in [0, 1, length - 1, length, length + 1, 4485, 5000] {
+    for space in [0, 1, length - 1, length, length + 1, PAGE_BYTES, 5000] {
         let due = in_space(&due, length as u64, space);
         let what = format!("{}, page {} at {} in {} bytes", name, channel, spread, space);
         same(&what, text.as_bytes(), page_in(text.as_bytes(), spread, channel, space), due);
@@ -372,8 +376,10 @@ fn accepted() -> Vec<(&'static str, Vec<u8>, String)> {
     all.push(("eight floors of 64", highest, format!("TABLE\t8\nROW\t1\t512{}{}\n", "\t64".repeat(8), positions)));
     let rising = (bare(8, 1000) + &gaps(&[1, 2, 3, 4, 5, 6, 7, 8])).into_bytes();
     all.push(("floors 1 to 8", rising, format!("TABLE\t8\nROW\t1000\t36\t1\t2\t3\t4\t5\t6\t7\t8{}\n", positions)));
-    let full = (specimens::tabbed(&specimens::pairs(32)) + &gaps(&[33])).into_bytes();
-    all.push(("32 pairs, floor 33", full, "TABLE\t1\nROW\t40\t33\t33\t0\t0\n".to_string()));
+    for (name, floor) in [("32 pairs, floor 1", 1), ("32 pairs, floor 33", 33)] {
+        let text = (specimens::tabbed(&specimens::pairs(32)) + &gaps(&[floor])).into_bytes();
+        all.push((name, text, format!("TABLE\t1\nROW\t40\t{0}\t{0}\t0\t0\n", floor)));
+    }
     all
 }
 
@@ -395,27 +401,26 @@ fn check_answers() {
         check_narrow("A", A, spread);
         check_narrow("B", &b, spread);
     }
-    for (spread, total, position) in [(4, 2, 0), (5, 1, 1), (6, 0, 2), (7, 0, 2), (100, 0, 2), (u32::MAX, 0, 2)] {
+    for (spread, total, position) in [(4, 3, 0), (5, 2, 1), (6, 0, 2), (7, 0, 2), (100, 0, 2), (u32::MAX, 0, 2)] {
         check_answer("A", A, spread, total, &[total], &[position, 0]);
     }
     for (spread, total, separations, positions) in [
-        (4, 4, [2, 2], [0, 0, 0]),
-        (5, 3, [1, 2], [1, 0, 0]),
-        (6, 2, [0, 2], [2, 0, 0]),
-        (7, 1, [0, 1], [3, 1, 0]),
+        (4, 6, [3, 3], [0, 0, 0]),
+        (5, 5, [2, 3], [1, 0, 0]),
+        (6, 3, [0, 3], [2, 0, 0]),
+        (7, 2, [0, 2], [3, 1, 0]),
         (8, 0, [0, 0], [4, 2, 0]),
         (9, 0, [0, 0], [4, 2, 0]),
         (u32::MAX, 0, [0, 0], [4, 2, 0]),
     ] {
         check_answer("B", &b, spread, total, &separations, &positions);
     }
-    let tie = [1, 1, 0, 0, 0, 0, 0, 0, 2, 1, 0, 0, 0, 0, 0, 0, 0];
-    same("B at 6: separations 1, 1 are legal too", b.as_bytes(), library::try_placement(b.as_bytes(), 6, &tie), 1);
+    check_trial("B at 6: separations 3, 0 are legal too", &b, 6, &[3, 0], &[0, 2, 0], true);
     check_narrow("C", &c, 4);
     for spread in [5, 6, 1000] {
         check_answer("C", &c, spread, 0, &[0], &[0, 0]);
     }
-    check_answer("D", &d, 1, 1, &[1], &[0, 0]);
+    check_answer("D", &d, 1, 2, &[2], &[0, 0]);
     for spread in [2, 3, u32::MAX] {
         check_answer("D", &d, spread, 0, &[0], &[0, 1]);
     }
@@ -425,61 +430,105 @@ fn check_answers() {
 fn check_floors() {
     let b = specimens::tabbed(specimens::TABLES[1].1);
     let with = |text: &str, lines: &str| text.to_string() + &specimens::tabbed(lines);
-    let all = [(4, 2, 0), (5, 1, 1), (6, 1, 1), (7, 1, 1), (u32::MAX, 1, 1)];
-    for (spread, total, position) in all {
+    for (spread, total, position) in [(4, 3, 0), (5, 2, 1), (6, 1, 2), (7, 1, 2), (u32::MAX, 1, 2)] {
         check_answer("A, floor 1", &with(A, "GAP 1 1\n"), spread, total, &[total], &[position, 0]);
     }
-    for (spread, floor) in [(4, 2), (5, 2), (6, 3), (100, 64), (u32::MAX, 64)] {
-        check_answer("A, floor 2 and more", &with(A, &format!("GAP 1 {}\n", floor)), spread, floor, &[floor], &[0, 0]);
+    for (spread, total, position) in [(4, 3, 0), (5, 2, 1), (6, 2, 1), (u32::MAX, 2, 1)] {
+        check_answer("A, floor 2", &with(A, "GAP 1 2\n"), spread, total, &[total], &[position, 0]);
+    }
+    for (spread, floor) in [(4, 3), (5, 3), (6, 4), (100, 64), (u32::MAX, 64)] {
+        check_answer("A, floor 3 and more", &with(A, &format!("GAP 1 {}\n", floor)), spread, floor, &[floor], &[0, 0]);
     }
     check_answer("A, floor 0", &with(A, "GAP 1 0\n"), 6, 0, &[0], &[2, 0]);
     check_narrow("A, floor 64", &with(A, "GAP 1 64\n"), 3);
     for (spread, total, separations, positions) in [
-        (4, 4, [2, 2], [0, 0, 0]),
-        (5, 3, [1, 2], [1, 0, 0]),
-        (6, 2, [1, 1], [2, 1, 0]),
-        (7, 1, [1, 0], [3, 2, 0]),
-        (8, 1, [1, 0], [3, 2, 0]),
-        (u32::MAX, 1, [1, 0], [3, 2, 0]),
+        (4, 6, [3, 3], [0, 0, 0]),
+        (5, 5, [2, 3], [1, 0, 0]),
+        (6, 3, [3, 0], [0, 2, 0]),
+        (7, 2, [2, 0], [3, 2, 0]),
+        (8, 1, [1, 0], [4, 2, 0]),
+        (u32::MAX, 1, [1, 0], [4, 2, 0]),
     ] {
         check_answer("B, floor 1 below", &with(&b, "GAP 1 1\n"), spread, total, &separations, &positions);
     }
-    for (spread, total, separations, positions) in [(4, 5, [2, 3], [0, 0, 0]), (5, 4, [1, 3], [1, 0, 0]), (6, 3, [0, 3], [2, 0, 0])] {
-        check_answer("B, floor 3 above", &with(&b, "GAP 2 3\n"), spread, total, &separations, &positions);
+    for floor in [3, 4] {
+        let text = with(&b, &format!("GAP 2 {}\n", floor));
+        for (spread, first, position) in [(4, 3, 0), (5, 2, 1), (6, 0, 2), (7, 0, 2), (u32::MAX, 0, 2)] {
+            check_answer("B, floor 3 or 4 above", &text, spread, first + floor, &[first, floor], &[position, 0, 0]);
+        }
     }
     check_answer("no pairs, floor 7", &(bare(1, 3) + &gaps(&[7])), 3, 7, &[7], &[0, 0]);
     check_answer("eight floors of 64", &(bare(8, 1) + &gaps(&[64; 8])), 1, 512, &[64; 8], &[0; 9]);
 }
 
+fn check_trial(name: &str, text: &str, spread: u32, separations: &[u32], positions: &[u32], legal: bool) {
+    let placement = &library::numbers(0, separations, positions)[1..];
+    let what = format!("{}, trial at {} of {:?}, {:?}", name, spread, separations, positions);
+    same(&what, text.as_bytes(), library::try_numbers(text.as_bytes(), spread, placement), if legal { 1 } else { 2 });
+}
+
 /// Trials of separations at a floor, below it and above.
 fn check_floor_trials() {
-    let judge = |name: &str, text: &str, spread: u32, separations: &[u32], positions: &[u32], due: u64| {
-        let placement = &library::numbers(0, separations, positions)[1..];
-        same(name, text.as_bytes(), library::try_numbers(text.as_bytes(), spread, placement), due);
-    };
     let floor = |floor: u32| A.to_string() + &gaps(&[floor]);
-    judge("at floor 0", &floor(0), 6, &[0], &[2, 0], 1);
-    judge("below floor 1", &floor(1), 6, &[0], &[2, 0], 2);
-    judge("at floor 1", &floor(1), 6, &[1], &[2, 0], 1);
-    judge("at floor 1 where the pairs need more", &floor(1), 6, &[1], &[0, 0], 2);
-    judge("at floor 2", &floor(2), 4, &[2], &[0, 0], 1);
-    for (t, due) in [(0, 2), (2, 2), (62, 2), (63, 2), (64, 1), (65, 1), (u32::MAX, 1)] {
-        judge("floor 64", &floor(64), 4, &[t], &[0, 0], due);
-        judge("floor 64, a narrow spread", &floor(64), 3, &[t], &[0, 0], 2);
-        judge("floor 64, no pairs", &(bare(1, 4) + &gaps(&[64])), 4, &[t], &[0, 0], due);
+    check_trial("at floor 0", &floor(0), 6, &[0], &[2, 0], true);
+    check_trial("below floor 1", &floor(1), 6, &[0], &[2, 0], false);
+    check_trial("at floor 1", &floor(1), 6, &[1], &[2, 0], true);
+    check_trial("at floor 1 where the pairs need 2", &floor(1), 6, &[1], &[1, 0], false);
+    check_trial("at floor 1 where the pairs need 3", &floor(1), 6, &[1], &[0, 0], false);
+    check_trial("at floor 2", &floor(2), 5, &[2], &[1, 0], true);
+    check_trial("at floor 2 where the pairs need 3", &floor(2), 4, &[2], &[0, 0], false);
+    check_trial("at floor 3", &floor(3), 4, &[3], &[0, 0], true);
+    for (t, due) in [(0, false), (2, false), (62, false), (63, false), (64, true), (65, true), (u32::MAX, true)] {
+        check_trial("floor 64", &floor(64), 4, &[t], &[0, 0], due);
+        check_trial("floor 64, a narrow spread", &floor(64), 3, &[t], &[0, 0], false);
+        check_trial("floor 64, no pairs", &(bare(1, 4) + &gaps(&[64])), 4, &[t], &[0, 0], due);
     }
-    judge("a floor in an unused place", &floor(64), 4, &[64, 64], &[0, 0], 2);
+    check_trial("a floor in an unused place", &floor(64), 4, &[64, 64], &[0, 0], false);
     let eight = bare(8, 1) + &gaps(&[64; 8]);
-    judge("eight floors of 64", &eight, 1, &[64; 8], &[0; 9], 1);
+    check_trial("eight floors of 64", &eight, 1, &[64; 8], &[0; 9], true);
     for channel in 0..8 {
         let mut separations = [64; 8];
         separations[channel] = 63;
-        judge("one of eight below its floor", &eight, 1, &separations, &[0; 9], 2);
+        check_trial("one of eight below its floor", &eight, 1, &separations, &[0; 9], false);
     }
 }
 
-/// Trials at the ends of every range, and numbers in unused places.
+/// Channels with their limits: the least and the greatest offset for each separation from 0 to the count of pairs, None where no offset is feasible. From one
+/// more than the count on every offset is.
+type Limits = &'static [Option<(i64, i64)>];
+const LIMITS: [(&str, Limits); 7] = [
+    ("NETS", &[]),
+    ("NETS 1 0", &[Some((1, 1)), Some((1, 1))]),
+    ("NETS 0 2 2 4", &[Some((-2, -2)), Some((-2, -2)), Some((-3, -1))]),
+    ("NETS 0 0 1 1", &[Some((0, 0)), Some((0, 0)), Some((0, 0))]),
+    ("NETS 1 2 2 3", &[Some((-1, -1)), Some((-1, -1)), Some((-1, -1))]),
+    ("NETS 0 0 3 1 4 2", &[None, None, Some((2, 2)), Some((0, 2))]),
+    ("NETS 0 1 3 4 6 6 9 10", &[None, None, Some((-2, 1)), Some((-4, 3)), Some((-7, 5))]),
+];
+
+/// Trials around both limits of every separation up to two above the count of pairs, and of a great one; with a floor of the separation and of one more.
+fn check_limit_trials() {
+    for (nets, limits) in LIMITS {
+        let text = format!("STACK\t1\nPART\t10\nPART\t10\n{}\n", specimens::tabbed(nets));
+        for t in (0..=limits.len() + 1).chain([1000]) {
+            for offset in -12..=12 {
+                let legal = limits.get(t).map_or(true, |l| l.is_some_and(|(low, high)| low <= offset && offset <= high));
+                let (separations, positions) = ([t as u32], [12, (12 + offset) as u32]);
+                check_trial(nets, &text, 34, &separations, &positions, legal);
+                if t < 64 {
+                    check_trial(nets, &(text.clone() + &gaps(&[t as u32])), 34, &separations, &positions, legal);
+                    check_trial(nets, &(text.clone() + &gaps(&[t as u32 + 1])), 34, &separations, &positions, false);
+                }
+            }
+        }
+    }
+}
+
+/// The specimens' trials; then trials at the ends of every range, and numbers in unused places.
 fn check_trials() {
+    for (name, text, spread, separations, positions, legal) in specimens::TRIALS {
+        check_trial(name, &specimens::tabbed(text), spread, separations, positions, legal);
+    }
     let answer = [0, 0, 0, 0, 0, 0, 0, 0, 2, 0, 0, 0, 0, 0, 0, 0, 0];
     let judge = |name: &str, spread: u32, places: &[(usize, u32)], due: u64| {
         let mut placement = answer;
@@ -494,7 +543,10 @@ fn check_trials() {
     judge("a position more", 7, &[(8, 3)], 2);
     judge("a position less", 6, &[(8, 1)], 2);
     judge("the offset turned", 6, &[(8, 0), (9, 2)], 2);
-    judge("a separation of 2 at any offset", 6, &[(0, 2), (8, 0)], 1);
+    judge("a separation of 1", 6, &[(0, 1)], 1);
+    judge("a separation of 1 at another offset", 6, &[(0, 1), (8, 1)], 2);
+    judge("a separation of 2 at the offset 0", 6, &[(0, 2), (8, 0)], 2);
+    judge("a separation of 3 at any offset", 6, &[(0, 3), (8, 0)], 1);
     judge("the greatest separation", 6, &[(0, u32::MAX)], 1);
     judge("the greatest position", u32::MAX, &[(8, u32::MAX)], 2);
     judge("the greatest position that lies within", u32::MAX, &[(8, u32::MAX - 4), (9, u32::MAX - 6)], 1);
@@ -508,10 +560,10 @@ fn check_trials() {
     }
 }
 
-/// Stated totals: small ones, about the greatest floor, about the greatest sums of pairs and of floors, and up to the greatest number.
-const STATED: [u32; 28] = [
-    0, 1, 2, 3, 4, 5, 6, 31, 32, 33, 63, 64, 65, 255, 256, 257, 511, 512, 513, 1000, 65535, 65536, 2147483647, 2147483648, 2147483649,
-    4294967293, 4294967294, 4294967295,
+/// Stated totals: small ones, about the greatest count of pairs and one more, about the greatest floor, about eight times each, and up to the greatest number.
+const STATED: [u32; 33] = [
+    0, 1, 2, 3, 4, 5, 6, 7, 31, 32, 33, 34, 63, 64, 65, 255, 256, 257, 263, 264, 265, 511, 512, 513, 1000, 65535, 65536, 2147483647,
+    2147483648, 2147483649, 4294967293, 4294967294, 4294967295,
 ];
 
 /// Every stated total at a spread: 10 below the least; from there on `first` gives the separations of all channels but the last, which gets the rest, and the
@@ -541,19 +593,19 @@ fn check_places() {
     for (name, text, spread, total, due) in specimens::PLACES {
         check_place(name, specimens::tabbed(text).as_bytes(), spread, total, library::placement_in(due));
     }
-    // A's channel alone: straight two columns to the left, with one track one to three columns to the left, with two anywhere.
-    let a = |total: u32| (vec![], vec![2 - total.min(2), 0]);
-    for (spread, least) in [(4, 2), (5, 1), (6, 0), (7, 0), (63, 0), (64, 0), (1000, 0), (u32::MAX, 0)] {
-        check_stated("A", A, spread, least, a);
-        for floor in [1, 2, 3, 64] {
-            check_stated("A with a floor", &(A.to_string() + &gaps(&[floor])), spread, floor.max(least), a);
+    // How far to the right of its upper strip A's lower one stands at least: straight, also with one track, two columns; with two one to three, with three any.
+    let right = |t: u32| [2, 2, 1, 0][t.min(3) as usize];
+    for (spread, least) in [(4, 3), (5, 2), (6, 0), (7, 0), (63, 0), (64, 0), (1000, 0), (u32::MAX, 0)] {
+        check_stated("A", A, spread, least, |total| (vec![], vec![right(total), 0]));
+        for floor in [1, 2, 3, 4, 64] {
+            let text = A.to_string() + &gaps(&[floor]);
+            check_stated("A with a floor", &text, spread, floor.max(least), |total| (vec![], vec![right(total), 0]));
         }
     }
     let [b, c, d] = [1, 2, 3].map(|n: usize| specimens::tabbed(specimens::TABLES[n].1));
-    for (spread, least, first) in [(4, 4, 2), (5, 3, 1), (6, 2, 0), (7, 1, 0), (8, 0, 0), (9, 0, 0), (64, 0, 0), (u32::MAX, 0, 0)] {
-        // Channel 1 has what the spread asks for, channel 2 the rest; with t tracks the lower strip stands 2 - t columns to the right, or 0.
-        let due =
-            |first: u32| move |total: u32| (vec![first], vec![4 - first.min(2) - (total - first).min(2), 2 - (total - first).min(2), 0]);
+    for (spread, least, first) in [(4, 6, 3), (5, 5, 2), (6, 3, 0), (7, 2, 0), (8, 0, 0), (9, 0, 0), (64, 0, 0), (u32::MAX, 0, 0)] {
+        // Channel 1 has what the spread asks for, channel 2 the rest.
+        let due = |first: u32| move |total: u32| (vec![first], vec![right(first) + right(total - first), right(total - first), 0]);
         check_stated("B", &b, spread, least, due(first));
         // With a floor of 1 below and 3 above: the floors, where the spread asks for less.
         let first = first.max(1);
@@ -561,11 +613,16 @@ fn check_places() {
     }
     for spread in [5, 6, 64, u32::MAX] {
         check_stated("C", &c, spread, 0, |_| (vec![], vec![0, 0]));
-        check_stated("C with a floor", &(c.clone() + &gaps(&[3])), spread, 3, |_| (vec![], vec![0, 0]));
+        for floor in [1, 3] {
+            check_stated("C with a floor", &(c.clone() + &gaps(&[floor])), spread, floor, |_| (vec![], vec![0, 0]));
+        }
     }
-    check_stated("D", &d, 1, 1, |_| (vec![], vec![0, 0]));
-    for spread in [2, 3, 64, u32::MAX] {
-        check_stated("D", &d, spread, 0, |total| (vec![], vec![0, (total == 0) as u32]));
+    for floor in [0, 1, 2] {
+        let text = d.clone() + &gaps(&[floor]);
+        check_stated("D", &text, 1, 2, |_| (vec![], vec![0, 0]));
+        for spread in [2, 3, 64, u32::MAX] {
+            check_stated("D", &text, spread, floor, |total| (vec![], vec![0, (total < 2) as u32]));
+        }
     }
 }
 
@@ -578,11 +635,11 @@ fn check_places_at_limits() {
     }
     for right in [true, false] {
         let (text, _) = bundle(32, right);
-        check_stated("bundle", &text, 63, 32, |_| (vec![], vec![0, 0]));
+        check_stated("bundle", &text, 63, 33, |_| (vec![], vec![0, 0]));
         check_stated("bundle with a floor", &(text.clone() + &gaps(&[64])), 63, 64, |_| (vec![], vec![0, 0]));
         let lines: Vec<&str> = text.lines().collect();
         let eight = format!("STACK\t8\n{}{}", format!("{}\n", lines[1]).repeat(9), format!("{}\n", lines[3]).repeat(8));
-        check_stated("eight bundles", &eight, 63, 256, |_| (vec![32; 7], vec![0; 9]));
+        check_stated("eight bundles", &eight, 63, 264, |_| (vec![33; 7], vec![0; 9]));
         check_stated("eight bundles with floors", &(eight + &gaps(&[64; 8])), 63, 512, |_| (vec![64; 7], vec![0; 9]));
     }
     let long = "STACK\t2\nPART\t100\nPART\t4\nPART\t1000\nNETS\nNETS\nGAP\t1\t5\nGAP\t2\t2\n";
@@ -594,23 +651,23 @@ fn check_places_at_limits() {
     }
 }
 
-/// m pairs whose paths each go m columns right, or left, between strips just long enough: each has a run on a track of its own, so m tracks are
-/// needed at the strips' length. The text, and the lines of the page.
+/// m pairs whose paths each go m columns right, or left, between strips just long enough: each has a run on a track of its own, none along the edges, so m + 1
+/// tracks are needed at the strips' length. The text, and the lines of the page.
 fn bundle(m: usize, right: bool) -> (String, Vec<String>) {
     let nets: String = (0..m).map(|j| if right { format!("\t{}\t{}", j, m + j) } else { format!("\t{}\t{}", m + j, j) }).collect();
     let text = format!("STACK\t1\nPART\t{0}\nPART\t{0}\nNETS{1}\n", 2 * m - 1, nets);
-    let run = "-".repeat(m - 1);
-    let mut lines = vec![format!("{:>3} {}{}", m, if right { ".".repeat(m) } else { String::new() }, "o".repeat(m))];
-    for track in (1..m).rev() {
+    let (near, far) = ("o".repeat(m), ".".repeat(m) + &"o".repeat(m));
+    let mut lines = vec![format!("{:>3} {}", m + 1, if right { &far } else { &near })];
+    for track in (1..=m).rev() {
         // Of the other paths some go up before the run, some behind it.
-        let (before, behind) = if right { (m - 1 - track, track) } else { (track, m - 1 - track) };
-        lines.push(format!("{:>3} {}+{}+{}", track, "|".repeat(before), run, "|".repeat(behind)));
+        let (before, behind) = if right { (m - track, track - 1) } else { (track - 1, m - track) };
+        lines.push(format!("{:>3} {}+{}+{}", track, "|".repeat(before), "-".repeat(m - 1), "|".repeat(behind)));
     }
-    lines.push(if right { format!("  0 {}{}+", "o".repeat(m), run) } else { format!("  0 +{}{}", run, "o".repeat(m)) });
+    lines.push(format!("  0 {}", if right { near } else { far }));
     (text, lines)
 }
 
-/// The lines of a page of two tracks or more when its channel gets t tracks: behind the former last track the paths go straight up.
+/// The lines of a page of two tracks or more when its channel gets t tracks: above its own ones the paths go straight up.
 fn taller(lines: &[&str], t: usize) -> Vec<String> {
     let ends = &lines[0][4..];
     let mut all = vec![format!("{:>3} {}", t, ends)];
@@ -627,30 +684,37 @@ fn check_tall_pages() {
         same(name, text.as_bytes(), lines.len(), t + 1);
         check_page(name, text, spread, 1, Ok(specimens::page(&lines)));
     };
-    for t in [3, 9, 10, 33, 63, 64] {
-        check("A", &(A.to_string() + &gaps(&[t])), 6, t as usize, &["  2 ..o.o", "  1 .++.|", "  0 o+o-+"]);
+    for t in [3, 4, 9, 10, 33, 63, 64] {
+        check("A", &(A.to_string() + &gaps(&[t])), 6, t as usize, &["  3 ..o.o", "  2 .++.|", "  1 +++-+", "  0 o.o"]);
         let empty: Vec<String> = (0..=t).rev().map(|track| format!("{:>3} ", track)).collect();
         let empty: Vec<&str> = empty.iter().map(|l| &l[..]).collect();
         check_page("no pairs", &(bare(1, 5) + &gaps(&[t])), 63, 1, Ok(specimens::page(&empty)));
     }
-    for (m, right, t) in [(9, true, 10), (10, false, 64), (32, true, 33), (32, true, 64), (32, false, 64)] {
+    for (m, right, t) in [(9, true, 11), (10, false, 64), (32, true, 33), (32, true, 34), (32, true, 64), (32, false, 64)] {
         let (text, lines) = bundle(m, right);
         let lines: Vec<&str> = lines.iter().map(|l| &l[..]).collect();
         check("bundle", &(text + &gaps(&[t])), 2 * m as u32 - 1, t as usize, &lines);
     }
-    same("the longest page", A.as_bytes(), page_in((A.to_string() + &gaps(&[64])).as_bytes(), 4, 1, 4485).0, 65 * 69);
+    same("the longest page", A.as_bytes(), page_in((A.to_string() + &gaps(&[64])).as_bytes(), 4, 1, PAGE_BYTES).0, PAGE_BYTES as u64);
 }
 
-/// The pages of the specimens; then pages of the last column, without pairs, of two digits and of 33 lines.
+/// The pages of the specimens; then pages of the last column, of two tracks, without pairs, of two digits and of 34 lines.
 fn check_pages() {
     for (name, text, spread, channel, due) in specimens::PAGES {
         check_page(name, &specimens::tabbed(text), spread, channel, due.map(specimens::page));
     }
     let wide = "STACK\t1\nPART\t63\nPART\t63\nNETS\t0\t63\n";
-    let lines = [&format!("  1 {}o", ".".repeat(63))[..], &format!("  0 o{}+", "-".repeat(62))];
+    let lines = [&format!("  2 {}o", ".".repeat(63))[..], &format!("  1 +{}+", "-".repeat(62)), "  0 o"];
     check_page("wide", wide, 63, 1, Ok(specimens::page(&lines)));
     let last = "STACK\t1\nPART\t63\nPART\t63\nNETS\t63\t63\n";
     check_page("last column", last, 63, 1, Ok(specimens::page(&[&format!("  0 {}o", ".".repeat(63))])));
+    for (name, text, spread, ends) in [
+        ("last column, floor 1", last.to_string(), 63, ".".repeat(63) + "o"),
+        ("32 pairs, floor 1", specimens::tabbed(&specimens::pairs(32)), 40, "o".repeat(32)),
+    ] {
+        let lines = [&format!("  1 {}", ends)[..], &format!("  0 {}", ends)];
+        check_page(name, &(text + &gaps(&[1])), spread, 1, Ok(specimens::page(&lines)));
+    }
     check_page("second of two without pairs", &bare(2, 3), 3, 2, Ok(specimens::page(&["  0 "])));
     check_page("eighth of eight without pairs", &bare(8, 1), 63, 8, Ok(specimens::page(&["  0 "])));
     for (m, right) in [(9, true), (10, true), (10, false), (11, false), (32, true), (32, false)] {
@@ -696,6 +760,7 @@ fn main() {
     check_floors();
     check_trials();
     check_floor_trials();
+    check_limit_trials();
     check_places();
     check_places_at_limits();
     check_pages();
