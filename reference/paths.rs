@@ -3,8 +3,11 @@
 
 use crate::channel::{feasible, formerly_feasible, Pair};
 
-/// Points of a grid: that of column c and track v is bit v * columns + c. One point is a set, too.
+/// Points of a grid, the one of column c and track v as bit v * columns + c. A single point is a set, too.
 type Points = u128;
+
+/// Larger grids are not searched.
+const MOST_POINTS: usize = 120;
 
 struct Grid {
     columns: usize,
@@ -17,7 +20,7 @@ struct Grid {
 }
 
 impl Grid {
-    /// The grid of a channel, where the lower strip is at 0; None if it has more points than a set has bits.
+    /// The grid of a channel, where the lower strip is at 0; None if it is too large.
     ///
     /// (t - 1) / 2 columns beyond the outermost terminals on each side do as well as any number of them: a piece of a path that goes out there comes back on
     /// another of the tracks 1 to t - 1, so there are at most (t - 1) / 2 such pieces; no two cross, so each can turn back in the first column beyond those
@@ -27,7 +30,7 @@ impl Grid {
         let margin = t.saturating_sub(1) as i64 / 2;
         let first = ends.iter().map(|e| e.0.min(e.1)).min()? - margin;
         let columns = (ends.iter().map(|e| e.0.max(e.1)).max()? + margin - first + 1) as usize;
-        if columns.checked_mul(t.checked_add(1)?)? > 128 {
+        if columns.checked_mul(t.checked_add(1)?)? > MOST_POINTS {
             return None;
         }
         let point = |track: usize, c: usize| 1 << (track * columns + c);
@@ -93,7 +96,7 @@ impl Grid {
     }
 }
 
-/// Whether the pairs can be given paths, no point shared; None if the grid is too large for this search.
+/// Whether the pairs can be given paths, no point shared; None if the grid is too large.
 pub fn drawable(pairs: &[Pair], t: usize, offset: i64) -> Option<bool> {
     if pairs.is_empty() {
         return Some(true);
@@ -113,7 +116,7 @@ const ALL: &str = "channels searched for paths";
 const DRAWABLE: &str = "channels searched, drawable";
 const FORMERLY: &str = "channels searched, not drawable but allowed by the former rule";
 
-/// What must have been met, besides: both answers at separations 0, 1 and the count of pairs; at one more every channel is drawable.
+/// What must have been met: the last of these, and both answers at separations 0, 1 and the count of pairs; at one more every channel is drawable.
 pub const MET: [&str; 8] = [
     FORMERLY,
     "channels searched, drawable at 0",
