@@ -60,8 +60,8 @@ const MET: [&str; 30] = [
     "pages, an upright step below runs",
     "trials, not legal by a floor alone",
     "trials, not legal but by the former rule",
-    "trials, a separation of 1, legal",
-    "trials, a separation of 1, not legal",
+    "trials, legal with a separation of 1",
+    "trials, not legal by a separation of 1 alone",
     "trials, legal by a search for paths",
     "trials, not legal by a search for paths",
     "refusal 2 of a GAP line",
@@ -468,8 +468,11 @@ impl Run {
         if !legal && judged_by(stack, spread, placement, &channel::formerly_feasible) {
             self.count("trials, not legal but by the former rule");
         }
-        if stack.channels.iter().zip(placement).any(|(pairs, t)| !pairs.is_empty() && *t == 1) {
-            self.count(if legal { "trials, a separation of 1, legal" } else { "trials, a separation of 1, not legal" });
+        if legal && stack.channels.iter().zip(placement).any(|(pairs, t)| !pairs.is_empty() && *t == 1) {
+            self.count("trials, legal with a separation of 1");
+        }
+        if !legal && judged_by(stack, spread, placement, &|pairs, t, offset| t == 1 || channel::feasible(pairs, t, offset)) {
+            self.count("trials, not legal by a separation of 1 alone");
         }
         if !legal && placement.iter().zip(&stack.floors).any(|(t, floor)| (*t as usize) < *floor) {
             let bare = Stack { floors: vec![0; stack.floors.len()], ..stack.clone() };
