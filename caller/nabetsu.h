@@ -12,7 +12,7 @@
 #include <stdint.h>
 
 /* So many bytes are enough for every table, whatever the floors in its text. */
-#define NABETSU_TABLE_BYTES 21082
+#define NABETSU_TABLE_BYTES 21738
 
 /* So many bytes are enough for every page. */
 #define NABETSU_PAGE_BYTES 4485

@@ -37,7 +37,7 @@ const NO_PAIRS_1: &str = "STACK 1\nPART 3\nPART 5\nNETS\nGAP 1 1\n";
 const D_FLOOR_1: &str = d!("GAP 1 1\n");
 
 /// The text, and the table or the refusal's line.
-pub const TABLES: [(&str, &str, &str); 33] = [
+pub const TABLES: [(&str, &str, &str); 34] = [
     ("A", a!(""), A_TABLE),
     ("B", b!(""), "TABLE 2\nROW 4 6 3 3 0 0 0\nROW 5 5 2 3 1 0 0\nROW 6 3 0 3 2 0 0\nROW 7 2 0 2 3 1 0\nROW 8 0 0 0 4 2 0\n"),
     ("C", "STACK 1\nPART 3\nPART 5\nNETS\n", "TABLE 1\nROW 5 0 0 0 0\n"),
@@ -81,6 +81,12 @@ pub const TABLES: [(&str, &str, &str); 33] = [
     ("floor 65", FLOOR_65, "3 5 3\n"),
     ("GAP twice", a!("GAP 1 1\nGAP 1 1\n"), "6 6 2\n"),
     ("GAP twice, floor 65", a!("GAP 1 1\nGAP 1 65\n"), "3 6 3\n"),
+    // At 10 two tracks in each channel, at 12 three in one: so there is a row for each total from 0 to 6 but 1.
+    (
+        "six rows",
+        "STACK 2\nPART 8\nPART 8\nPART 8\nNETS 0 4 4 8\nNETS 0 4 4 8\n",
+        "TABLE 2\nROW 8 6 3 3 0 0 0\nROW 9 5 2 3 1 0 0\nROW 10 4 2 2 2 1 0\nROW 12 3 0 3 4 0 0\nROW 13 2 0 2 5 1 0\nROW 16 0 0 0 8 4 0\n",
+    ),
 ];
 
 /// The text, a spread, and the row or the refusal's line.
