@@ -3,6 +3,9 @@
  * A pointer must point to as many items as the length behind it says, be aligned, and not be null even where that length is 0; the text and the output must
  * not overlap. Nothing outside the output is written, and nothing is kept from call to call.
  *
+ * A placement can be drawn if each pair of each channel can be given a path of unit steps from terminal to terminal, no point shared; in a channel with separation t
+ * horizontal steps are on tracks 1 to t - 1 only, so that no path runs along a strip's edge.
+ *
  * A refusal is one number: its own number times 2^40, its line times 2^20 and its field, added. It is at least 2^40, and every other answer is
  * below that. */
 #ifndef NABETSU_H
