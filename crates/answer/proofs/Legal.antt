@@ -14,9 +14,9 @@ use Rattle.numbers.proofs.Orders.{le-or-lt}
 use Rattle.stack.specs.Stack.{Channel, feasible, in-spread, channels-good, longest}
 use Rattle.stack.specs.Limits.{pairs-within, channel-within, channels-within}
 use Rattle.stack.proofs.OnStrips.{terminals-on}
-use Rattle.channel.specs.Limits.{low-limit, low-term, low-floored, high-floored, Floored-between}
-use Rattle.channel.proofs.Between.{Biased, greatest-at-most}
-use Rattle.channel.proofs.Floors.{feasible-between, between-feasible, low-floored-widens, high-floored-widens, low-floored-open, high-floored-open, low-floored-bounded}
+use Rattle.limits.specs.Limits.{low-limit, low-term, low-floored, high-floored, Floored-between}
+use Rattle.limits.proofs.Between.{Biased, greatest-at-most}
+use Rattle.limits.proofs.Floors.{feasible-between, between-feasible, low-floored-widens, high-floored-widens, low-floored-open, high-floored-open, low-floored-bounded}
 use Rattle.spans.specs.Spans.{In, Fits, last, low-at, high-at}
 use Rattle.spans.specs.Placed.{Placed, alone, under, Widens, Widening, none, more}
 use Rattle.arrays.specs.Arrays.{limits-from}

@@ -20,8 +20,9 @@ use Rattle.stack.specs.declared.Stack.{Stack as Stack-struct}
 use Rattle.stack.specs.Sizes.{channels-held, strips-held, separations-held, totals-held}
 use Rattle.stack.proofs.Values.{channel-length, stack-channel}
 use Rattle.stack.proofs.Within.{strips-length, channel-in-limits, few-channels, few-pairs, small-floor, stack-channels, stack-strip}
-use Rattle.channel.specs.Limits.{low-floored, high-floored, open-from, Limits-of}
-use Rattle.channel.proofs.Floors.{high-floored-bounded}
+use Rattle.limits.specs.Limits.{low-floored, high-floored, open-from}
+use Rattle.channel.specs.Seeking.{Limits-of}
+use Rattle.limits.proofs.Floors.{high-floored-bounded}
 use Rattle.channel.specs.declared.Limits.{Limits}
 use Rattle.spans.specs.Spans.{nonempty}
 use Rattle.spans.specs.Solver.{level, most, back, least-total}

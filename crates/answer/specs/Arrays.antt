@@ -11,7 +11,7 @@ use Rattle.stack.specs.Limits.{within-limits}
 use Rattle.stack.specs.declared.Stack.{Stack as Stack-struct}
 use Rattle.stack.specs.Sizes.{channels-held, strips-held, separations-held}
 use Rattle.spans.specs.Spans.{Span}
-use Rattle.channel.specs.Limits.{low-floored, high-floored}
+use Rattle.limits.specs.Limits.{low-floored, high-floored}
 use Rattle.arrays.specs.Arrays.{bias, entry, row, sides, lasts-in, Plan-is}
 use Rattle.solver.specs.declared.Placement.{Placement}
 use Rattle.answer.specs.Solve.{last-use, window, answer-total, separations-for, positions-for}

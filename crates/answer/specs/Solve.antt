@@ -4,7 +4,7 @@ use mathlib.Core.List.{List, [], _∷_}
 use Prim.Native.Nat.{ℕ, suc, _+_, _-_, max}
 use lib.ListN.{length, getD, drop}
 use Rattle.stack.specs.Stack.{Channel, Stack}
-use Rattle.channel.specs.Limits.{low-floored, high-floored, open-from}
+use Rattle.limits.specs.Limits.{low-floored, high-floored, open-from}
 use Rattle.spans.specs.Spans.{Span, span, Limit}
 use Rattle.spans.specs.Solver.{Level, level, least-total, separations, positions}
 use Rattle.arrays.specs.Arrays.{limits-from}

@@ -8,7 +8,7 @@ ghost use Rattle.stack.specs.Sizes.{channels-held, strips-held};
 ghost use Rattle.stack.specs.Limits.{within-limits};
 ghost use Rattle.stack.specs.Value.{tracks-of, columns-of, stack-of};
 ghost use Rattle.stack.specs.Stack.{longest};
-ghost use Rattle.channel.specs.Limits.{open-from};
+ghost use Rattle.limits.specs.Limits.{open-from};
 ghost use Rattle.answer.specs.Arrays.{Limits-in, Windows-in, Limits-sized, Held, Placed-is, Answer-is};
 ghost use Rattle.answer.specs.Solve.{answer-total};
 use arrays::ABOVE;

@@ -16,8 +16,9 @@ use Rattle.stack.specs.Sizes.{separations-held}
 use Rattle.stack.specs.Value.{channel-of}
 use Rattle.stack.specs.declared.Terminals.{Terminals}
 use Rattle.stack.proofs.Values.{channel-length}
-use Rattle.channel.specs.Limits.{low-limit, high-limit, bias, term-bias, narrowed, low-found, high-found, row-from-one, Filling, Pairs-limits}
-use Rattle.channel.proofs.Between.{low-open, high-open}
+use Rattle.limits.specs.Limits.{low-limit, high-limit}
+use Rattle.channel.specs.Seeking.{bias, term-bias, narrowed, low-found, high-found, row-from-one, Filling, Pairs-limits}
+use Rattle.limits.proofs.Between.{low-open, high-open}
 use Rattle.channel.proofs.Terms.{narrowed-padded, low-limit-found, high-limit-found}
 
 -- ONE ROW

@@ -1,6 +1,5 @@
--- Laws of a channel's limits.
-pub mod Between
+-- Laws of the loops that seek a channel's limits, fill and close them, and test its feasibility.
 pub mod Terms
 pub mod Filling
-pub mod Floors
+pub mod Closing
 pub mod Trying

@@ -16,7 +16,8 @@ use Rattle.stack.specs.declared.Terminals.{Terminals}
 use Rattle.stack.specs.declared.Columns.{Columns}
 use Rattle.stack.proofs.OnStrips.{terminals-on}
 use Rattle.stack.proofs.Values.{channel-length, channel-p-at, channel-q-at}
-use Rattle.channel.specs.Limits.{low-term, high-term, greatest, least, low-limit, high-limit, bias, term-bias, raised, places-held, At-most, narrowed, paired, Padded}
+use Rattle.limits.specs.Limits.{low-term, high-term, greatest, least, low-limit, high-limit}
+use Rattle.channel.specs.Seeking.{bias, term-bias, raised, places-held, At-most, narrowed, paired, Padded}
 
 pub paired-p : (ps qs : List ℕ) (j : ℕ) → j < places-held → p-at (paired ps qs) j ≡ getD ps j 0
 unfolding paired p-at pair

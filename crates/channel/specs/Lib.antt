@@ -1,2 +1,2 @@
--- A channel's limits.
-pub mod Limits
+-- What the code of a channel's limits and of its feasibility works out.
+pub mod Seeking

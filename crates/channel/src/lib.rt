@@ -8,20 +8,8 @@ ghost use Rattle.stack.specs.Limits.{on-strips};
 ghost use Rattle.stack.specs.Sizes.{separations-held};
 ghost use Rattle.numbers.specs.Lists.{tabulate};
 ghost use Rattle.stack.specs.Value.{columns, channel-of};
-ghost use Rattle.channel.specs.Limits.{
-  Wide,
-  greatest,
-  least,
-  term-bias,
-  places-held,
-  At-most,
-  narrowed,
-  paired,
-  raised,
-  from-floor,
-  Limits-of,
-  clear,
-};
+ghost use Rattle.limits.specs.Limits.{greatest, least, from-floor};
+ghost use Rattle.channel.specs.Seeking.{Wide, term-bias, places-held, At-most, narrowed, paired, raised, Limits-of, clear};
 use numbers::difference;
 use stack::Columns;
 use stack::Stack;

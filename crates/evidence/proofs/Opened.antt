@@ -7,7 +7,7 @@ use Prim.Native.String.{String}
 use Rattle.numbers.specs.Lists.{tabulate, padded}
 use Rattle.stack.specs.Stack as stacks
 use Rattle.stack.specs.Stack.{Stack}
-use Rattle.channel.specs.Limits as limits
+use Rattle.limits.specs.Limits as limits
 use Rattle.spans.specs.Spans as spans
 use Rattle.spans.specs.Solver as solver
 use Rattle.arrays.specs.Arrays.{limits-from}

@@ -15,7 +15,7 @@ use Rattle.stack.specs.Stack.{Channel, Stack, stack, channels-good, legal, sum,
 use Rattle.stack.specs.Limits.{channels-within, within-limits}
 use Rattle.stack.proofs.Feasible.{feasible-says}
 use Rattle.stack.proofs.Within.{strips-count}
-use Rattle.channel.specs.Limits.{open-from}
+use Rattle.limits.specs.Limits.{open-from}
 use Rattle.answer.specs.Solve.{last-use}
 use Rattle.answer.proofs.Legal.{longest-bounds, placed-legal}
 use Rattle.answer.proofs.Alone.{legal-lengths}

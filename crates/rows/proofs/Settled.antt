@@ -17,7 +17,7 @@ use Rattle.stack.specs.Limits.{pairs-within, channel-within, channels-within, s
 use Rattle.stack.proofs.Feasible.{By-pairs, by-pairs-clear, clear-by-pairs, feasible-says, says-feasible}
 use Rattle.stack.proofs.OnStrips.{terminals-on}
 use Rattle.stack.proofs.Within.{strips-count, channels-few}
-use Rattle.channel.specs.Limits.{open-from}
+use Rattle.limits.specs.Limits.{open-from}
 use Rattle.rows.specs.Walk.{widest}
 
 pub feasible-open : (c : Channel) (t x y : ℕ) → c .floor ≤ t → open-from (length (c .pairs)) ≤ t → feasible c t x y ≡ true

@@ -7,10 +7,10 @@ use lib.ListN.{length-set}
 use borrow.Author.Count.{falls}
 use Rattle.stack.specs.Stack.{channel}
 use Rattle.stack.specs.Value.{channel-of}
-use Rattle.channel.specs.Limits.{term-bias, raised, low-found, high-found, Filling}
+use Rattle.channel.specs.Seeking.{term-bias, raised, low-found, high-found, Filling}
 use Rattle.channel.proofs.Terms.{narrowed-held, terminals-at-most}
 use Rattle.channel.proofs.Filling.{filling-starts, filling-steps, filling-long, filling-ends}
-use Rattle.channel.proofs.Floors.{limits-closed}
+use Rattle.channel.proofs.Closing.{limits-closed}
 use borrow.Author.Needs.{needs}
 use Rattle.channel.proofs.channel_limits.Statement.{statement}
 use Rattle.channel.proofs.channel_limits.Tie as tie

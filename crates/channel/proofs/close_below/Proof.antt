@@ -1,8 +1,8 @@
 -- close_below meets its contract: the loop keeps Closing. Assumes nothing.
 use Prim.Native.Nat.{_-_}
 use borrow.Author.Count.{falls}
-use Rattle.channel.specs.Limits.{Closing}
-use Rattle.channel.proofs.Floors.{closing-starts, closing-steps, closing-ends}
+use Rattle.channel.specs.Seeking.{Closing}
+use Rattle.channel.proofs.Closing.{closing-starts, closing-steps, closing-ends}
 use borrow.Author.Needs.{needs}
 use Rattle.channel.proofs.close_below.Statement.{statement}
 use Rattle.channel.proofs.close_below.Tie as tie

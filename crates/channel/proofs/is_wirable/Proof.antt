@@ -3,7 +3,7 @@ use Prim.Native.Nat.{_-_}
 use borrow.Author.Count.{falls}
 use borrow.Author.Tests.{not-true, not-false}
 use Rattle.stack.specs.Value.{channel-of}
-use Rattle.channel.specs.Limits.{Trying}
+use Rattle.channel.specs.Seeking.{Trying}
 use Rattle.channel.proofs.Trying.{trying-starts, trying-steps, trying-refuses, trying-ends, trying-open}
 use borrow.Author.Needs.{needs}
 use Rattle.channel.proofs.is_wirable.Statement.{statement}

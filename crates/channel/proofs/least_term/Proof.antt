@@ -2,7 +2,8 @@
 use mathlib.Core.Path.{_≡_, refl}
 use Prim.Native.Nat.{_+_, _-_, _≤_}
 use native.Mathlib.Omega.{arith}
-use Rattle.channel.specs.Limits.{least, term-bias, paired}
+use Rattle.limits.specs.Limits.{least}
+use Rattle.channel.specs.Seeking.{term-bias, paired}
 use Rattle.channel.proofs.Terms.{least-steps}
 use borrow.Author.Needs.{needs}
 use Rattle.channel.proofs.least_term.Statement.{statement}

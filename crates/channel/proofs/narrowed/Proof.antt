@@ -6,7 +6,7 @@ use lib.ListN.{getD}
 use Rattle.numbers.specs.Lists.{filled}
 use Rattle.numbers.proofs.Lists.{filled-starts, filled-steps}
 use Rattle.stack.specs.Value.{columns}
-use Rattle.channel.specs.Limits.{places-held, narrowed}
+use Rattle.channel.specs.Seeking.{places-held, narrowed}
 use borrow.Author.Needs.{needs}
 use Rattle.channel.proofs.narrowed.Statement.{statement}
 use Rattle.channel.proofs.narrowed.Tie as tie

@@ -11,7 +11,7 @@ use Rattle.stack.specs.Stack.{Pair, q-at, wirable}
 use Rattle.stack.specs.Limits.{rising}
 use Rattle.stack.proofs.Rising.{Before, rising-before}
 use Rattle.stack.proofs.Feasible.{By-pairs, by-pairs-wirable, wirable-by-pairs}
-use Rattle.channel.specs.Limits.{low-term, high-term, greatest, least, low-limit, high-limit, Between}
+use Rattle.limits.specs.Limits.{low-term, high-term, greatest, least, low-limit, high-limit, Between}
 
 -- a bound on the greatest is a bound on each
 pub greatest-at-most : (b : ℕ) (c : List Pair) (t n m : ℕ) → ((i : ℕ) → i < n → low-term b c t i ≤ m) → greatest b c t n ≤ m

@@ -1,0 +1,2 @@
+-- A channel's limits on the offset.
+pub mod Limits
