@@ -1,2 +1,2 @@
--- What the code of a channel's limits and of its feasibility works out.
+-- What the code of a channel's limits works out.
 pub mod Seeking

@@ -1,9 +1,9 @@
--- How the code seeks L(t) and R(t), fills and closes the arrays of limits, and tests whether a channel is feasible. Assumes nothing: these are definitions.
+-- How the code seeks L(t) and R(t), and fills and closes the arrays of limits. Assumes nothing: these are definitions.
 use mathlib.Core.Path.{_≡_}
-use mathlib.Core.Bool.{Bool, true, _&&_, cond}
+use mathlib.Core.Bool.{cond}
 use mathlib.Core.List.{List}
-use Prim.Native.Nat.{ℕ, zero, suc, _+_, _*_, _-_, _^_, _≤_, _<_}
-use lib.Dec.{ltb, leb}
+use Prim.Native.Nat.{ℕ, zero, suc, _+_, _*_, _-_, _≤_, _<_}
+use lib.Dec.{ltb}
 use lib.ListN.{length, getD}
 use Rattle.numbers.specs.Lists.{tabulate, filled}
 use Rattle.stack.specs.Stack.{Pair, pair, p-at, q-at, Channel}
@@ -16,11 +16,6 @@ use Rattle.channel.specs.declared.Limits.{Limits}
 -- what the code's bias is
 abbrev pub bias : ℕ
 bias = 8589934592
-
--- a number of columns, and that it fits 32 bits
-pub record Wide (n r : ℕ) : Type 0 where
-  pub same : r ≡ n
-  pub fits : r < 2 ^ 32
 
 -- the code's bias while it seeks the greatest and the least of the terms
 abbrev pub term-bias : ℕ
@@ -85,16 +80,3 @@ pub record Closing (xs : List ℕ) (d n t : ℕ) (row : List ℕ) : Type 0 where
 pub record Limits-of (c : Channel) (r : Limits) : Type 0 where
   pub low : r .low ≡ tabulate separations-held 0 (λ s. low-floored bias c s)
   pub high : r .high ≡ tabulate separations-held 0 (λ s. high-floored bias c s)
-
--- the tests of feasibility at one i = j - t: pair i joins p to q, pair i + t joins pt to qt
-unfoldable pub clear : (p q pt qt t lower upper : ℕ) → Bool
-clear p q pt qt t a b = leb (p + t + a) (b + qt) && leb (b + t + q) (pt + a)
-
--- the test at i of a channel
-unfoldable pub clear-at : List Pair → (t lower upper i : ℕ) → Bool
-clear-at c t a b i = clear (p-at c i) (q-at c i) (p-at c (i + t)) (q-at c (i + t)) t a b
-
--- while feasibility is tested: the first i pass
-pub record Trying (c : List Pair) (t lower upper i : ℕ) : Type 0 where
-  pub seen : i ≤ length c - t
-  pub passed : (j : ℕ) → j < i → clear-at c t lower upper j ≡ true

@@ -1,16 +1,15 @@
-// The limits on a channel's offset, and the test whether a channel is feasible.
+// The limits on a channel's offset.
 ghost use mathlib.Core.Path.{_≡_};
 ghost use mathlib.Core.Bool.{true};
-ghost use Prim.Native.Nat.{_-_, _≤_, min, max};
+ghost use Prim.Native.Nat.{_≤_, min, max};
 ghost use lib.ListN.{length, getD};
-ghost use Rattle.stack.specs.Stack.{channel, wirable, feasible};
+ghost use Rattle.stack.specs.Stack.{channel};
 ghost use Rattle.stack.specs.Limits.{on-strips};
 ghost use Rattle.stack.specs.Sizes.{separations-held};
 ghost use Rattle.numbers.specs.Lists.{tabulate};
 ghost use Rattle.stack.specs.Value.{columns, channel-of};
 ghost use Rattle.limits.specs.Limits.{greatest, least, from-floor};
-ghost use Rattle.channel.specs.Seeking.{Wide, term-bias, places-held, At-most, narrowed, paired, raised, Limits-of, clear};
-use numbers::difference;
+ghost use Rattle.channel.specs.Seeking.{term-bias, places-held, At-most, narrowed, paired, raised, Limits-of};
 use stack::Columns;
 use stack::Stack;
 use stack::Terminals;
@@ -27,12 +26,6 @@ const PLACES: usize = 2 * Terminals::MAX_PAIRS;
 pub struct Limits {
     pub low: [u64; Stack::SEPARATIONS],
     pub high: [u64; Stack::SEPARATIONS],
-}
-
-fn wide(c: Columns) -> u64
-    ensures { λ r. ⌜ Wide (c .0) r ⌝ }
-{
-    c.0 as u64
 }
 
 // The greater and the lesser of two numbers of 16 bits.
@@ -130,71 +123,4 @@ pub fn channel_limits(terminals: Terminals, floor: Tracks) -> Limits
     close_below(&mut low, floor, 2 * Stack::BIAS);
     close_below(&mut high, floor, 0);
     Limits { low, high }
-}
-
-// Pair i joins p to q and pair i + t joins pt to qt: from p to qt, and from q to pt, it is at least t columns.
-fn is_clear(
-    p: Columns,
-    q: Columns,
-    pt: Columns,
-    qt: Columns,
-    t: Tracks,
-    lower: Columns,
-    upper: Columns,
-) -> bool
-    ensures { λ r. ⌜ r ≡ clear (p .0) (q .0) (pt .0) (qt .0) (t .0) (lower .0) (upper .0) ⌝ }
-{
-    let tracks = t.0 as u64;
-    if wide(upper) + wide(qt) < wide(p) + tracks + wide(lower) {
-        return false;
-    }
-    wide(upper) + tracks + wide(q) <= wide(pt) + wide(lower)
-}
-
-// Document 01, "When a channel can be wired": its condition on the pairs with so many tracks, with the strips at these positions.
-fn is_wirable(terminals: Terminals, t: Tracks, lower: Columns, upper: Columns) -> bool
-    requires { ⌜ terminals .count ≤ 32 ⌝ }
-    ensures { λ r. ⌜ r ≡ wirable (channel-of terminals) (t .0) (lower .0) (upper .0) ⌝ }
-{
-    let pairs = terminals.count;
-    let tracks = t.0 as usize;
-    if pairs <= tracks {
-        return true;
-    }
-    let terms = pairs - tracks;
-    for i in 0..terms {
-        let p = terminals.lower[i];
-        let q = terminals.upper[i];
-        let pt = terminals.lower[i + tracks];
-        let qt = terminals.upper[i + tracks];
-        if !is_clear(p, q, pt, qt, t, lower, upper) {
-            return false;
-        }
-    }
-    true
-}
-
-// The tracks between the edges: one less than the separation, and none at 0.
-fn between_edges(t: Tracks) -> Tracks
-    ensures { λ r. ⌜ r .0 ≡ t .0 - 1 ⌝ }
-{
-    Tracks(difference(t.0 as u64, 1) as u32)
-}
-
-// Feasible at a separation, with the strips at these positions: from the floor upward (document 02, P2), and wirable on the tracks between the edges (P4).
-pub fn is_feasible(
-    terminals: Terminals,
-    floor: Tracks,
-    t: Tracks,
-    lower: Columns,
-    upper: Columns,
-) -> bool
-    requires { ⌜ terminals .count ≤ 32 ⌝ }
-    ensures { λ r. ⌜ r ≡ feasible (channel (channel-of terminals) (floor .0)) (t .0) (lower .0) (upper .0) ⌝ }
-{
-    let inner = between_edges(t);
-    if t.0 < floor.0 {
-        return false;
-    }
-    is_wirable(terminals, inner, lower, upper)
 }

@@ -3,7 +3,7 @@
 ghost use Prim.Native.Nat.{_≤_, _<_};
 use channel::Limits;
 use channel::channel_limits;
-use channel::is_feasible;
+use feasibility::is_feasible;
 use numbers::difference;
 use stack::Columns;
 use stack::Stack;

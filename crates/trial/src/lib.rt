@@ -9,7 +9,7 @@ ghost use Rattle.stack.specs.Limits.{within-limits};
 ghost use Rattle.stack.specs.Value.{stack-of, tracks-of, columns-of};
 ghost use Rattle.trial.specs.Legal.{all-zero, is-legal};
 ghost use Rattle.trial.specs.Trying.{used-separations, used-positions};
-use channel::is_feasible;
+use feasibility::is_feasible;
 use stack::Columns;
 use stack::Stack;
 use stack::Strip;

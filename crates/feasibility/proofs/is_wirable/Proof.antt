@@ -3,11 +3,11 @@ use Prim.Native.Nat.{_-_}
 use borrow.Author.Count.{falls}
 use borrow.Author.Tests.{not-true, not-false}
 use Rattle.stack.specs.Value.{channel-of}
-use Rattle.channel.specs.Seeking.{Trying}
-use Rattle.channel.proofs.Trying.{trying-starts, trying-steps, trying-refuses, trying-ends, trying-open}
+use Rattle.feasibility.specs.Trying.{Trying}
+use Rattle.feasibility.proofs.Trying.{trying-starts, trying-steps, trying-refuses, trying-ends, trying-open}
 use borrow.Author.Needs.{needs}
-use Rattle.channel.proofs.is_wirable.Statement.{statement}
-use Rattle.channel.proofs.is_wirable.Tie as tie
+use Rattle.feasibility.proofs.is_wirable.Statement.{statement}
+use Rattle.feasibility.proofs.is_wirable.Tie as tie
 
 abbrev Inv-loop : tie.InvT-loop
 Inv-loop t lower upper terminals pairs tracks terms i₀ i = Trying (channel-of terminals) (t .0) (lower .0) (upper .0) i

@@ -3,8 +3,8 @@ use borrow.Author.Tests.{le-leb, lt-leb}
 use Rattle.stack.specs.Stack.{feasible}
 use Rattle.stack.proofs.Feasible.{edge-clear-is}
 use borrow.Author.Needs.{needs}
-use Rattle.channel.proofs.is_feasible.Statement.{statement}
-use Rattle.channel.proofs.is_feasible.Tie as tie
+use Rattle.feasibility.proofs.is_feasible.Statement.{statement}
+use Rattle.feasibility.proofs.is_feasible.Tie as tie
 
 between-edges-requires : tie.Need-between-edges-requires
 between-edges-requires c κs = search needs

@@ -1,8 +1,8 @@
 -- is_clear meets its contract. Assumes nothing.
-use Rattle.channel.proofs.Trying.{not-clear, half-clear}
+use Rattle.feasibility.proofs.Trying.{not-clear, half-clear}
 use borrow.Author.Needs.{needs}
-use Rattle.channel.proofs.is_clear.Statement.{statement}
-use Rattle.channel.proofs.is_clear.Tie as tie
+use Rattle.feasibility.proofs.is_clear.Statement.{statement}
+use Rattle.feasibility.proofs.is_clear.Tie as tie
 
 cast-tracks : tie.Need-cast-tracks
 cast-tracks c = search needs

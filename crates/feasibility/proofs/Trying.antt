@@ -14,7 +14,7 @@ use Rattle.stack.specs.Value.{columns, channel-of}
 use Rattle.stack.specs.declared.Terminals.{Terminals}
 use Rattle.stack.proofs.Values.{channel-length, channel-p-at, channel-q-at}
 use Rattle.stack.proofs.Feasible.{By-pairs, by-pairs-wirable, wirable-by-pairs}
-use Rattle.channel.specs.Seeking.{clear, clear-at, Trying}
+use Rattle.feasibility.specs.Trying.{clear, clear-at, Trying}
 
 -- what the test says
 clear-says : (p q pt qt t a b : ℕ) → clear p q pt qt t a b ≡ true → (p + t + a ≤ b + qt) × (b + t + q ≤ pt + a)

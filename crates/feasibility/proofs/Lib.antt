@@ -1,0 +1,2 @@
+-- Laws of the loop that tests whether pairs are wirable.
+pub mod Trying

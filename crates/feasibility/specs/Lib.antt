@@ -1,0 +1,2 @@
+-- What the test of feasibility works out.
+pub mod Trying
