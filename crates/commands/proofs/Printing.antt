@@ -31,9 +31,9 @@ use Rattle.nabetsu.specs.Entry.{spread-refusal, total-told, Totalled, Total-say
 use Rattle.nabetsu.specs.Best.{Answered, Spread-says}
 use Rattle.nabetsu.specs.Promise.{Both-together}
 use Rattle.nabetsu.proofs.Promises.{both-together}
-use Rattle.nabetsu.specs.declared.PlacementAnswer.{PlacementAnswer}
+use Rattle.reply.specs.declared.PlacementAnswer.{PlacementAnswer}
 use Rattle.nabetsu.specs.declared.TotalAnswer.{TotalAnswer}
-use Rattle.nabetsu.specs.declared.TableAnswer.{TableAnswer}
+use Rattle.reply.specs.declared.TableAnswer.{TableAnswer}
 use Rattle.nabetsu.specs.declared.TrialAnswer.{TrialAnswer}
 use Rattle.commands.specs.Output.{Printed, unless-refused, status-of, Replied, channels, Table-printed, Total-printed, Placement-printed, Spread-printed, Page-printed, separations-in, positions-in, verdict-text, trial-text, trial-status}
 use Rattle.commands.specs.declared.Reply.{Reply}

@@ -16,7 +16,7 @@ use Rattle.page.specs.Page.{channel-page}
 use Rattle.nabetsu.specs.Entry.{spread-refusal, Total-says, Placement-says}
 use Rattle.nabetsu.specs.Best.{Spread-says}
 use Rattle.nabetsu.specs.Pages.{page-refusal}
-use Rattle.nabetsu.specs.declared.PlacementAnswer.{PlacementAnswer}
+use Rattle.reply.specs.declared.PlacementAnswer.{PlacementAnswer}
 use Rattle.nabetsu.specs.declared.TotalAnswer.{TotalAnswer}
 use Rattle.commands.specs.declared.Reply.{Reply}
 

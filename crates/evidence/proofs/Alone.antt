@@ -20,8 +20,8 @@ use Rattle.rows.proofs.Rows.{rows-alone}
 use Rattle.writing.specs.TableText.{table-text}
 use Rattle.trial.specs.Legal.{is-legal}
 use Rattle.nabetsu.specs.Entry.{total-told, Totalled, Total-says, placed-is, Placed-for, placed, unmet, Placed-or, Placement-says, numbers, numbers-in, Numbers-put, zeros, table-told, Fits, Tabled, Table-says, Trial-says}
-use Rattle.nabetsu.specs.declared.PlacementAnswer.{PlacementAnswer}
-use Rattle.nabetsu.specs.declared.TableAnswer.{TableAnswer}
+use Rattle.reply.specs.declared.PlacementAnswer.{PlacementAnswer}
+use Rattle.reply.specs.declared.TableAnswer.{TableAnswer}
 use Rattle.nabetsu.specs.declared.TotalAnswer.{TotalAnswer}
 use Rattle.page.specs.Page.{channel-page}
 use Rattle.nabetsu.specs.Pages.{Paged, Page-says}

@@ -20,8 +20,9 @@ use Rattle.trial.specs.Legal.{all-zero, is-legal}
 use Rattle.routing.specs.Paths as paths
 use Rattle.routing.specs.Wiring as wiring
 use Rattle.page.specs.Page as page
-use Rattle.nabetsu.specs.Entry.{narrow-refusal, spread-refusal}
-use Rattle.nabetsu.specs.Pages.{channel-refusal, broad-refusal, asked-refusal, page-refusal}
+use Rattle.reply.specs.Refusals.{narrow-refusal, channel-refusal, broad-refusal, asked-refusal}
+use Rattle.nabetsu.specs.Entry.{spread-refusal}
+use Rattle.nabetsu.specs.Pages.{page-refusal}
 use Rattle.evidence.specs.Replies.{Total-reply, total-is, total-for, total-reply, Placement-reply, placement, if-met, placement-for, placement-reply, Table-reply, writes, refuses, if-fits, table-for, table-reply, page-for, page-reply}
 use Rattle.evidence.specs.Specimens.{byte-shown, line-shown, text-shown, dotted, page-shown}
 

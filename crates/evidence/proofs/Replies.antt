@@ -26,8 +26,8 @@ use Rattle.nabetsu.specs.Entry.{spread-refusal, total-told, Totalled, Total-say
 use Rattle.nabetsu.specs.Pages.{page-refusal, Paged, Page-says}
 use Rattle.nabetsu.proofs.Pages.{page-answered}
 use Rattle.nabetsu.proofs.Spreads.{spread-within, spread-wide}
-use Rattle.nabetsu.specs.declared.PlacementAnswer.{PlacementAnswer}
-use Rattle.nabetsu.specs.declared.TableAnswer.{TableAnswer}
+use Rattle.reply.specs.declared.PlacementAnswer.{PlacementAnswer}
+use Rattle.reply.specs.declared.TableAnswer.{TableAnswer}
 use Rattle.nabetsu.specs.declared.TotalAnswer.{TotalAnswer}
 use Rattle.evidence.specs.Replies.{same-refusal, Total-reply, total-is, same-total, total-for, total-reply, Placement-reply, placement, same-placement, if-met, placement-for, placement-reply, Table-reply, writes, refuses, same-table, if-fits, table-for, table-reply, page-for, page-reply}
 

@@ -13,7 +13,7 @@ use Rattle.numbers.proofs.Bools.{ands, impossible}
 use Rattle.text.specs.Text.{refusal, text-refusal, stack-in}
 use Rattle.trial.specs.Legal.{is-legal}
 use Rattle.nabetsu.specs.Entry.{spread-refusal, Totalled, Total-says, Placed-or, Placement-says, Trial-says}
-use Rattle.nabetsu.specs.declared.PlacementAnswer.{PlacementAnswer}
+use Rattle.reply.specs.declared.PlacementAnswer.{PlacementAnswer}
 use Rattle.evidence.specs.Replies.{same-refusal, total-is, same-total, total-reply, Placement-reply, placement, same-placement, placement-reply, writes, refuses, same-table, table-reply, page-reply}
 use Rattle.evidence.specs.Specimens.{text-shown, page-shown, Specimen, spread-gives, spread-refused, place-gives, place-refused, table-gives, table-refused, trial-gives, trial-refused, page-gives, page-refused, Holds, All-hold, specimens, Specimens-right}
 use Rattle.evidence.proofs.Opened.{reading, replying, showing}

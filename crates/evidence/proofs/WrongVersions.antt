@@ -23,12 +23,13 @@ use Rattle.routing.specs.Paths.{point, Drawable}
 use Rattle.lines.specs.Lines.{same-bytes}
 use Rattle.text.specs.Text.{Refusal, refusal, fine, stack-in}
 use Rattle.text.specs.Outcome.{refusal-of}
-use Rattle.nabetsu.specs.Entry.{narrow-refusal, spread-refusal, total-told, Total-says, placed-is, Placed-for, placed, unmet, Placed-or, Placement-says, table-told, Table-says, Trial-says}
+use Rattle.reply.specs.Refusals.{narrow-refusal}
+use Rattle.nabetsu.specs.Entry.{spread-refusal, total-told, Total-says, placed-is, Placed-for, placed, unmet, Placed-or, Placement-says, table-told, Table-says, Trial-says}
 use Rattle.nabetsu.specs.Best.{Total-best}
 use Rattle.nabetsu.specs.Pages.{Page-says}
 use Rattle.nabetsu.proofs.Placements.{sum-padded, placement-best}
-use Rattle.nabetsu.specs.declared.PlacementAnswer.{PlacementAnswer}
-use Rattle.nabetsu.specs.declared.TableAnswer.{TableAnswer}
+use Rattle.reply.specs.declared.PlacementAnswer.{PlacementAnswer}
+use Rattle.reply.specs.declared.TableAnswer.{TableAnswer}
 use Rattle.nabetsu.specs.declared.TotalAnswer.{TotalAnswer}
 use Rattle.nabetsu.specs.declared.TrialAnswer.{TrialAnswer}
 use Rattle.evidence.specs.Specimens.{text-shown, Specimen, spread-gives, spread-refused, place-gives, place-refused, table-gives, table-refused, trial-gives, page-gives, page-shown, page-a, Holds, All-hold, text-a, table-a, text-b, text-c, table-c, text-d, table-d, text-e, text-between, text-moved, text-a-4, text-b-3-5, text-512, specimens, Specimens-right}

@@ -15,8 +15,8 @@ use Rattle.text.specs.Outcome.{refusal-of}
 use Rattle.trial.specs.Legal.{all-zero}
 use Rattle.nabetsu.specs.Entry.{Total-says, Placement-says, Table-says, Trial-says, Total-coded, Table-coded, Placement-coded}
 use Rattle.nabetsu.specs.Pages.{Page-says, Page-coded}
-use Rattle.nabetsu.specs.declared.PlacementAnswer.{PlacementAnswer}
-use Rattle.nabetsu.specs.declared.TableAnswer.{TableAnswer}
+use Rattle.reply.specs.declared.PlacementAnswer.{PlacementAnswer}
+use Rattle.reply.specs.declared.TableAnswer.{TableAnswer}
 use Rattle.nabetsu.specs.declared.TotalAnswer.{TotalAnswer}
 use Rattle.nabetsu.specs.declared.TrialAnswer.{TrialAnswer}
 

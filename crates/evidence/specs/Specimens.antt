@@ -15,8 +15,8 @@ use Rattle.text.specs.Text.{refusal}
 use Rattle.text.specs.Outcome.{refusal-of}
 use Rattle.nabetsu.specs.Entry.{total-told, Total-says, placed-is, Placement-says, table-told, Table-says, Trial-says}
 use Rattle.nabetsu.specs.Pages.{Page-says}
-use Rattle.nabetsu.specs.declared.PlacementAnswer.{PlacementAnswer}
-use Rattle.nabetsu.specs.declared.TableAnswer.{TableAnswer}
+use Rattle.reply.specs.declared.PlacementAnswer.{PlacementAnswer}
+use Rattle.reply.specs.declared.TableAnswer.{TableAnswer}
 use Rattle.nabetsu.specs.declared.TotalAnswer.{TotalAnswer}
 use Rattle.nabetsu.specs.declared.TrialAnswer.{TrialAnswer}
 

@@ -24,9 +24,10 @@ use Rattle.text.specs.declared.Outcome.the-variants.{Accepted, Refused}
 use Rattle.text.specs.declared.Refusal.the-variants.{ShortSpace}
 use Rattle.text.proofs.Refusals.{refused-number, or-else-refused}
 use Rattle.nabetsu.specs.Entry.{numbers, numbers-in, zeros, code, verdict, is-legal-numbers, Placement-says, Trial-says, Numbers-put, Placement-coded}
-use Rattle.nabetsu.specs.Parts.{Refused-placement, Copied, Numbers-tried}
+use Rattle.nabetsu.specs.Parts.{Copied, Numbers-tried}
+use Rattle.reply.specs.Parts.{Refused-placement}
 use Rattle.nabetsu.proofs.Copies.{copied-starts, copied-steps, copied-ends}
-use Rattle.nabetsu.specs.declared.PlacementAnswer.{PlacementAnswer}
+use Rattle.reply.specs.declared.PlacementAnswer.{PlacementAnswer}
 use Rattle.nabetsu.specs.declared.TrialAnswer.{TrialAnswer}
 
 front : (xs ys : List ℕ) (i : ℕ) → i < length xs → getD (xs ++ ys) i 0 ≡ getD xs i 0

@@ -1,18 +1,16 @@
 -- The laws of write_page: a refused text, a channel or spread for which there is no page, and the page where it was put; how much space is enough; and what the
 -- page shows. Assumes nothing.
 use mathlib.Core.Path.{_≡_, refl, sym, ap, _∙_}
-use mathlib.Core.Bool.{Bool, true, false, _&&_}
+use mathlib.Core.Bool.{Bool, true, false}
 use mathlib.Core.List.{List}
 use Prim.Native.Nat.{ℕ, zero, suc, _+_, _-_, _≤_, _<_}
 use native.Mathlib.Numerals.{add-one}
 use native.Mathlib.Omega.{arith}
-use lib.Dec.{leb, ltb}
+use lib.Dec.{leb}
 use lib.ListN.{length, getD, take, replicate, List·getD-append}
 use lib.Seq.{take-at}
-use borrow.Author.Tests.{le-leb, lt-leb, lt-ltb, le-ltb, leb-true, ltb-false}
 use Rattle.numbers.specs.Lists.{padded}
-use Rattle.numbers.proofs.Bools.{and-left, and-right}
-use Rattle.stack.specs.Stack.{Channel, channel-in, Stack, Answer, longest}
+use Rattle.stack.specs.Stack.{Channel, channel-in, Stack, Answer}
 use Rattle.stack.specs.Limits.{within-limits}
 use Rattle.stack.specs.Value.{tracks, columns, no-terminals, channel-of, stack-of}
 use Rattle.stack.specs.declared.Stack.{Stack as Stack-struct}
@@ -23,7 +21,7 @@ use Rattle.text.specs.Outcome.{refusal-of, is-accepted}
 use Rattle.text.specs.Driver.{Stack-read}
 use Rattle.text.specs.declared.Reading.{Reading}
 use Rattle.text.specs.declared.Outcome.{Outcome}
-use Rattle.text.proofs.Refusals.{or-else-fine, when-fine, only-fine, or-else-refused, or-else-next, accepted-fine, refused-number}
+use Rattle.text.proofs.Refusals.{or-else-fine, or-else-refused, or-else-next, accepted-fine, refused-number}
 use Rattle.text.proofs.Within.{accepted-within}
 use Rattle.solver.specs.declared.Placement.{Placement}
 use Rattle.answer.specs.Solve.{answer-separations, answer-positions}
@@ -40,60 +38,20 @@ use Rattle.page.proofs.Inside.{channel-placed}
 use Rattle.plot.specs.Drawing.{Page-put}
 use Rattle.plot.proofs.Lines.{page-long}
 use Rattle.plot.proofs.Shown.{placed-shown}
-use Rattle.nabetsu.specs.Entry.{narrow-refusal, table-told, Fits, zeros}
-use Rattle.nabetsu.specs.Pages.{channel-refusal, broad-refusal, asked-refusal, page-refusal, Paged, Page-says, Page-enough, Page-shows}
-use Rattle.nabetsu.specs.Parts.{Refused-table, Finished, Channel-put}
-use Rattle.nabetsu.specs.declared.TableAnswer.{TableAnswer}
+use Rattle.nabetsu.specs.Entry.{table-told, Fits, zeros}
+use Rattle.nabetsu.specs.Pages.{page-refusal, Paged, Page-says, Page-enough, Page-shows}
+use Rattle.nabetsu.specs.Parts.{Channel-put}
+use Rattle.reply.specs.Refusals.{asked-refusal}
+use Rattle.reply.specs.Parts.{Refused-table, Finished}
+use Rattle.reply.proofs.Outcomes.{Asked, asked-fine}
+use Rattle.reply.specs.declared.TableAnswer.{TableAnswer}
 use Rattle.nabetsu.proofs.Readings.{refused-text, text-fine, stack-is}
 use Rattle.nabetsu.proofs.Tables.{zeros-long, finished-fits}
 use Rattle.nabetsu.proofs.Space.{fits-fine}
 
--- WHAT MAY BE ASKED: a channel from 1 to k, and a spread from the longest strip to 63
-pub record Asked (k : Stack) (s n : ℕ) : Type 0 where
-  pub some : 1 ≤ n
-  pub within : n ≤ length (k .channels)
-  pub wide : longest (k .strips) ≤ s
-  pub shown : s ≤ 63
-
-pub asked-fine : (k : Stack) (s n : ℕ) → asked-refusal k s n .number ≡ 0 → Asked k s n
-unfolding asked-refusal channel-refusal narrow-refusal broad-refusal
-asked-fine k s n e =
-    let a = or-else-fine (channel-refusal k n) (or-else (narrow-refusal k s) (broad-refusal s)) e in
-    let b = or-else-fine (narrow-refusal k s) (broad-refusal s) (a .1) in
-    let c = only-fine (leb 1 n && leb n (length (k .channels))) 2 0 0 (a .0) in
-    record {
-      some = leb-true 1 n (and-left (leb 1 n) (leb n (length (k .channels))) c);
-      within = leb-true n (length (k .channels)) (and-right (leb 1 n) (leb n (length (k .channels))) c);
-      wide = ltb-false s (longest (k .strips)) (when-fine (ltb s (longest (k .strips))) 6 0 0 fine (b .0) .0);
-      shown = ltb-false 63 s (when-fine (ltb 63 s) 8 0 0 fine (b .1) .0);
-    }
-
 pub asked-number : (k : Stack) (s n : ℕ) (u : Outcome) → refusal-of u ≡ asked-refusal k s n → is-accepted u ≡ true → asked-refusal k s n .number ≡ 0
 unfolding fine refusal
 asked-number k s n u q b = ap (λ (f : Refusal). f .number) (sym q ∙ accepted-fine u b)
-
--- the refusals in their order
-module _ (k : Stack) (s n : ℕ) where
-  pub asked-none : n < 1 → refusal 3 0 0 ≡ asked-refusal k s n
-  unfolding asked-refusal channel-refusal or-else refusal
-  asked-none h = rw (lt-leb 1 n h)
-
-  pub asked-past : length (k .channels) < n → refusal 3 0 0 ≡ asked-refusal k s n
-  unfolding asked-refusal channel-refusal or-else refusal
-  asked-past h = rw (le-leb 1 n (omega arith), lt-leb n (length (k .channels)) h)
-
-  module _ (some : 1 ≤ n) (within : n ≤ length (k .channels)) where
-    pub asked-narrow : s < longest (k .strips) → refusal 7 0 0 ≡ asked-refusal k s n
-    unfolding asked-refusal channel-refusal narrow-refusal or-else refusal fine
-    asked-narrow h = rw (le-leb 1 n some, le-leb n (length (k .channels)) within, lt-ltb s (longest (k .strips)) h)
-
-    pub asked-broad : longest (k .strips) ≤ s → 63 < s → refusal 9 0 0 ≡ asked-refusal k s n
-    unfolding asked-refusal channel-refusal narrow-refusal broad-refusal or-else refusal fine
-    asked-broad h l = rw (le-leb 1 n some, le-leb n (length (k .channels)) within, le-ltb s (longest (k .strips)) h, lt-ltb 63 s l)
-
-    pub asked-all : longest (k .strips) ≤ s → s ≤ 63 → fine ≡ asked-refusal k s n
-    unfolding asked-refusal channel-refusal narrow-refusal broad-refusal or-else refusal fine
-    asked-all h l = rw (le-leb 1 n some, le-leb n (length (k .channels)) within, le-ltb s (longest (k .strips)) h, le-ltb 63 s l)
 
 -- THE CHANNEL of the answer
 padded-at : (n : ℕ) (xs : List ℕ) (i : ℕ) → i < length xs → getD (padded n xs) i 0 ≡ getD xs i 0
@@ -172,7 +130,7 @@ paged-refused (suc c) f k s n r o x h t z = (t, z)
 
 module _ (bs : List ℕ) (s n : ℕ) (g : Reading) (d : Stack-read bs g) (r : TableAnswer) (o m x : List ℕ) (l : length m ≡ length o) where
   pub page-text-refused : is-accepted (g .outcome) ≡ false → Refused-table (g .outcome) m x r → Page-says bs s n r o x
-  unfolding Page-says page-refusal table-told
+  unfolding Page-says page-refusal table-told zeros
   page-text-refused h t =
       let e : or-else (text-refusal bs) (asked-refusal (stack-in bs) s n) ≡ text-refusal bs = or-else-refused (text-refusal bs) _ (refused-text bs g d h) in
       rw e
@@ -185,7 +143,7 @@ module _ (bs : List ℕ) (s n : ℕ) (g : Reading) (d : Stack-read bs g) (r : Ta
     refusal-is = or-else-next (text-refusal bs) _ (text-fine bs g d a) ∙ rw (← stack-is bs g d a) (sym q)
 
     pub page-not-asked : is-accepted u ≡ false → Refused-table u m x r → Page-says bs s n r o x
-    unfolding Page-says table-told
+    unfolding Page-says table-told zeros
     page-not-asked h t =
         rw refusal-is
         (paged-refused (refusal-of u .number) (refusal-of u) (stack-in bs) s n r o x (refused-number u h) (ap refusal-of (t .outcome-is), t .none-written) (zeros-long o m x l (t .cleared)))

@@ -28,10 +28,11 @@ use Rattle.answer.specs.Solve.{answer-total, separations-for, positions-for}
 use Rattle.answer.specs.Arrays.{Placed-is}
 use Rattle.answer.proofs.Alone.{legal-lengths}
 use Rattle.answer.proofs.Answers.{least-there, placement-there, met-from-least}
-use Rattle.nabetsu.specs.Entry.{narrow-refusal, spread-refusal, placed-is, Placed-for, placed, unmet, Placed-or, Placement-says}
+use Rattle.nabetsu.specs.Entry.{spread-refusal, placed-is, Placed-for, placed, unmet, Placed-or, Placement-says}
 use Rattle.nabetsu.specs.Best.{Drawn-with, Placement-best}
-use Rattle.nabetsu.specs.Parts.{Refused-placement}
-use Rattle.nabetsu.specs.declared.PlacementAnswer.{PlacementAnswer}
+use Rattle.reply.specs.Refusals.{narrow-refusal}
+use Rattle.reply.specs.Parts.{Refused-placement}
+use Rattle.reply.specs.declared.PlacementAnswer.{PlacementAnswer}
 use Rattle.nabetsu.proofs.Spreads.{spread-within, spread-outcome-is, spread-refused-number, spread-fine, spread-stack, stack-wide}
 
 -- a refusal with zeros elsewhere

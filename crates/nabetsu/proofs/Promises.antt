@@ -21,7 +21,7 @@ use Rattle.rows.specs.Walk.{rows-of}
 use Rattle.rows.proofs.Rows.{rows-are, rows-alone}
 use Rattle.nabetsu.specs.Entry.{spread-refusal, total-told, Totalled, Total-says, Placed-for, placed, unmet, Placed-or, Placement-says}
 use Rattle.nabetsu.specs.Best.{Answered, Spread-says}
-use Rattle.nabetsu.specs.declared.PlacementAnswer.{PlacementAnswer}
+use Rattle.reply.specs.declared.PlacementAnswer.{PlacementAnswer}
 use Rattle.nabetsu.specs.declared.TotalAnswer.{TotalAnswer}
 use Rattle.nabetsu.specs.Promise.{accepted, Answer-drawable, None-smaller, Answer-there, Answer-alone, Total-there, Total-alone, Totals-met, Placement-there, Placement-alone, Placement-drawn, Answer-is-both, Both-together, Rows-there}
 

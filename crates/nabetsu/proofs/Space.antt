@@ -15,7 +15,7 @@ use Rattle.writing.specs.TableText.{table-text}
 use Rattle.table.proofs.Space.{rows-space, total-small}
 use Rattle.nabetsu.specs.Entry.{table-told, Fits, Tabled, Table-says}
 use Rattle.nabetsu.specs.Space.{Table-space, Total-below, Space-enough}
-use Rattle.nabetsu.specs.declared.TableAnswer.{TableAnswer}
+use Rattle.reply.specs.declared.TableAnswer.{TableAnswer}
 use Rattle.nabetsu.proofs.Promises.{stack-within}
 
 pub table-space : Table-space

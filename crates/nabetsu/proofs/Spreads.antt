@@ -2,35 +2,21 @@
 use mathlib.Core.Path.{_≡_, refl, sym, ap, _∙_}
 use mathlib.Core.Bool.{Bool, true, false, cond}
 use mathlib.Core.List.{List}
-use Prim.Native.Nat.{ℕ, _≤_, _<_}
+use Prim.Native.Nat.{ℕ, _≤_}
 use lib.Dec.{ltb, eqb}
-use borrow.Author.Tests.{eqb-true, ltb-false, lt-ltb, le-ltb}
-use Rattle.stack.specs.Stack.{Stack, longest}
+use borrow.Author.Tests.{eqb-true, ltb-false}
+use Rattle.stack.specs.Stack.{longest}
 use Rattle.stack.specs.Limits.{within-limits}
 use Rattle.stack.specs.Value.{stack-of}
 use Rattle.text.specs.Text.{Refusal, refusal, fine, or-else, text-refusal, stack-in}
-use Rattle.text.specs.Outcome.{refusal-of, is-accepted, refused}
+use Rattle.text.specs.Outcome.{refusal-of, is-accepted}
 use Rattle.text.specs.Driver.{Stack-read}
 use Rattle.text.specs.declared.Outcome.{Outcome}
 use Rattle.text.specs.declared.Reading.{Reading}
-use Rattle.text.specs.declared.Refusal.the-variants.{Narrow}
-use Rattle.text.proofs.Refusals.{or-else-fine, or-else-refused, or-else-next, when-fine, refused-number, accepted-fine}
+use Rattle.text.proofs.Refusals.{or-else-fine, when-fine, refused-number, accepted-fine}
 use Rattle.text.proofs.Within.{accepted-within}
-use Rattle.nabetsu.specs.Entry.{narrow-refusal, spread-refusal}
-
--- the refusals in their order
-module _ (o : Outcome) (k : Stack) (s : ℕ) where
-  pub outcome-first : is-accepted o ≡ false → refusal-of o ≡ or-else (refusal-of o) (narrow-refusal k s)
-  outcome-first h = sym (or-else-refused (refusal-of o) (narrow-refusal k s) (refused-number o h))
-
-  module _ (a : is-accepted o ≡ true) where
-    pub outcome-narrow : (u : Outcome) → s < longest (k .strips) → u ≡ refused Narrow 0 0 → refusal-of u ≡ or-else (refusal-of o) (narrow-refusal k s)
-    unfolding narrow-refusal
-    outcome-narrow u h e = rw e (sym (or-else-next (refusal-of o) (narrow-refusal k s) (accepted-fine o a) ∙ rw (lt-ltb s (longest (k .strips)) h)))
-
-    pub outcome-wide : longest (k .strips) ≤ s → refusal-of o ≡ or-else (refusal-of o) (narrow-refusal k s)
-    unfolding narrow-refusal
-    outcome-wide h = accepted-fine o a ∙ sym (or-else-next (refusal-of o) (narrow-refusal k s) (accepted-fine o a) ∙ rw (le-ltb s (longest (k .strips)) h))
+use Rattle.reply.specs.Refusals.{narrow-refusal}
+use Rattle.nabetsu.specs.Entry.{spread-refusal}
 
 -- where nothing is refused for the spread, nothing is refused of the text, and the spread is not narrow
 module _ (bs : List ℕ) (s : ℕ) (e : spread-refusal bs s .number ≡ 0) where

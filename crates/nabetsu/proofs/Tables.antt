@@ -12,44 +12,30 @@ use Rattle.numbers.proofs.Orders.{le-or-lt}
 use Rattle.stack.specs.Stack.{Stack}
 use Rattle.stack.specs.Value.{stack-of}
 use Rattle.text.specs.Text.{Refusal, refusal, fine, text-refusal, stack-in}
-use Rattle.text.specs.Outcome.{refusal-of, is-accepted, refused}
+use Rattle.text.specs.Outcome.{refusal-of, is-accepted}
 use Rattle.text.specs.Driver.{Stack-read}
 use Rattle.text.specs.declared.Reading.{Reading}
 use Rattle.text.specs.declared.Outcome.{Outcome}
-use Rattle.text.specs.declared.Refusal.the-variants.{ShortSpace}
 use Rattle.text.proofs.Refusals.{accepted-fine}
 use Rattle.rows.specs.Walk.{rows-of}
 use Rattle.rows.proofs.Rows.{rows-are}
-use Rattle.writing.specs.Output.{Written, cleared}
+use Rattle.writing.specs.Output.{Written}
 use Rattle.writing.specs.TableText.{table-text}
-use Rattle.writing.proofs.Lines.{written-ends, cleared-all}
+use Rattle.writing.proofs.Lines.{written-ends}
 use Rattle.table.specs.Walking.{Table-put}
 use Rattle.nabetsu.specs.Entry.{table-told, Fits, Tabled, Table-says, zeros}
-use Rattle.nabetsu.specs.Parts.{Refused-table, Finished}
-use Rattle.nabetsu.specs.declared.TableAnswer.{TableAnswer}
+use Rattle.reply.specs.Parts.{Refused-table, Finished}
+use Rattle.reply.specs.declared.TableAnswer.{TableAnswer}
 use Rattle.nabetsu.proofs.Readings.{refused-text, text-fine, stack-is}
-
-pub cleared-zeros : (o x : List ℕ) → x ≡ cleared 0 o → x ≡ zeros o
-unfolding zeros
-cleared-zeros o x e = e ∙ cleared-all o
 
 pub zeros-long : (o m x : List ℕ) → length m ≡ length o → x ≡ zeros m → x ≡ zeros o
 unfolding zeros
 zeros-long o m x l e = e ∙ rw l
 
--- WHERE A TEXT WAS PUT
-pub finished-short : (u z : Outcome) (w : ℕ) (o x : List ℕ) (r : TableAnswer) → length o < w → z ≡ refused ShortSpace 0 0 → Refused-table z o x r → Finished (leb w (length o)) u w o x r
-unfolding Finished table-told refusal
-finished-short u z w o x r h e t = rw (lt-leb w (length o) h) ((ap refusal-of (t .outcome-is ∙ e), t .none-written), t .cleared)
-
-pub finished-whole : (u : Outcome) (w : ℕ) (o x : List ℕ) (r : TableAnswer) → w ≤ length o → r .outcome ≡ u → r .written ≡ w → x ≡ cleared w o → Finished (leb w (length o)) u w o x r
-unfolding Finished
-finished-whole u w o x r h d e c = rw (le-leb w (length o) h) (d, e, c)
-
--- it stands whole with zeros behind it, or is too long
+-- where a text was put it stands whole with zeros behind it, or is too long
 pub finished-fits : (t : List ℕ) (u : Outcome) (w : ℕ) (b o m x : List ℕ) (r : TableAnswer) → is-accepted u ≡ true → length m ≡ length o → w ≡ length t → Written t b m
     → Finished (leb w (length m)) u w m x r → Fits (leb (length t) (length o)) t r o x
-unfolding Finished Fits table-told refusal fine
+unfolding Finished Fits table-told refusal fine zeros
 finished-fits t u w b o m x r a l c p = rw (l, c) (go (le-or-lt (length t) (length o)))
   where
     go : (length t ≤ length o) ⊎ (length o < length t) → Finished (leb (length t) (length o)) u (length t) m x r → Fits (leb (length t) (length o)) t r o x
@@ -66,7 +52,7 @@ tabled-refused (suc n) f k r o x h t z = (t, z)
 
 module _ (bs : List ℕ) (g : Reading) (d : Stack-read bs g) (r : TableAnswer) (o m x : List ℕ) (l : length m ≡ length o) where
   pub table-refused : is-accepted (g .outcome) ≡ false → Refused-table (g .outcome) m x r → Table-says bs r o x
-  unfolding Table-says table-told
+  unfolding Table-says table-told zeros
   table-refused h t =
       tabled-refused (text-refusal bs .number) (text-refusal bs) (stack-in bs) r o x (refused-text bs g d h) (ap refusal-of (t .outcome-is) ∙ d .outcome, t .none-written) (zeros-long o m x l (t .cleared))
 

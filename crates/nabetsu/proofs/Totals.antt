@@ -18,7 +18,8 @@ use Rattle.text.specs.declared.Reading.{Reading}
 use Rattle.text.proofs.Refusals.{accepted-fine}
 use Rattle.answer.specs.Solve.{answer-total}
 use Rattle.answer.proofs.Answers.{least-there}
-use Rattle.nabetsu.specs.Entry.{narrow-refusal, spread-refusal, total-told, Totalled, Total-says}
+use Rattle.reply.specs.Refusals.{narrow-refusal}
+use Rattle.nabetsu.specs.Entry.{spread-refusal, total-told, Totalled, Total-says}
 use Rattle.nabetsu.specs.Best.{Drawn-with, Total-best}
 use Rattle.nabetsu.specs.declared.TotalAnswer.{TotalAnswer}
 use Rattle.nabetsu.proofs.Spreads.{spread-within, spread-outcome-is, spread-refused-number, spread-fine, spread-stack, stack-wide}

@@ -9,7 +9,7 @@ use Rattle.stack.specs.Stack.{Stack, Answer, sum}
 use Rattle.routing.specs.Paths.{Drawable}
 use Rattle.text.specs.Text.{Refusal, stack-in}
 use Rattle.text.specs.Outcome.{refusal-of}
-use Rattle.nabetsu.specs.declared.PlacementAnswer.{PlacementAnswer}
+use Rattle.reply.specs.declared.PlacementAnswer.{PlacementAnswer}
 use Rattle.nabetsu.specs.declared.TotalAnswer.{TotalAnswer}
 use Rattle.nabetsu.specs.Entry.{spread-refusal, placed-is}
 

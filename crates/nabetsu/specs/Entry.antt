@@ -4,24 +4,22 @@ use mathlib.Core.Path.{_≡_}
 use mathlib.Core.Bool.{Bool, true, false, cond, _&&_}
 use mathlib.Core.List.{List, [], _∷_, _++_}
 use Prim.Native.Nat.{ℕ, zero, suc, _+_, _*_, _-_}
-use lib.Dec.{ltb, leb, eqb}
+use lib.Dec.{leb, eqb}
 use lib.ListN.{length, getD, take, drop, replicate}
 use Rattle.stack.specs.Value.{tracks-of, columns-of}
 use Rattle.numbers.specs.Lists.{tabulate, padded}
-use Rattle.stack.specs.Stack.{Stack, Total-met, Least-total, Placement, Row, Rows-are, longest}
+use Rattle.stack.specs.Stack.{Stack, Total-met, Least-total, Placement, Row, Rows-are}
 use Rattle.text.specs.Text.{Refusal, refusal, fine, or-else, text-refusal, stack-in}
 use Rattle.text.specs.Outcome.{refusal-of}
 use Rattle.writing.specs.TableText.{table-text}
 use Rattle.trial.specs.Legal.{is-legal}
-use Rattle.nabetsu.specs.declared.PlacementAnswer.{PlacementAnswer}
-use Rattle.nabetsu.specs.declared.TableAnswer.{TableAnswer}
+use Rattle.reply.specs.Refusals.{narrow-refusal}
+use Rattle.reply.specs.declared.PlacementAnswer.{PlacementAnswer}
+use Rattle.reply.specs.declared.TableAnswer.{TableAnswer}
 use Rattle.nabetsu.specs.declared.TotalAnswer.{TotalAnswer}
 use Rattle.nabetsu.specs.declared.TrialAnswer.{TrialAnswer}
 
 -- A SPREAD: 1 to 6, then 7
-unfoldable pub narrow-refusal : Stack → (s : ℕ) → Refusal
-narrow-refusal k s = cond (ltb s (longest (k .strips))) (refusal 7 0 0) fine
-
 unfoldable pub spread-refusal : List ℕ → (s : ℕ) → Refusal
 spread-refusal bs s = or-else (text-refusal bs) (narrow-refusal (stack-in bs) s)
 

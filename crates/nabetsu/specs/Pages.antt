@@ -1,30 +1,21 @@
 -- TRUSTED. What the page's entry answers and leaves behind, and what is promised of the paths that it shows. Document 02, P1. Assumes nothing: these are
 -- definitions.
 use mathlib.Core.Path.{_≡_}
-use mathlib.Core.Bool.{true, _&&_, cond}
+use mathlib.Core.Bool.{true}
 use mathlib.Core.List.{List}
 use Prim.Native.Nat.{ℕ, zero, suc, _-_, _≤_}
-use lib.Dec.{ltb, leb}
+use lib.Dec.{leb}
 use lib.ListN.{length, getD, take}
 use Rattle.stack.specs.Stack.{channel-in, Stack, Answer}
-use Rattle.text.specs.Text.{Refusal, refusal, fine, or-else, text-refusal, stack-in}
+use Rattle.text.specs.Text.{Refusal, or-else, text-refusal, stack-in}
 use Rattle.text.specs.Outcome.{refusal-of}
 use Rattle.page.specs.Page.{channel-paths, channel-page, lacks}
 use Rattle.page.specs.Promise.{Paths-shown}
-use Rattle.nabetsu.specs.declared.TableAnswer.{TableAnswer}
-use Rattle.nabetsu.specs.Entry.{narrow-refusal, zeros, table-told, Fits, code}
-
--- a channel's number outside 1 to k is 3, a spread above 63 is 9, both at no line
-unfoldable pub channel-refusal : Stack → (channel : ℕ) → Refusal
-channel-refusal k n = cond (leb 1 n && leb n (length (k .channels))) fine (refusal 3 0 0)
-
-unfoldable pub broad-refusal : (s : ℕ) → Refusal
-broad-refusal s = cond (ltb 63 s) (refusal 9 0 0) fine
+use Rattle.reply.specs.Refusals.{asked-refusal}
+use Rattle.reply.specs.declared.TableAnswer.{TableAnswer}
+use Rattle.nabetsu.specs.Entry.{zeros, table-told, Fits, code}
 
 -- THE PAGE: 1 to 6, then 3 for the channel, 7, 9, and at last 8
-unfoldable pub asked-refusal : Stack → (s channel : ℕ) → Refusal
-asked-refusal k s n = or-else (channel-refusal k n) (or-else (narrow-refusal k s) (broad-refusal s))
-
 unfoldable pub page-refusal : List ℕ → (s channel : ℕ) → Refusal
 page-refusal bs s n = or-else (text-refusal bs) (asked-refusal (stack-in bs) s n)
 

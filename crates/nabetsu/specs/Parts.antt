@@ -1,39 +1,16 @@
 -- What the entries' parts answer. Assumes nothing: these are definitions.
 use mathlib.Core.Path.{_≡_}
-use mathlib.Core.Bool.{Bool, true, false}
 use mathlib.Core.List.{List}
 use Prim.Native.Nat.{ℕ, _-_, _<_}
-use lib.ListN.{length, getD, replicate}
-use Rattle.stack.specs.Value.{tracks-of, columns-of}
+use lib.ListN.{length, getD}
 use Rattle.stack.specs.Stack.{Stack}
-use Rattle.text.specs.Text.{refusal, text-refusal, stack-in}
+use Rattle.text.specs.Text.{text-refusal, stack-in}
 use Rattle.text.specs.Outcome.{refusal-of}
-use Rattle.text.specs.declared.Outcome.{Outcome}
 use Rattle.answer.specs.Solve.{answer-separations, answer-positions}
-use Rattle.writing.specs.Output.{Written, cleared}
+use Rattle.writing.specs.Output.{Written}
 use Rattle.page.specs.Page.{channel-page}
-use Rattle.nabetsu.specs.declared.PlacementAnswer.{PlacementAnswer}
-use Rattle.nabetsu.specs.declared.TableAnswer.{TableAnswer}
 use Rattle.nabetsu.specs.declared.TrialAnswer.{TrialAnswer}
-use Rattle.nabetsu.specs.Entry.{zeros, table-told, is-legal-numbers}
-
--- an outcome with zeros in every other place
-pub record Refused-placement (o : Outcome) (r : PlacementAnswer) : Type 0 where
-  pub outcome-is : r .outcome ≡ o
-  pub total-zero : r .total .0 ≡ 0
-  pub separations-zero : tracks-of (r .separations) ≡ replicate 8 0
-  pub positions-zero : columns-of (r .positions) ≡ replicate 9 0
-
--- an outcome with zeros in the whole output
-pub record Refused-table (u : Outcome) (o o-now : List ℕ) (r : TableAnswer) : Type 0 where
-  pub outcome-is : r .outcome ≡ u
-  pub none-written : r .written ≡ 0
-  pub cleared : o-now ≡ zeros o
-
--- a text of so many bytes that was put where there is space for it: zeros behind it, or short space with zeros in the whole output
-unfoldable pub Finished : (fits : Bool) → Outcome → (written : ℕ) → (o o-now : List ℕ) → TableAnswer → Type 0
-Finished true u w o x r = (r .outcome ≡ u) × (r .written ≡ w) × (x ≡ cleared w o)
-Finished false u w o x r = table-told (refusal 8 0 0) 0 r × (x ≡ zeros o)
+use Rattle.nabetsu.specs.Entry.{is-legal-numbers}
 
 -- the page of a channel of the answer stands if there is space for it
 pub record Channel-put (k : Stack) (s channel : ℕ) (before after : List ℕ) (r : ℕ) : Type 0 where

@@ -9,7 +9,7 @@ use lib.Dec.{ltb, eqb}
 use Rattle.stack.specs.Stack.{Total-met, Least-total, Placement, Answer, Row, Rows-are, sum, longest}
 use Rattle.routing.specs.Paths.{Drawable}
 use Rattle.text.specs.Text.{text-refusal, stack-in}
-use Rattle.nabetsu.specs.declared.PlacementAnswer.{PlacementAnswer}
+use Rattle.reply.specs.declared.PlacementAnswer.{PlacementAnswer}
 use Rattle.nabetsu.specs.declared.TotalAnswer.{TotalAnswer}
 use Rattle.nabetsu.specs.Entry.{Total-says, Placement-says}
 use Rattle.nabetsu.specs.Best.{Spread-says}

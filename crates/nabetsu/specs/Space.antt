@@ -8,7 +8,7 @@ use Rattle.stack.specs.Stack.{Answer, Row, Rows-are, sum}
 use Rattle.text.specs.Text.{text-refusal, stack-in}
 use Rattle.text.specs.Outcome.{refusal-of}
 use Rattle.writing.specs.TableText.{table-text}
-use Rattle.nabetsu.specs.declared.TableAnswer.{TableAnswer}
+use Rattle.reply.specs.declared.TableAnswer.{TableAnswer}
 use Rattle.nabetsu.specs.Promise.{accepted}
 
 -- the table of an accepted text has at most 21,738 bytes: 8 of the first line, and at most 265 rows of at most 82, whatever its floors are

@@ -3,21 +3,28 @@
 ghost use Rattle.stack.specs.Value.{tracks-of, columns-of, stack-of};
 ghost use Rattle.stack.specs.Limits.{within-limits};
 ghost use mathlib.Core.Bool.{true};
-ghost use Rattle.nabetsu.specs.Entry.{narrow-refusal, Total-says, Placement-says, Table-says, Trial-says, Table-coded, Total-coded, Placement-coded, code, numbers-in, verdict, is-legal-numbers};
+ghost use Rattle.nabetsu.specs.Entry.{Total-says, Placement-says, Table-says, Trial-says, Table-coded, Total-coded, Placement-coded, code, numbers-in, verdict, is-legal-numbers};
 ghost use Rattle.text.specs.Text.{refusal, or-else, text-refusal, stack-in};
-ghost use lib.Dec.{leb};
 ghost use lib.ListN.{length, getD, take, drop};
 ghost use mathlib.Core.List.{_∷_, _++_};
 ghost use Rattle.text.specs.Outcome.{refusal-of};
 ghost use mathlib.Core.Path.{_≡_};
 ghost use Rattle.nabetsu.specs.Best.{Total-best, Placement-best};
-ghost use Rattle.nabetsu.specs.Pages.{asked-refusal, Page-says, Page-enough, Page-shows, Page-coded};
-ghost use Rattle.nabetsu.specs.Parts.{Refused-placement, Refused-table, Finished, Channel-put, Numbers-tried};
+ghost use Rattle.nabetsu.specs.Pages.{Page-says, Page-enough, Page-shows, Page-coded};
+ghost use Rattle.nabetsu.specs.Parts.{Channel-put, Numbers-tried};
+ghost use Rattle.reply.specs.Refusals.{asked-refusal};
 ghost use Rattle.nabetsu.specs.Space.{Space-enough};
 use answer::answer_in;
 use answer::placement_in;
 use answer::total_in;
 use plot::put_page;
+use reply::PlacementAnswer;
+use reply::TableAnswer;
+use reply::finish;
+use reply::page_outcome;
+use reply::refused_placement;
+use reply::refused_table;
+use reply::spread_outcome;
 use stack::Columns;
 use stack::Stack;
 use stack::Tracks;
@@ -26,7 +33,6 @@ use text::Outcome;
 use text::Refusal;
 use text::read_stack;
 use trial::is_placement_legal;
-use writing::clear_from;
 
 // How many numbers a placement has with its total: total, separations, positions.
 const NUMBERS: usize = 2 * Stack::MAX_CHANNELS + 2;
@@ -35,40 +41,6 @@ const NUMBERS: usize = 2 * Stack::MAX_CHANNELS + 2;
 pub struct TotalAnswer {
     pub outcome: Outcome,
     pub total: Tracks,
-}
-
-// The placement for a total in one spread: total, separations and positions with zeros in unused places; a refused one has zeros in all of them.
-pub struct PlacementAnswer {
-    pub outcome: Outcome,
-    pub total: Tracks,
-    pub separations: [Tracks; Stack::MAX_CHANNELS],
-    pub positions: [Columns; Stack::STRIPS],
-}
-
-// A refused placement: zeros in every other place.
-fn refused_placement(outcome: Outcome) -> PlacementAnswer
-    ensures { λ r. ⌜ Refused-placement outcome r ⌝ }
-{
-    PlacementAnswer {
-        outcome,
-        total: Tracks(0),
-        separations: [Tracks(0); Stack::MAX_CHANNELS],
-        positions: [Columns(0); Stack::STRIPS],
-    }
-}
-
-// What a spread adds to the outcome of a text that has this stack: 7 behind 1 to 6.
-fn spread_outcome(outcome: Outcome, stack: Stack, spread: u32) -> Outcome
-    requires { ⌜ within-limits (stack-of stack) ≡ true ⌝ }
-    ensures { λ r. ⌜ refusal-of r ≡ or-else (refusal-of outcome) (narrow-refusal (stack-of stack) spread) ⌝ }
-{
-    if !outcome.is_accepted() {
-        return outcome;
-    }
-    if stack.longest() <= spread {
-        return outcome;
-    }
-    Outcome::refused(Refusal::Narrow, 0, 0)
 }
 
 // Document 02, P3: the least total in one spread of the stack in a text, or the first refusal that applies: 1 to 6, then 7. Nothing is placed.
@@ -121,34 +93,6 @@ pub fn place_total(text: &[u8], spread: u32, total: Tracks) -> PlacementAnswer
 // Enough bytes for the table of every text, whatever its floors: a first line of 8, and at most 265 rows of at most 82.
 pub const TABLE_BYTES: usize = 21738;
 
-// How many bytes of a table or a page were written; none where it is refused.
-pub struct TableAnswer {
-    pub outcome: Outcome,
-    pub written: usize,
-}
-
-// A refused table or page: zeros in the whole output.
-fn refused_table(outcome: Outcome, output: &mut [u8]) -> TableAnswer
-    ensures { λ r. ⌜ Refused-table outcome (now (output .entry)) (now (output .exit)) r ⌝ }
-{
-    clear_from(output, 0);
-    TableAnswer {
-        outcome,
-        written: 0,
-    }
-}
-
-// A table or page of so many bytes that was put where there is space for it: zeros behind it, or short space.
-fn finish(outcome: Outcome, written: usize, output: &mut [u8]) -> TableAnswer
-    ensures { λ r. ⌜ Finished (leb written (length (now (output .entry)))) outcome written (now (output .entry)) (now (output .exit)) r ⌝ }
-{
-    if output.len() < written {
-        return refused_table(Outcome::refused(Refusal::ShortSpace, 0, 0), output);
-    }
-    clear_from(output, written);
-    TableAnswer { outcome, written }
-}
-
 // Document 01, "Sent back at the counter": the table of the stack in a text with zeros behind it, or the first refusal that applies, 1 to 6, then 8, and
 // zeros in the whole output.
 pub fn write_table(text: &[u8], output: &mut [u8]) -> TableAnswer
@@ -166,30 +110,6 @@ pub fn write_table(text: &[u8], output: &mut [u8]) -> TableAnswer
 
 // Enough bytes for the page of every channel: at most 65 lines of 69.
 pub const PAGE_BYTES: usize = 4485;
-
-// The greatest spread that a page can show.
-const PAGE_SPREAD: u32 = 63;
-
-// Document 02, P1: whether a page can be asked for: a channel from 1 to k, a spread that is not narrow, and not above 63.
-fn page_outcome(stack: Stack, spread: u32, channel: u32) -> Outcome
-    requires { ⌜ within-limits (stack-of stack) ≡ true ⌝ }
-    ensures { λ r. ⌜ refusal-of r ≡ asked-refusal (stack-of stack) spread channel ⌝ }
-{
-    if channel < 1 {
-        return Outcome::refused(Refusal::Crowd, 0, 0);
-    }
-    if stack.count < channel as usize {
-        return Outcome::refused(Refusal::Crowd, 0, 0);
-    }
-    let longest = stack.longest();
-    if spread < longest {
-        return Outcome::refused(Refusal::Narrow, 0, 0);
-    }
-    if PAGE_SPREAD < spread {
-        return Outcome::refused(Refusal::Broad, 0, 0);
-    }
-    Outcome::Accepted
-}
 
 // The page of a channel of the answer, over the output's first bytes, where there is space for it; its length.
 fn put_channel(stack: Stack, spread: u32, channel: u32, output: &mut [u8]) -> usize

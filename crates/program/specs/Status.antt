@@ -5,7 +5,7 @@ use mathlib.Core.List.{List}
 use Prim.Native.Nat.{ℕ}
 use Rattle.text.specs.Outcome.{refusal-of}
 use Rattle.nabetsu.specs.Entry.{Placement-says}
-use Rattle.nabetsu.specs.declared.PlacementAnswer.{PlacementAnswer}
+use Rattle.reply.specs.declared.PlacementAnswer.{PlacementAnswer}
 use Rattle.commands.specs.Output.{status-of}
 
 -- the status of what was printed, or 2 where it could not be

@@ -1,6 +1,7 @@
 -- put_channel meets its contract: the channel's terminals, separation and positions in the answer. Assumes nothing.
 use native.Mathlib.Omega.{arith}
-use Rattle.nabetsu.proofs.Pages.{asked-fine, channel-place, channel-asks, channel-put}
+use Rattle.reply.proofs.Outcomes.{asked-fine}
+use Rattle.nabetsu.proofs.Pages.{channel-place, channel-asks, channel-put}
 use borrow.Author.Needs.{needs}
 use Rattle.nabetsu.proofs.put_channel.Statement.{statement}
 use Rattle.nabetsu.proofs.put_channel.Tie as tie

@@ -1,9 +1,9 @@
 -- refused_table meets its contract: all is cleared. Assumes nothing.
-use mathlib.Core.Path.{refl}
-use Rattle.nabetsu.proofs.Tables.{cleared-zeros}
+use mathlib.Core.Path.{refl, _∙_}
+use Rattle.writing.proofs.Lines.{cleared-all}
 use borrow.Author.Needs.{needs}
-use Rattle.nabetsu.proofs.refused_table.Statement.{statement}
-use Rattle.nabetsu.proofs.refused_table.Tie as tie
+use Rattle.reply.proofs.refused_table.Statement.{statement}
+use Rattle.reply.proofs.refused_table.Tie as tie
 
 clear-from-requires : tie.Need-clear-from-requires
 clear-from-requires c κs = search needs
@@ -12,7 +12,7 @@ same-length : tie.Need-same-length
 same-length c = search needs
 
 returns : tie.Need-returns
-returns c = record { outcome-is = refl; none-written = refl; cleared = cleared-zeros _ _ (c .before .before .clear-from .ensures) }
+returns c = record { outcome-is = refl; none-written = refl; cleared = c .before .before .clear-from .ensures ∙ cleared-all _ }
 
 pub refused-table-spec : {M : Type 1} → statement M
 refused-table-spec = tie.close (tie.spec clear-from-requires same-length returns)

@@ -3,10 +3,10 @@ use mathlib.Core.Path.{ap, _∙_}
 use native.Mathlib.Omega.{arith}
 use Rattle.stack.proofs.Within.{few-channels, stack-channels}
 use Rattle.text.specs.Outcome.{refusal-of}
-use Rattle.nabetsu.proofs.Pages.{asked-none, asked-past, asked-narrow, asked-broad, asked-all}
+use Rattle.reply.proofs.Outcomes.{asked-none, asked-past, asked-narrow, asked-broad, asked-all}
 use borrow.Author.Needs.{needs}
-use Rattle.nabetsu.proofs.page_outcome.Statement.{statement}
-use Rattle.nabetsu.proofs.page_outcome.Tie as tie
+use Rattle.reply.proofs.page_outcome.Statement.{statement}
+use Rattle.reply.proofs.page_outcome.Tie as tie
 
 refused-requires : tie.Need-refused-requires
 refused-requires c κs = search needs

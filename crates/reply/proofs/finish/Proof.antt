@@ -1,9 +1,9 @@
 -- finish meets its contract: short space, or zeros behind what was put. Assumes nothing.
 use mathlib.Core.Path.{refl}
-use Rattle.nabetsu.proofs.Tables.{finished-short, finished-whole}
+use Rattle.reply.proofs.Finishing.{finished-short, finished-whole}
 use borrow.Author.Needs.{needs}
-use Rattle.nabetsu.proofs.finish.Statement.{statement}
-use Rattle.nabetsu.proofs.finish.Tie as tie
+use Rattle.reply.proofs.finish.Statement.{statement}
+use Rattle.reply.proofs.finish.Tie as tie
 
 refused-requires : tie.Need-refused-requires
 refused-requires c κs = search needs

@@ -3,10 +3,10 @@ use mathlib.Core.Path.{sym, _∙_}
 use borrow.Author.Tests.{not-true, not-false}
 use Rattle.stack.specs.Value.{stack-of}
 use Rattle.stack.proofs.Within.{few-channels}
-use Rattle.nabetsu.proofs.Spreads.{outcome-first, outcome-narrow, outcome-wide}
+use Rattle.reply.proofs.Outcomes.{outcome-first, outcome-narrow, outcome-wide}
 use borrow.Author.Needs.{needs}
-use Rattle.nabetsu.proofs.spread_outcome.Statement.{statement}
-use Rattle.nabetsu.proofs.spread_outcome.Tie as tie
+use Rattle.reply.proofs.spread_outcome.Statement.{statement}
+use Rattle.reply.proofs.spread_outcome.Tie as tie
 
 is-accepted-requires : tie.Need-is-accepted-requires
 is-accepted-requires c κs = search needs

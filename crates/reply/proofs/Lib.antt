@@ -1,0 +1,3 @@
+-- The laws of outcomes and of the end of an output.
+pub mod Outcomes
+pub mod Finishing
