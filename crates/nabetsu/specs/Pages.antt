@@ -1,5 +1,5 @@
--- TRUSTED. What the page's entry answers and leaves behind, and what is promised of the paths that it shows. Document 02, P1. Assumes nothing: these are
--- definitions.
+-- TRUSTED. What the page's entry answers and leaves behind, and what is promised of the paths that it shows. Document 02, P1 and P4. Assumes nothing: these
+-- are definitions.
 use mathlib.Core.Path.{_≡_}
 use mathlib.Core.Bool.{true}
 use mathlib.Core.List.{List}
@@ -32,8 +32,8 @@ Page-says bs s n r o x = Paged (page-refusal bs s n .number) (page-refusal bs s 
 unfoldable pub Page-enough : (bytes : ℕ) → List ℕ → (s channel : ℕ) → TableAnswer → (o : List ℕ) → Type 0
 Page-enough b bs s n r o = page-refusal bs s n .number ≡ 0 → b ≤ length o → refusal-of (r .outcome) .number ≡ 0
 
--- THE PAGE WRITTEN shows the answer's paths: by document 01's rule, one for each of the channel's pairs, none of which leaves the spread, each on the tracks that
--- P1 counts, and nothing else
+-- THE PAGE WRITTEN shows the answer's paths: by the rule of routing/specs/Paths.antt, one for each of the channel's pairs, none of which leaves the spread, each on
+-- the tracks above those that P1 counts (P4), and nothing else
 pub record Page-drawn (bs : List ℕ) (s channel : ℕ) (r : TableAnswer) (o-now : List ℕ) : Type 0 where
   pub separations : List ℕ
   pub positions : List ℕ
