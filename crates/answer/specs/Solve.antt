@@ -13,7 +13,7 @@ use Rattle.arrays.specs.Arrays.{limits-from}
 unfoldable pub window : (s length : ℕ) → Span
 window s l = span 0 (suc s - l)
 
--- the last separation of use in a channel, where its limits leave every offset open: from which on those of its pairs do, or its floor
+-- the last separation of use in a channel, the greater of its floor and of that from which on its pairs leave every offset open
 abbrev pub last-use : Channel → ℕ
 last-use c = max (open-from (length (c .pairs))) (c .floor)
 
