@@ -21,6 +21,7 @@ use arrays::UPTO;
 use arrays::Windows;
 use band::fill_band;
 use channel::channel_limits;
+use channel::open_from;
 use numbers::difference;
 use numbers::lesser;
 use plan::plan_for;
@@ -30,14 +31,6 @@ use solver::place_in;
 use stack::Columns;
 use stack::Stack;
 use stack::Tracks;
-
-// The separation from which on the limits of so many pairs leave every offset open: one more than there are pairs, and 0 without pairs.
-fn open_from(pairs: usize) -> usize
-    requires { ⌜ pairs ≤ 32 ⌝ }
-    ensures { λ r. ⌜ r ≡ open-from pairs ⌝ }
-{
-    if 0 < pairs { pairs + 1 } else { 0 }
-}
 
 // The last separation of use in a channel with so many pairs and this floor: there its limits leave every offset open.
 fn last_use(pairs: usize, floor: Tracks) -> usize

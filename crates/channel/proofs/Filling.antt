@@ -4,6 +4,7 @@ use mathlib.Core.Bool.{true}
 use mathlib.Core.List.{List}
 use mathlib.Core.Logic.{_⊎_, inl, inr}
 use Prim.Native.Nat.{ℕ, zero, suc, _+_, _*_, _-_, _≤_, _<_}
+use native.Mathlib.Numerals.{add-one}
 use native.Mathlib.Omega.{arith}
 use lib.ListN.{length, getD, set, replicate}
 use borrow.Author.Tests.{lt-ltb, le-ltb}
@@ -40,7 +41,7 @@ module _ (f : ℕ → ℕ) (d : ℕ) where
       sym (tabulate-same separations-held 0 (λ s. row-from-one f d 0 s) (λ s. d) (λ j a b. row-empty j) ∙ tabulate-constant separations-held 0 d)
 
   -- one place more
-  row-other : (t j : ℕ) → (j ≡ suc t → ⊥) → row-from-one f d (t + 1) j ≡ row-from-one f d t j
+  row-other : (t j : ℕ) → (j ≡ t + 1 → ⊥) → row-from-one f d (t + 1) j ≡ row-from-one f d t j
   unfolding row-from-one
   row-other t zero n = refl
   row-other t (suc s) n = go (le-or-lt t s)
@@ -49,12 +50,14 @@ module _ (f : ℕ → ℕ) (d : ℕ) where
       go (inl l) = row-open (t + 1) s (omega arith) ∙ sym (row-open t s l)
       go (inr l) = row-filled (t + 1) s (omega arith) ∙ sym (row-filled t s l)
 
-  row-steps : (t i v : ℕ) (row : List ℕ) → i ≡ suc t → v ≡ f t → row ≡ tabulate separations-held 0 (λ s. row-from-one f d t s) →
-      set row i v ≡ tabulate separations-held 0 (λ s. row-from-one f d (t + 1) s)
-  row-steps t i v row e a r =
-      rw (r, e)
-      (sym (tabulate-set separations-held (suc t) (λ s. row-from-one f d t s) (λ s. row-from-one f d (t + 1) s) v
-      (row-filled (t + 1) t (omega arith) ∙ sym a) (row-other t)))
+  row-new : (t : ℕ) → row-from-one f d (t + 1) (t + 1) ≡ f t
+  row-new t = ap (λ j. row-from-one f d (t + 1) j) (add-one t) ∙ row-filled (t + 1) t (omega arith)
+
+  row-steps : (t v : ℕ) (row : List ℕ) → v ≡ f t → row ≡ tabulate separations-held 0 (λ s. row-from-one f d t s) →
+      set row (t + 1) v ≡ tabulate separations-held 0 (λ s. row-from-one f d (t + 1) s)
+  row-steps t v row a r =
+      rw r
+      (sym (tabulate-set separations-held (t + 1) (λ s. row-from-one f d t s) (λ s. row-from-one f d (t + 1) s) v (row-new t ∙ sym a) (row-other t)))
 
   -- the first place repeats the second: then the row is a rule's, a place later, if that rule is f for the first n and d from there on
   module _ (n : ℕ) (g : ℕ → ℕ) (same : (s : ℕ) → s < n → f s ≡ g s) (past : (s : ℕ) → n ≤ s → g s ≡ d) where
@@ -80,10 +83,10 @@ module _ (f : ℕ → ℕ) (d : ℕ) where
 pub filling-starts : (f g : ℕ → ℕ) (n : ℕ) → Filling f g n 0 (replicate separations-held 0) (replicate separations-held (2 * bias))
 filling-starts f g n = record { below = omega arith; lows = row-starts f 0; highs = row-starts g (2 * bias) }
 
-pub filling-steps : (f g : ℕ → ℕ) (n t i k : ℕ) (low high : List ℕ) (l u : ℕ) → t < n → i ≡ suc t → k ≡ suc t → Filling f g n t low high → l ≡ f t → u ≡ g t →
-    Filling f g n (t + 1) (set low i l) (set high k u)
-filling-steps f g n t i k low high l u h d e s a b =
-    record { below = omega arith; lows = row-steps f 0 t i l low d a (s .lows); highs = row-steps g (2 * bias) t k u high e b (s .highs) }
+pub filling-steps : (f g : ℕ → ℕ) (n t : ℕ) (low high : List ℕ) (l u : ℕ) → t < n → Filling f g n t low high → l ≡ f t → u ≡ g t →
+    Filling f g n (t + 1) (set low (t + 1) l) (set high (t + 1) u)
+filling-steps f g n t low high l u h s a b =
+    record { below = omega arith; lows = row-steps f 0 t l low a (s .lows); highs = row-steps g (2 * bias) t u high b (s .highs) }
 
 -- both rows keep their lengths
 pub filling-long : (f g : ℕ → ℕ) (n t : ℕ) (low high : List ℕ) → Filling f g n t low high → (length low ≡ separations-held) × (length high ≡ separations-held)

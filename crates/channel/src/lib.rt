@@ -8,7 +8,7 @@ ghost use Rattle.stack.specs.Limits.{on-strips};
 ghost use Rattle.stack.specs.Sizes.{separations-held};
 ghost use Rattle.numbers.specs.Lists.{tabulate};
 ghost use Rattle.stack.specs.Value.{columns, channel-of};
-ghost use Rattle.limits.specs.Limits.{greatest, least, from-floor};
+ghost use Rattle.limits.specs.Limits.{greatest, least, from-floor, open-from};
 ghost use Rattle.channel.specs.Seeking.{term-bias, places-held, At-most, narrowed, paired, raised, Limits-of};
 use stack::Columns;
 use stack::Stack;
@@ -123,4 +123,12 @@ pub fn channel_limits(terminals: Terminals, floor: Tracks) -> Limits
     close_below(&mut low, floor, 2 * Stack::BIAS);
     close_below(&mut high, floor, 0);
     Limits { low, high }
+}
+
+// The separation from which on the limits of so many pairs leave every offset open: one more than there are pairs, and 0 without pairs.
+pub fn open_from(pairs: usize) -> usize
+    requires { ⌜ pairs ≤ 32 ⌝ }
+    ensures { λ r. ⌜ r ≡ open-from pairs ⌝ }
+{
+    if 0 < pairs { pairs + 1 } else { 0 }
 }

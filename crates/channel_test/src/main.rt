@@ -1,8 +1,9 @@
 // Prints the limits and the feasibility of the channels in standard input, for comparison with what another program made of the same input.
 // Input: how many channels; for each its count of pairs, p(0), q(0), p(1), q(1) and so on, how many pairs of positions, and those.
-ghost use Prim.Native.Nat.{_≤_, _<_};
+ghost use Prim.Native.Nat.{_≤_};
 use channel::Limits;
 use channel::channel_limits;
+use channel::open_from;
 use feasibility::is_feasible;
 use numbers::difference;
 use stack::Columns;
@@ -42,13 +43,7 @@ fn print_bit(on: bool) {
     }
 }
 
-// How many separations from 0 on leave some offset closed: one more than there are pairs, and none without pairs.
-fn closed_separations(pairs: usize) -> usize
-    requires { ⌜ pairs < 64 ⌝ }
-{
-    if 0 < pairs { pairs + 1 } else { 0 }
-}
-
+// The limits of the first so many separations.
 fn print_limits(limits: Limits, separations: usize) {
     for t in 0..separations {
         if t < Stack::SEPARATIONS {
@@ -132,7 +127,10 @@ fn channel(text: &[u8], from: usize) -> usize {
     let terminals = made.terminals;
     io::write_all(1, b"pairs ");
     print_number(m as u64);
-    print_limits(channel_limits(terminals, Tracks(0)), closed_separations(m));
+    print_limits(
+        channel_limits(terminals, Tracks(0)),
+        open_from(terminals.count),
+    );
     print_all_feasible(terminals, text, at)
 }
 

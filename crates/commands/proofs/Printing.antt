@@ -27,7 +27,8 @@ use Rattle.trial.specs.Legal.{is-legal}
 use Rattle.answer.proofs.Alone.{legal-lengths}
 use Rattle.page.specs.Page.{channel-page}
 use Rattle.nabetsu.specs.Pages.{page-refusal, Paged, Page-says}
-use Rattle.nabetsu.specs.Entry.{spread-refusal, total-told, Totalled, Total-says, placed-is, Placed-for, placed, unmet, Placed-or, Placement-says, table-told, Fits, Tabled, Table-says, Trial-says}
+use Rattle.reply.specs.Told.{table-told}
+use Rattle.nabetsu.specs.Entry.{spread-refusal, total-told, Totalled, Total-says, placed-is, Placed-for, placed, unmet, Placed-or, Placement-says, Fits, Tabled, Table-says, Trial-says}
 use Rattle.nabetsu.specs.Best.{Answered, Spread-says}
 use Rattle.nabetsu.specs.Promise.{Both-together}
 use Rattle.nabetsu.proofs.Promises.{both-together}

@@ -19,7 +19,8 @@ use Rattle.answer.proofs.Alone.{total-alone, placement-alone, placement-met, an
 use Rattle.rows.proofs.Rows.{rows-alone}
 use Rattle.writing.specs.TableText.{table-text}
 use Rattle.trial.specs.Legal.{is-legal}
-use Rattle.nabetsu.specs.Entry.{total-told, Totalled, Total-says, placed-is, Placed-for, placed, unmet, Placed-or, Placement-says, numbers, numbers-in, Numbers-put, zeros, table-told, Fits, Tabled, Table-says, Trial-says}
+use Rattle.reply.specs.Told.{zeros, table-told}
+use Rattle.nabetsu.specs.Entry.{total-told, Totalled, Total-says, placed-is, Placed-for, placed, unmet, Placed-or, Placement-says, numbers, numbers-in, Numbers-put, Fits, Tabled, Table-says, Trial-says}
 use Rattle.reply.specs.declared.PlacementAnswer.{PlacementAnswer}
 use Rattle.reply.specs.declared.TableAnswer.{TableAnswer}
 use Rattle.nabetsu.specs.declared.TotalAnswer.{TotalAnswer}

@@ -22,7 +22,8 @@ use Rattle.rows.specs.Walk.{rows-of}
 use Rattle.rows.proofs.Rows.{rows-are, rows-alone}
 use Rattle.writing.specs.TableText.{table-text}
 use Rattle.page.specs.Page.{channel-page}
-use Rattle.nabetsu.specs.Entry.{spread-refusal, total-told, Totalled, Total-says, placed-is, Placed-for, placed, unmet, Placed-or, Placement-says, zeros, table-told, Fits, Tabled, Table-says}
+use Rattle.reply.specs.Told.{zeros, table-told}
+use Rattle.nabetsu.specs.Entry.{spread-refusal, total-told, Totalled, Total-says, placed-is, Placed-for, placed, unmet, Placed-or, Placement-says, Fits, Tabled, Table-says}
 use Rattle.nabetsu.specs.Pages.{page-refusal, Paged, Page-says}
 use Rattle.nabetsu.proofs.Pages.{page-answered}
 use Rattle.nabetsu.proofs.Spreads.{spread-within, spread-wide}

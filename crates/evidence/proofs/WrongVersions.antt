@@ -24,7 +24,8 @@ use Rattle.lines.specs.Lines.{same-bytes}
 use Rattle.text.specs.Text.{Refusal, refusal, fine, stack-in}
 use Rattle.text.specs.Outcome.{refusal-of}
 use Rattle.reply.specs.Refusals.{narrow-refusal}
-use Rattle.nabetsu.specs.Entry.{spread-refusal, total-told, Total-says, placed-is, Placed-for, placed, unmet, Placed-or, Placement-says, table-told, Table-says, Trial-says}
+use Rattle.reply.specs.Told.{table-told}
+use Rattle.nabetsu.specs.Entry.{spread-refusal, total-told, Total-says, placed-is, Placed-for, placed, unmet, Placed-or, Placement-says, Table-says, Trial-says}
 use Rattle.nabetsu.specs.Best.{Total-best}
 use Rattle.nabetsu.specs.Pages.{Page-says}
 use Rattle.nabetsu.proofs.Placements.{sum-padded, placement-best}
@@ -113,9 +114,9 @@ between-at-3 : Holds (spread-gives text-between 3 2 (0 ∷ 2 ∷ []) (1 ∷ 0 �
 unfolding specimens Entry-holds
 between-at-3 = specimen 40
 
-a-old-at-4 : Holds (trial-gives text-a 4 (2 ∷ []) (0 ∷ 0 ∷ []) false)
+a-former-at-4 : Holds (trial-gives text-a 4 (2 ∷ []) (0 ∷ 0 ∷ []) false)
 unfolding specimens Entry-holds
-a-old-at-4 = specimen 43
+a-former-at-4 = specimen 43
 
 a-page-at-4 : Holds (page-gives text-a 4 1 276 page-a)
 unfolding specimens Entry-holds
@@ -451,7 +452,7 @@ unmet-before-text-breaks v r w a = omega (arith, number-told 2 1 0 _ (e-at-100 .
 -- any kind draw it; nor is its total the least one, nor its table the table
 pub former-placement-tried : (r : TrialAnswer) → Trial-says (text-shown text-a) 4 (padded 8 (2 ∷ [])) (padded 9 (0 ∷ 0 ∷ [])) r → r .legal ≡ false
 unfolding Holds
-former-placement-tried r a = a-old-at-4 r .0 a .1
+former-placement-tried r a = a-former-at-4 r .0 a .1
 
 pub former-placement-not-drawn : Drawable (stack-in (text-shown text-a)) 4 (2 ∷ []) (0 ∷ 0 ∷ []) → ⊥
 unfolding reading replying all-rising rising rises-above

@@ -13,7 +13,8 @@ use lib.ListN.{length, replicate}
 use Rattle.numbers.specs.Lists.{padded}
 use Rattle.text.specs.Text.{refusal}
 use Rattle.text.specs.Outcome.{refusal-of}
-use Rattle.nabetsu.specs.Entry.{total-told, Total-says, placed-is, Placement-says, table-told, Table-says, Trial-says}
+use Rattle.reply.specs.Told.{table-told}
+use Rattle.nabetsu.specs.Entry.{total-told, Total-says, placed-is, Placement-says, Table-says, Trial-says}
 use Rattle.nabetsu.specs.Pages.{Page-says}
 use Rattle.reply.specs.declared.PlacementAnswer.{PlacementAnswer}
 use Rattle.reply.specs.declared.TableAnswer.{TableAnswer}

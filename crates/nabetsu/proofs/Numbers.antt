@@ -23,7 +23,8 @@ use Rattle.text.specs.declared.Outcome.{Outcome}
 use Rattle.text.specs.declared.Outcome.the-variants.{Accepted, Refused}
 use Rattle.text.specs.declared.Refusal.the-variants.{ShortSpace}
 use Rattle.text.proofs.Refusals.{refused-number, or-else-refused}
-use Rattle.nabetsu.specs.Entry.{numbers, numbers-in, zeros, code, verdict, is-legal-numbers, Placement-says, Trial-says, Numbers-put, Placement-coded}
+use Rattle.reply.specs.Told.{zeros}
+use Rattle.nabetsu.specs.Entry.{numbers, numbers-in, code, verdict, is-legal-numbers, Placement-says, Trial-says, Numbers-put, Placement-coded}
 use Rattle.nabetsu.specs.Parts.{Copied, Numbers-tried}
 use Rattle.reply.specs.Parts.{Refused-placement}
 use Rattle.nabetsu.proofs.Copies.{copied-starts, copied-steps, copied-ends}

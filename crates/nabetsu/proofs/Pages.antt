@@ -38,7 +38,8 @@ use Rattle.page.proofs.Inside.{channel-placed}
 use Rattle.plot.specs.Drawing.{Page-put}
 use Rattle.plot.proofs.Lines.{page-long}
 use Rattle.plot.proofs.Shown.{placed-shown}
-use Rattle.nabetsu.specs.Entry.{table-told, Fits, zeros}
+use Rattle.reply.specs.Told.{zeros, table-told}
+use Rattle.nabetsu.specs.Entry.{Fits}
 use Rattle.nabetsu.specs.Pages.{page-refusal, Paged, Page-says, Page-enough, Page-shows}
 use Rattle.nabetsu.specs.Parts.{Channel-put}
 use Rattle.reply.specs.Refusals.{asked-refusal}
@@ -130,7 +131,7 @@ paged-refused (suc c) f k s n r o x h t z = (t, z)
 
 module _ (bs : List ℕ) (s n : ℕ) (g : Reading) (d : Stack-read bs g) (r : TableAnswer) (o m x : List ℕ) (l : length m ≡ length o) where
   pub page-text-refused : is-accepted (g .outcome) ≡ false → Refused-table (g .outcome) m x r → Page-says bs s n r o x
-  unfolding Page-says page-refusal table-told zeros
+  unfolding Page-says page-refusal table-told
   page-text-refused h t =
       let e : or-else (text-refusal bs) (asked-refusal (stack-in bs) s n) ≡ text-refusal bs = or-else-refused (text-refusal bs) _ (refused-text bs g d h) in
       rw e
@@ -143,7 +144,7 @@ module _ (bs : List ℕ) (s n : ℕ) (g : Reading) (d : Stack-read bs g) (r : Ta
     refusal-is = or-else-next (text-refusal bs) _ (text-fine bs g d a) ∙ rw (← stack-is bs g d a) (sym q)
 
     pub page-not-asked : is-accepted u ≡ false → Refused-table u m x r → Page-says bs s n r o x
-    unfolding Page-says table-told zeros
+    unfolding Page-says table-told
     page-not-asked h t =
         rw refusal-is
         (paged-refused (refusal-of u .number) (refusal-of u) (stack-in bs) s n r o x (refused-number u h) (ap refusal-of (t .outcome-is), t .none-written) (zeros-long o m x l (t .cleared)))

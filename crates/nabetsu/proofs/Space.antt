@@ -13,7 +13,8 @@ use Rattle.text.proofs.Within.{accepted-within}
 use Rattle.writing.specs.Output.{row-bytes, rows-most, table-bytes}
 use Rattle.writing.specs.TableText.{table-text}
 use Rattle.table.proofs.Space.{rows-space, total-small}
-use Rattle.nabetsu.specs.Entry.{table-told, Fits, Tabled, Table-says}
+use Rattle.reply.specs.Told.{table-told}
+use Rattle.nabetsu.specs.Entry.{Fits, Tabled, Table-says}
 use Rattle.nabetsu.specs.Space.{Table-space, Total-below, Space-enough}
 use Rattle.reply.specs.declared.TableAnswer.{TableAnswer}
 use Rattle.nabetsu.proofs.Promises.{stack-within}

@@ -23,7 +23,8 @@ use Rattle.writing.specs.Output.{Written}
 use Rattle.writing.specs.TableText.{table-text}
 use Rattle.writing.proofs.Lines.{written-ends}
 use Rattle.table.specs.Walking.{Table-put}
-use Rattle.nabetsu.specs.Entry.{table-told, Fits, Tabled, Table-says, zeros}
+use Rattle.reply.specs.Told.{zeros, table-told}
+use Rattle.nabetsu.specs.Entry.{Fits, Tabled, Table-says}
 use Rattle.reply.specs.Parts.{Refused-table, Finished}
 use Rattle.reply.specs.declared.TableAnswer.{TableAnswer}
 use Rattle.nabetsu.proofs.Readings.{refused-text, text-fine, stack-is}
@@ -35,7 +36,7 @@ zeros-long o m x l e = e ∙ rw l
 -- where a text was put it stands whole with zeros behind it, or is too long
 pub finished-fits : (t : List ℕ) (u : Outcome) (w : ℕ) (b o m x : List ℕ) (r : TableAnswer) → is-accepted u ≡ true → length m ≡ length o → w ≡ length t → Written t b m
     → Finished (leb w (length m)) u w m x r → Fits (leb (length t) (length o)) t r o x
-unfolding Finished Fits table-told refusal fine zeros
+unfolding Finished Fits table-told refusal fine
 finished-fits t u w b o m x r a l c p = rw (l, c) (go (le-or-lt (length t) (length o)))
   where
     go : (length t ≤ length o) ⊎ (length o < length t) → Finished (leb (length t) (length o)) u (length t) m x r → Fits (leb (length t) (length o)) t r o x
@@ -52,7 +53,7 @@ tabled-refused (suc n) f k r o x h t z = (t, z)
 
 module _ (bs : List ℕ) (g : Reading) (d : Stack-read bs g) (r : TableAnswer) (o m x : List ℕ) (l : length m ≡ length o) where
   pub table-refused : is-accepted (g .outcome) ≡ false → Refused-table (g .outcome) m x r → Table-says bs r o x
-  unfolding Table-says table-told zeros
+  unfolding Table-says table-told
   table-refused h t =
       tabled-refused (text-refusal bs .number) (text-refusal bs) (stack-in bs) r o x (refused-text bs g d h) (ap refusal-of (t .outcome-is) ∙ d .outcome, t .none-written) (zeros-long o m x l (t .cleared))
 

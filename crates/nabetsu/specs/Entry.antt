@@ -14,6 +14,7 @@ use Rattle.text.specs.Outcome.{refusal-of}
 use Rattle.writing.specs.TableText.{table-text}
 use Rattle.trial.specs.Legal.{is-legal}
 use Rattle.reply.specs.Refusals.{narrow-refusal}
+use Rattle.reply.specs.Told.{zeros, table-told}
 use Rattle.reply.specs.declared.PlacementAnswer.{PlacementAnswer}
 use Rattle.reply.specs.declared.TableAnswer.{TableAnswer}
 use Rattle.nabetsu.specs.declared.TotalAnswer.{TotalAnswer}
@@ -51,12 +52,6 @@ unfoldable pub Placement-says : List ℕ → (s v : ℕ) → PlacementAnswer →
 Placement-says bs s v r = Placed-or (spread-refusal bs s .number) (spread-refusal bs s) (stack-in bs) s v r
 
 -- THE TABLE: its whole text and zeros behind it; or 1 to 6, then 8, with zeros everywhere
-unfoldable pub zeros : List ℕ → List ℕ
-zeros o = replicate (length o) 0
-
-unfoldable pub table-told : Refusal → (written : ℕ) → TableAnswer → Type 0
-table-told f w r = (refusal-of (r .outcome) ≡ f) × (r .written ≡ w)
-
 unfoldable pub Fits : (fits : Bool) → (text : List ℕ) → TableAnswer → (o o-now : List ℕ) → Type 0
 Fits true t r o x = table-told (refusal 0 0 0) (length t) r × (x ≡ t ++ replicate (length o - length t) 0)
 Fits false t r o x = table-told (refusal 8 0 0) 0 r × (x ≡ zeros o)

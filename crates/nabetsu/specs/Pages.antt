@@ -13,7 +13,8 @@ use Rattle.page.specs.Page.{channel-paths, channel-page, lacks}
 use Rattle.page.specs.Promise.{Paths-shown}
 use Rattle.reply.specs.Refusals.{asked-refusal}
 use Rattle.reply.specs.declared.TableAnswer.{TableAnswer}
-use Rattle.nabetsu.specs.Entry.{zeros, table-told, Fits, code}
+use Rattle.reply.specs.Told.{zeros, table-told}
+use Rattle.nabetsu.specs.Entry.{Fits, code}
 
 -- THE PAGE: 1 to 6, then 3 for the channel, 7, 9, and at last 8
 unfoldable pub page-refusal : List ℕ → (s channel : ℕ) → Refusal

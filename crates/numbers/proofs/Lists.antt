@@ -1,7 +1,7 @@
 -- Laws of tabulate: its length, its elements, one element more, agreement, and one element changed; of filled: its start, a step, its elements; a map of a store; the
 -- places of padded that are used; and zeros place by place.
 -- Assumes nothing.
-use mathlib.Core.Path.{_≡_, refl, ap, sym, _∙_}
+use mathlib.Core.Path.{_≡_, refl, ap, _∙_}
 use mathlib.Core.List.{List, [], _∷_, _++_, map, append-assoc}
 use mathlib.Core.Logic.{_≢_}
 use Prim.Native.Nat.{ℕ, zero, suc, _+_, _-_, _≤_, _<_}

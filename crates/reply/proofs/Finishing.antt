@@ -10,11 +10,12 @@ use Rattle.text.specs.Outcome.{refusal-of, refused}
 use Rattle.text.specs.declared.Outcome.{Outcome}
 use Rattle.text.specs.declared.Refusal.the-variants.{ShortSpace}
 use Rattle.writing.specs.Output.{cleared}
+use Rattle.reply.specs.Told.{table-told}
 use Rattle.reply.specs.Parts.{Refused-table, Finished}
 use Rattle.reply.specs.declared.TableAnswer.{TableAnswer}
 
 pub finished-short : (u z : Outcome) (w : ℕ) (o x : List ℕ) (r : TableAnswer) → length o < w → z ≡ refused ShortSpace 0 0 → Refused-table z o x r → Finished (leb w (length o)) u w o x r
-unfolding Finished refusal
+unfolding Finished table-told refusal
 finished-short u z w o x r h e t = rw (lt-leb w (length o) h) ((ap refusal-of (t .outcome-is ∙ e), t .none-written), t .cleared)
 
 pub finished-whole : (u : Outcome) (w : ℕ) (o x : List ℕ) (r : TableAnswer) → w ≤ length o → r .outcome ≡ u → r .written ≡ w → x ≡ cleared w o → Finished (leb w (length o)) u w o x r

@@ -108,7 +108,7 @@ module _ (c : List Pair) (t a b : ℕ) (up : rising c ≡ true) (f : edge-clear 
   -- each path stays between its own terminals' columns
   pub path-within : (z : Point) → on-path z (path-at (wiring c t a b) j) ≡ true → Column-between (a + p-at c j) (b + q-at c j) z
   unfolding On-right On-left
-  path-within z o = go (path-points c t a b up f j z l (rw (wiring-at c t a b j l) at o))
+  path-within z o = go (path-points c t a b up f j l z (rw (wiring-at c t a b j l) at o))
     where
       go : On-path c t a j (a + p-at c j) (b + q-at c j) z → Column-between (a + p-at c j) (b + q-at c j) z
       go (right u x) = record { column = a + p-at c j + x .at; is = x .column; from = omega arith; upto = omega arith }

@@ -56,31 +56,7 @@ module _ (c : List Pair) (t a b : ℕ) (up : rising c ≡ true) (f : edge-clear 
   by-pairs : By-pairs c (t - 1) a b
   by-pairs = clear-by-pairs c t a b f
 
-  -- without tracks every path is straight
-  straight : (j : ℕ) → j < length c → t ≡ 0 → a + p-at c j ≡ b + q-at c j
-  straight j l z =
-      let e : j + (t - 1) ≡ j = omega arith in
-      omega (arith, by-pairs .left j j e l, by-pairs .right j j e l)
-
-  pub goes : (j : ℕ) → j < length c → Goes c t a b j
-  unfolding path path-between
-  goes j l = go (leb (a + p-at c j) (b + q-at c j)) refl
-    where
-      p : ℕ
-      p = a + p-at c j
-
-      q : ℕ
-      q = b + q-at c j
-
-      go : (v : Bool) → leb p q ≡ v → Goes c t a b j
-      go true e =
-          rightward (leb-true p q e)
-          (drawn-stairs c t a b j (λ k. p + k) (λ k. right-track c a j (p + k)) (q - p) (λ n. rw e) (λ z. omega (arith, straight j l z)))
-      go false e =
-          leftward (leb-false p q e)
-          (drawn-stairs c t a b j (λ k. p - k) (λ k. left-track c a j (p - k)) (p - q) (λ n. rw e) (λ z. omega (arith, straight j l z)))
-
-  -- its columns and the tracks of its runs are a staircase's
+  -- a path's columns and the tracks of its runs are a staircase's
   pub right-course : (j p q : ℕ) → j < length c → a + p-at c j ≡ p → b + q-at c j ≡ q → Course (λ k. p + k) (λ k. suc (right-track c a j (p + k))) t (q - p)
   unfolding Beside
   right-course j p q l d e =
@@ -101,34 +77,47 @@ module _ (c : List Pair) (t a b : ℕ) (up : rising c ≡ true) (f : edge-clear 
         below = λ k h. omega (arith, left-below c a up (t - 1) b by-pairs j (p - k) l (omega arith) (omega arith));
       }
 
-  path-led : (j : ℕ) → j < length c → is-path t (point (pos (a + p-at c j)) 0) (point (pos (b + q-at c j)) t) (drawn-path c t a b j) ≡ true
-  path-led j l = go (goes j l)
-    where
-      p : ℕ
-      p = a + p-at c j
+  module _ (j : ℕ) (l : j < length c) where
+    abbrev p : ℕ
+    p = a + p-at c j
 
-      q : ℕ
-      q = b + q-at c j
+    abbrev q : ℕ
+    q = b + q-at c j
 
-      go : Goes c t a b j → is-path t (point (pos p) 0) (point (pos q) t) (drawn-path c t a b j) ≡ true
-      go (rightward u e) =
-          rw e (staircase-path (λ k. p + k) (λ k. suc (right-track c a j (p + k))) t (q - p) (right-course j p q l refl refl) p q (omega arith) (omega arith))
-      go (leftward u e) =
-          rw e (staircase-path (λ k. p - k) (λ k. suc (left-track c a j (p - k))) t (p - q) (left-course j p q l refl refl) p q (omega arith) (omega arith))
+    -- without tracks every path is straight
+    straight : t ≡ 0 → p ≡ q
+    straight z =
+        let e : j + (t - 1) ≡ j = omega arith in
+        omega (arith, by-pairs .left j j e l, by-pairs .right j j e l)
 
-  pub path-points : (j : ℕ) (z : Point) → j < length c → on-path z (drawn-path c t a b j) ≡ true → On-path c t a j (a + p-at c j) (b + q-at c j) z
-  unfolding On-right On-left
-  path-points j z l o = go (goes j l)
-    where
-      p : ℕ
-      p = a + p-at c j
+    pub goes : Goes c t a b j
+    unfolding path path-between
+    goes = go (leb p q) refl
+      where
+        go : (v : Bool) → leb p q ≡ v → Goes c t a b j
+        go true e =
+            rightward (leb-true p q e)
+            (drawn-stairs c t a b j (λ k. p + k) (λ k. right-track c a j (p + k)) (q - p) (λ n. rw e) (λ z. omega (arith, straight z)))
+        go false e =
+            leftward (leb-false p q e)
+            (drawn-stairs c t a b j (λ k. p - k) (λ k. left-track c a j (p - k)) (p - q) (λ n. rw e) (λ z. omega (arith, straight z)))
 
-      q : ℕ
-      q = b + q-at c j
+    path-led : is-path t (point (pos p) 0) (point (pos q) t) (drawn-path c t a b j) ≡ true
+    path-led = go goes
+      where
+        go : Goes c t a b j → is-path t (point (pos p) 0) (point (pos q) t) (drawn-path c t a b j) ≡ true
+        go (rightward u e) =
+            rw e (staircase-path (λ k. p + k) (λ k. suc (right-track c a j (p + k))) t (q - p) (right-course j p q l refl refl) p q (omega arith) (omega arith))
+        go (leftward u e) =
+            rw e (staircase-path (λ k. p - k) (λ k. suc (left-track c a j (p - k))) t (p - q) (left-course j p q l refl refl) p q (omega arith) (omega arith))
 
-      go : Goes c t a b j → On-path c t a j p q z
-      go (rightward u e) = right u (on-staircase (λ k. p + k) (λ k. suc (right-track c a j (p + k))) t (q - p) (right-course j p q l refl refl) z (rw e at o))
-      go (leftward u e) = left u (on-staircase (λ k. p - k) (λ k. suc (left-track c a j (p - k))) t (p - q) (left-course j p q l refl refl) z (rw e at o))
+    pub path-points : (z : Point) → on-path z (drawn-path c t a b j) ≡ true → On-path c t a j p q z
+    unfolding On-right On-left
+    path-points z o = go goes
+      where
+        go : Goes c t a b j → On-path c t a j p q z
+        go (rightward u e) = right u (on-staircase (λ k. p + k) (λ k. suc (right-track c a j (p + k))) t (q - p) (right-course j p q l refl refl) z (rw e at o))
+        go (leftward u e) = left u (on-staircase (λ k. p - k) (λ k. suc (left-track c a j (p - k))) t (p - q) (left-course j p q l refl refl) z (rw e at o))
 
   -- no point is on the paths of two pairs
   clear : (i j : ℕ) (z : Point) → i < j → j < length c → On-path c t a i (a + p-at c i) (b + q-at c i) z
@@ -161,7 +150,7 @@ module _ (c : List Pair) (t a b : ℕ) (up : rising c ≡ true) (f : edge-clear 
 
   paths-disjoint : (i j : ℕ) → i < j → j < length c → Disjoint (drawn-path c t a b i) (drawn-path c t a b j)
   unfolding Disjoint
-  paths-disjoint i j l h z o u = clear i j z l h (path-points i z (omega arith) o) (path-points j z h u)
+  paths-disjoint i j l h z o u = clear i j z l h (path-points i (omega arith) z o) (path-points j h z u)
 
 pub wiring-led : (c : List Pair) (t a b : ℕ) → rising c ≡ true → edge-clear c t a b ≡ true → all-paths t a b c (wiring c t a b) ≡ true
 unfolding wiring

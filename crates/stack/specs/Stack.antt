@@ -59,20 +59,20 @@ left-good ps t a b j = leb (p-at ps (j - t) + t + a) (b + q-at ps j)
 unfoldable pub right-good : List Pair → (t lower upper j : ℕ) → Bool
 right-good ps t a b j = leb (b + t + q-at ps j) (p-at ps (j + t) + a)
 
--- pairs that are WIRABLE at separation t with the strips at these positions, by document 004's condition, which leaves track 0 to paths: L(t) at most the
+-- pairs that are WIRABLE at separation t with the strips at these positions, by document 004's condition, where paths may run along track 0: L(t) at most the
 -- offset upper - lower, the offset at most R(t); from t = m on every offset
 unfoldable pub wirable : List Pair → (t lower upper : ℕ) → Bool
 wirable ps t a b =
     leb (length ps) t
     || (every (length ps - t) t (λ j. left-good ps t a b j) && every (length ps - t) 0 (λ j. right-good ps t a b j))
 
--- with the LOWER EDGE CLEAR, document 02's P4: for t ≥ 1 and at least one pair that condition at t - 1; at t = 0, and without pairs, that condition itself
+-- wirable with the LOWER EDGE CLEAR, document 02's P4: for t ≥ 1 and at least one pair that condition at t - 1; at t = 0, and without pairs, that condition itself
 unfoldable pub edge-clear : List Pair → (t lower upper : ℕ) → Bool
 edge-clear [] t a b = wirable [] t a b
 edge-clear (p ∷ ps) zero a b = wirable (p ∷ ps) 0 a b
 edge-clear (p ∷ ps) (suc t) a b = wirable (p ∷ ps) t a b
 
--- FEASIBLE: from the floor upward, and so with the lower edge clear
+-- FEASIBLE: from the floor upward, and wirable with the lower edge clear
 unfoldable pub feasible : Channel → (t lower upper : ℕ) → Bool
 feasible c t a b = leb (c .floor) t && edge-clear (c .pairs) t a b
 

@@ -1,7 +1,6 @@
 -- channel_limits meets its contract: the loop keeps Filling. Assumes nothing.
 use mathlib.Core.Path.{ap, _∙_}
 use Prim.Native.Nat.{_-_}
-use native.Mathlib.Numerals.{add-one}
 use native.Mathlib.Omega.{arith}
 use lib.ListN.{length-set}
 use borrow.Author.Count.{falls}
@@ -89,7 +88,7 @@ loop-again : tie.Need-loop-again Inv-loop μ-loop
 loop-again c =
     let a = c .before .before .before .before .before .before .before .before in
     let loop = a .before .loop in
-    filling-steps _ _ _ (loop .t) _ _ (loop .low) (loop .high) (c .before .before .before .before .raised .result) (c .raised2 .result) (a .loop-test .taken) (add-one (loop .t)) (add-one (loop .t)) (loop .inv)
+    filling-steps _ _ _ (loop .t) (loop .low) (loop .high) (c .before .before .before .before .raised .result) (c .raised2 .result) (a .loop-test .taken) (loop .inv)
     (c .before .before .before .before .raised .ensures ∙ ap (λ x. raised x) (c .before .before .before .before .before .greatest-term .ensures))
     (c .raised2 .ensures ∙ ap (λ x. raised x) (c .before .least-term .ensures))
 

@@ -55,8 +55,8 @@ channel-limits-requires c κs =
       on-longer _ _ 1000 1000 _ (made .before .before .longest .ensures) (made .before .longest2 .ensures) (made-on-strips _ _ _ _ (made .new .result) (made .new .ensures)),
     )
 
-closed-separations-requires : tie.Need-closed-separations-requires
-closed-separations-requires c κs = search needs
+open-from-requires : tie.Need-open-from-requires
+open-from-requires c κs = made-few _ _ _ _ (c .before .before .before .before .before .before .before .new .result) (c .before .before .before .before .before .before .before .new .ensures)
 
 print-limits-requires : tie.Need-print-limits-requires
 print-limits-requires c κs = search needs
@@ -86,7 +86,7 @@ channel-spec =
     write-all-requires-2
     print-number-requires
     channel-limits-requires
-    closed-separations-requires
+    open-from-requires
     print-limits-requires
     print-all-feasible-requires
     returns-2)

@@ -1,6 +1,7 @@
 -- refused_table meets its contract: all is cleared. Assumes nothing.
 use mathlib.Core.Path.{refl, _∙_}
 use Rattle.writing.proofs.Lines.{cleared-all}
+use Rattle.reply.specs.Told.{zeros}
 use borrow.Author.Needs.{needs}
 use Rattle.reply.proofs.refused_table.Statement.{statement}
 use Rattle.reply.proofs.refused_table.Tie as tie
@@ -12,6 +13,7 @@ same-length : tie.Need-same-length
 same-length c = search needs
 
 returns : tie.Need-returns
+unfolding zeros
 returns c = record { outcome-is = refl; none-written = refl; cleared = c .before .before .clear-from .ensures ∙ cleared-all _ }
 
 pub refused-table-spec : {M : Type 1} → statement M
