@@ -49,31 +49,53 @@ fn number(text: &[u8]) -> Option<(i16, &[u8])> {
     Some((value, &text[digits..]))
 }
 
-/// The count of numbers behind the word in the text's first line, the first of them kept, and the text behind the line.
-fn line<'a>(text: &'a [u8], word: &[u8], kept: &mut [i16]) -> Option<(usize, &'a [u8])> {
-    let mut rest = text.strip_prefix(word)?;
+/// Whether line `at` has as many numbers as are due; if not, the first that is missing or extra.
+fn counted(at: u32, count: usize, due: usize) -> Result<(), Refusal> {
+    if count == due {
+        return Ok(());
+    }
+    Err((11, at, count.min(due) as u32 + 2))
+}
+
+/// The refusal of line `at` whose number `place`, from 0, is ill-formed, by the text from there on: the line's end and the count come first.
+#[cold]
+fn ill_formed(text: &[u8], at: u32, place: usize, due: impl Fn(usize) -> usize) -> Refusal {
+    let Some(length) = text.iter().position(|b| *b == b'\n') else {
+        return (2, at, 0);
+    };
+    let count = place + 1 + text[..length].iter().filter(|b| **b == b'\t').count();
+    counted(at, count, due(count)).err().unwrap_or((12, at, place as u32 + 2))
+}
+
+/// The count of numbers behind the word in the text's first line, which is line `at`, the first of them kept, and the text behind the line. `due` says how many
+/// numbers a line with so many should have.
+fn line<'a>(text: &'a [u8], at: u32, word: &[u8], due: impl Fn(usize) -> usize, kept: &mut [i16]) -> Result<(usize, &'a [u8]), Refusal> {
+    let mut rest = text.strip_prefix(word).ok_or((2, at, 0))?;
     let mut count = 0;
     loop {
         match rest {
-            [b'\n', behind @ ..] => return Some((count, behind)),
-            [b'\t', behind @ ..] => {
-                let (value, behind) = number(behind)?;
+            [b'\n', behind @ ..] => return counted(at, count, due(count)).map(|_| (count, behind)),
+            [b'\t', field @ ..] => {
+                let (value, behind) = number(field).ok_or_else(|| ill_formed(field, at, count, &due))?;
                 if let Some(place) = kept.get_mut(count) {
                     *place = value;
                 }
                 count += 1;
                 rest = behind;
             }
-            _ => return None,
+            // Digits and something else behind them.
+            [_, ..] if count > 0 => return Err(ill_formed(rest, at, count - 1, due)),
+            // A longer word, or the end of the text.
+            _ => return Err((2, at, 0)),
         }
     }
 }
 
 /// The one number of a line.
-fn single<'a>(text: &'a [u8], word: &[u8]) -> Option<(i16, &'a [u8])> {
+fn single<'a>(text: &'a [u8], at: u32, word: &[u8]) -> Result<(i16, &'a [u8]), Refusal> {
     let mut kept = [0];
-    let (count, behind) = line(text, word, &mut kept)?;
-    (count == 1).then_some((kept[0], behind))
+    let (_, behind) = line(text, at, word, |_| 1, &mut kept)?;
+    Ok((kept[0], behind))
 }
 
 /// The floors of k channels, from the lines behind line `at`.
@@ -84,7 +106,7 @@ fn gaps(text: &[u8], k: usize, mut at: u32) -> Result<[usize; CHANNELS], Refusal
     while !rest.is_empty() {
         at += 1;
         let mut kept = [0; 2];
-        let (_, behind) = line(rest, b"GAP", &mut kept).filter(|found| found.0 == 2).ok_or((2, at, 0))?;
+        let (_, behind) = line(rest, at, b"GAP", |_| 2, &mut kept)?;
         let [channel, floor] = kept;
         if !(1..=k as i16).contains(&channel) {
             return Err((3, at, 2));
@@ -106,7 +128,7 @@ pub fn read(text: &[u8]) -> Result<Stack, Refusal> {
     if text.len() > 8192 {
         return Err((1, 0, 0));
     }
-    let (k, mut rest) = single(text, b"STACK").ok_or((2, 1, 0))?;
+    let (k, mut rest) = single(text, 1, b"STACK")?;
     if !(1..=8).contains(&k) {
         return Err((3, 1, 2));
     }
@@ -116,7 +138,7 @@ pub fn read(text: &[u8]) -> Result<Stack, Refusal> {
     let mut at = 1;
     for length in &mut stack.lengths[..=k] {
         at += 1;
-        (*length, rest) = single(rest, b"PART").ok_or((2, at, 0))?;
+        (*length, rest) = single(rest, at, b"PART")?;
         if !(1..=1000).contains(length) {
             return Err((4, at, 2));
         }
@@ -124,7 +146,7 @@ pub fn read(text: &[u8]) -> Result<Stack, Refusal> {
     for i in 0..k {
         at += 1;
         let mut kept = [0; 2 * PAIRS];
-        let (count, behind) = line(rest, b"NETS", &mut kept).filter(|found| found.0 % 2 == 0).ok_or((2, at, 0))?;
+        let (count, behind) = line(rest, at, b"NETS", |count| count + count % 2, &mut kept)?;
         rest = behind;
         if count > 2 * PAIRS {
             return Err((3, at, 66));

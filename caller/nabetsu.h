@@ -7,7 +7,9 @@
  * horizontal steps are on tracks 1 to t - 1 only, so that no path runs along a strip's edge.
  *
  * A refusal is one number: its own number times 2^40, its line times 2^20 and its field, added. It is at least 2^40, and every other answer is
- * below that. */
+ * below that. Refusals of the text are 1 overlong, 2 layout (a wrong word, a missing, extra or unended line), 3 crowd, 4 length, 5 overhang, 6 crossing, 11 a wrong
+ * count of fields, at the first missing or extra, and 12 an ill-formed number, at its field; every function gives these before others. 7 is narrow, 8 short space,
+ * 9 broad, 10 a total that is not met. */
 #ifndef NABETSU_H
 #define NABETSU_H
 
@@ -29,28 +31,28 @@
 #define NABETSU_LINE(code) ((unsigned)((code) >> 20 & 0xfffff))
 #define NABETSU_FIELD(code) ((unsigned)((code) & 0xfffff))
 
-/* The table of the stack in a text: its bytes, and zeros in the rest of the output; answers how many bytes it has. Or a refusal, 1 to 6, then 8 exactly if
- * the table is longer than the output, and zeros in the whole output. */
+/* The table of the stack in a text: its bytes, and zeros in the rest of the output; answers how many bytes it has. Or a refusal of the text, then 8
+ * exactly if the table is longer than the output, and zeros in the whole output. */
 uint64_t nabetsu_write_table(const uint8_t *text, size_t text_length, uint8_t *output, size_t output_length);
 
-/* The least total in a spread, at most 512. Or a refusal, 1 to 6, then 7. A placement with that total can be drawn in that spread with no channel below its floor,
+/* The least total in a spread, at most 512. Or a refusal of the text, then 7. A placement with that total can be drawn in that spread with no channel below its floor,
  * and no placement that can be drawn so has a smaller one. */
 uint64_t nabetsu_least_total(const uint8_t *text, size_t text_length, uint32_t spread);
 
 /* The placement in a spread for a stated total: 0, with total, separations and positions in the output, zeros in unused places and behind them. Of the legal
  * placements in that spread with exactly that total it is the one that document 01's tie rule picks, and it can be drawn with no channel below its floor. Or a
- * refusal, 1 to 6, then 7, then 10 exactly if no legal placement in that spread has exactly that total, that is, if it is below the least total; then 8 where the
+ * refusal of the text, then 7, then 10 exactly if no legal placement in that spread has exactly that total, that is, if it is below the least total; then 8 where the
  * output has fewer than 18 places; and zeros in the whole output. */
 uint64_t nabetsu_place_total(const uint8_t *text, size_t text_length, uint32_t spread, uint32_t total, uint32_t *output, size_t output_length);
 
 /* The page of a channel, from 1, in the placement with the least total in a spread of at most 63: a line of 69 bytes for each track, the highest first, and zeros in the rest of the
- * output; answers how many bytes it has. Or a refusal: 1 to 6, then 3 without line and field where there is no such channel, 7, 9 where the spread is above 63, then 8
+ * output; answers how many bytes it has. Or a refusal: of the text, then 3 without line and field where there is no such channel, 7, 9 where the spread is above 63, then 8
  * exactly if the page is longer than the output; and zeros in the whole output. The page shows one path for each pair of the channel, from terminal to terminal, no point
  * shared, none outside the spread; every point of a path has a character other than the dot, every other point the dot; and # never appears. */
 uint64_t nabetsu_write_page(const uint8_t *text, size_t text_length, uint32_t spread, uint32_t channel, uint8_t *output, size_t output_length);
 
 /* The trial of eight separations and nine positions: 1 exactly if they are legal, floors included, with zeros in unused places; 2 if not, or if there are not 17 numbers. Or a
- * refusal, 1 to 6. */
+ * refusal of the text. */
 uint64_t nabetsu_try_placement(const uint8_t *text, size_t text_length, uint32_t spread, const uint32_t *placement, size_t placement_length);
 
 #endif

@@ -173,6 +173,7 @@ fn check_specimens() -> bool {
     check("32 pairs", table(full.as_bytes()), "TABLE\t1\nROW\t40\t0\t0\t0\t0\n".to_string());
     let crowded = specimens::tabbed(&specimens::pairs(33));
     check("33 pairs", table(crowded.as_bytes()), "3\t4\t66\n".to_string());
+    check("65 terminals", table(full.replace("31\t31\n", "31\t31\t32\n").as_bytes()), "11\t4\t67\n".to_string());
     check("A's length", table(specimens::tabbed(specimens::TABLES[0].1).as_bytes()).len().to_string(), "50".to_string());
     good
 }

@@ -1,4 +1,4 @@
-//! Reading a stack's text, by document 01, "Lines and tabs" and "Sent back at the counter", and document 02, P2.
+//! Reading a stack's text, by document 01, "Lines and tabs" and "Sent back at the counter", and document 02, P2 and P5.
 
 use crate::channel::Pair;
 
@@ -13,6 +13,9 @@ pub struct Stack {
 /// Number, line and field.
 pub type Refusal = (u32, u32, u32);
 
+/// A line's bytes without the line feed, and whether there is one.
+type Line = (Vec<u8>, bool);
+
 fn number(field: &[u8]) -> Option<i64> {
     let plain = field.iter().all(|b| b.is_ascii_digit());
     let zero_first = field.len() > 1 && field[0] == b'0';
@@ -22,21 +25,37 @@ fn number(field: &[u8]) -> Option<i64> {
     std::str::from_utf8(field).unwrap().parse().ok()
 }
 
-/// The numbers behind the word, if the line is well laid out.
-fn numbers(line: Option<&(Vec<u8>, bool)>, word: &str, count: impl Fn(usize) -> bool) -> Option<Vec<i64>> {
-    let (bytes, ended) = line?;
-    if !*ended {
-        return None;
+/// Where so many fields are present, the first that is missing or extra by the counts allowed, which rise; none where the count is one of them.
+fn wrong_field(present: usize, allowed: impl Iterator<Item = usize>) -> Option<usize> {
+    let mut greatest = 0;
+    for count in allowed {
+        if count == present {
+            return None;
+        }
+        if count > present {
+            return Some(present + 1);
+        }
+        greatest = count;
     }
-    let mut fields = bytes.split(|b| *b == 9);
-    if fields.next()? != word.as_bytes() {
-        return None;
-    }
-    let found: Option<Vec<i64>> = fields.map(number).collect();
-    found.filter(|f| count(f.len()))
+    Some(greatest + 1)
 }
 
-fn split_lines(text: &[u8]) -> Vec<(Vec<u8>, bool)> {
+/// The numbers of line `at`, from 1, which is to begin with a word and have one of the counts of fields, the word's among them. Its layout is refused for the
+/// line as a whole, then for the count of fields, then for each number from the left.
+fn numbers(lines: &[Line], at: usize, word: &str, counts: impl Iterator<Item = usize>) -> Result<Vec<i64>, Refusal> {
+    let line = at as u32;
+    let (bytes, ended) = lines.get(at - 1).ok_or((2, line, 0))?;
+    let fields: Vec<&[u8]> = bytes.split(|b| *b == 9).collect();
+    if !*ended || fields[0] != word.as_bytes() {
+        return Err((2, line, 0));
+    }
+    if let Some(field) = wrong_field(fields.len(), counts) {
+        return Err((11, line, field as u32));
+    }
+    (2..).zip(&fields[1..]).map(|(n, field)| number(field).ok_or((12, line, n))).collect()
+}
+
+fn split_lines(text: &[u8]) -> Vec<Line> {
     let mut lines = Vec::new();
     let mut current = Vec::new();
     for &b in text {
@@ -70,13 +89,12 @@ fn nets(values: &[i64], lower: i64, upper: i64, line: u32) -> Result<Vec<Pair>, 
 }
 
 /// The floors of k channels, by the lines behind the last `NETS`.
-fn gaps(lines: &[(Vec<u8>, bool)], k: usize) -> Result<Vec<usize>, Refusal> {
+fn gaps(lines: &[Line], k: usize) -> Result<Vec<usize>, Refusal> {
     let mut floors = vec![0; k];
     let mut before = 0;
-    for i in 2 * k + 2..lines.len() {
-        let line = i as u32 + 1;
-        let gap = numbers(lines.get(i), "GAP", |n| n == 2).ok_or((2, line, 0))?;
-        let (channel, floor) = (gap[0], gap[1]);
+    for at in 2 * k + 3..=lines.len() {
+        let gap = numbers(lines, at, "GAP", [3].into_iter())?;
+        let (line, channel, floor) = (at as u32, gap[0], gap[1]);
         if channel < 1 || channel > k as i64 {
             return Err((3, line, 2));
         }
@@ -97,25 +115,24 @@ pub fn read(text: &[u8]) -> Result<Stack, Refusal> {
         return Err((1, 0, 0));
     }
     let lines = split_lines(text);
-    let head = numbers(lines.first(), "STACK", |n| n == 1).ok_or((2, 1, 0))?;
+    let head = numbers(&lines, 1, "STACK", [2].into_iter())?;
     if head[0] < 1 || head[0] > 8 {
         return Err((3, 1, 2));
     }
     let k = head[0] as usize;
     let mut stack = Stack { lengths: Vec::new(), channels: Vec::new(), floors: Vec::new() };
-    for i in 1..=k + 1 {
-        let line = i as u32 + 1;
-        let part = numbers(lines.get(i), "PART", |n| n == 1).ok_or((2, line, 0))?;
+    for at in 2..=k + 2 {
+        let part = numbers(&lines, at, "PART", [2].into_iter())?;
         if part[0] < 1 || part[0] > 1000 {
-            return Err((4, line, 2));
+            return Err((4, at as u32, 2));
         }
         stack.lengths.push(part[0]);
     }
     for c in 0..k {
-        let i = k + 2 + c;
-        let line = i as u32 + 1;
-        let values = numbers(lines.get(i), "NETS", |n| n % 2 == 0).ok_or((2, line, 0))?;
-        stack.channels.push(nets(&values, stack.lengths[c], stack.lengths[c + 1], line)?);
+        let at = k + 3 + c;
+        // The word and pairs of terminals, as many as there are: more than 32 are another fault.
+        let values = numbers(&lines, at, "NETS", (1..).step_by(2))?;
+        stack.channels.push(nets(&values, stack.lengths[c], stack.lengths[c + 1], at as u32)?);
     }
     stack.floors = gaps(&lines, k)?;
     Ok(stack)

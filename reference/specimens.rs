@@ -1,5 +1,5 @@
 //! The specimens of document 01 with P4's tracks: a stack's text with what it is answered, their pages by P1 too; then with floors, by P2, and for greater
-//! totals, by P3.
+//! totals, by P3; faults of layout by P5.
 //! Tabs are written as spaces here.
 
 /// Specimen A's text, and lines behind it.
@@ -37,7 +37,7 @@ const NO_PAIRS_1: &str = "STACK 1\nPART 3\nPART 5\nNETS\nGAP 1 1\n";
 const D_FLOOR_1: &str = d!("GAP 1 1\n");
 
 /// The text, and the table or the refusal's line.
-pub const TABLES: [(&str, &str, &str); 34] = [
+pub const TABLES: [(&str, &str, &str); 43] = [
     ("A", a!(""), A_TABLE),
     ("B", b!(""), "TABLE 2\nROW 4 6 3 3 0 0 0\nROW 5 5 2 3 1 0 0\nROW 6 3 0 3 2 0 0\nROW 7 2 0 2 3 1 0\nROW 8 0 0 0 4 2 0\n"),
     ("C", "STACK 1\nPART 3\nPART 5\nNETS\n", "TABLE 1\nROW 5 0 0 0 0\n"),
@@ -73,7 +73,16 @@ pub const TABLES: [(&str, &str, &str); 34] = [
     ("C, floor 3", NO_PAIRS, "TABLE 1\nROW 5 3 3 0 0\n"),
     ("D, floor 1", D_FLOOR_1, "TABLE 1\nROW 1 2 2 0 0\nROW 2 1 1 0 1\n"),
     ("D, floor 2", d!("GAP 1 2\n"), "TABLE 1\nROW 1 2 2 0 0\n"),
-    ("GAP with one number", a!("GAP 1\n"), "2 5 0\n"),
+    ("GAP with one number", a!("GAP 1\n"), "11 5 3\n"),
+    ("GAP with one number, ill-formed", a!("GAP x\n"), "11 5 3\n"),
+    ("GAP with an ill-formed number", a!("GAP 1 01\n"), "12 5 3\n"),
+    ("NETS with a terminal less", "STACK 1\nPART 4\nPART 4\nNETS 0 2 2\n", "11 4 5\n"),
+    ("NETS and a lone tab", "STACK 1\nPART 4\nPART 4\nNETS \n", "11 4 3\n"),
+    ("NETS with an ill-formed number", "STACK 1\nPART 4\nPART 4\nNETS 9 2 x 4\n", "12 4 4\n"),
+    ("PART without a length", "STACK 1\nPART 4\nPART\nNETS\n", "11 3 2\n"),
+    ("PART with a number more", "STACK 1\nPART 0 4\nPART\nNETS\n", "11 2 3\n"),
+    ("STACK and a lone tab", "STACK \n", "12 1 2\n"),
+    ("STACK unended", "STACK", "2 1 0\n"),
     ("GAP before NETS", "STACK 1\nPART 4\nPART 4\nGAP 1 1\nNETS 0 2 2 4\n", "2 4 0\n"),
     ("a line behind GAP", a!("GAP 1 1\nNETS\n"), "2 6 0\n"),
     ("GAP of channel 0", a!("GAP 0 65\n"), "3 5 2\n"),

@@ -2,7 +2,7 @@
 
 use crate::random::Random;
 
-pub const KINDS: [&str; 29] = [
+pub const KINDS: [&str; 34] = [
     "byte changed",
     "byte dropped",
     "byte doubled",
@@ -23,6 +23,11 @@ pub const KINDS: [&str; 29] = [
     "cut short",
     "run on",
     "about 8,192 bytes",
+    "fields added",
+    "fields dropped",
+    "ill-formed number",
+    "several faults in one line",
+    "NETS: several faults",
     "GAP: another word",
     "GAP: field emptied, dropped or doubled",
     "GAP: ill-formed number",
@@ -37,6 +42,8 @@ pub const KINDS: [&str; 29] = [
 const BYTES: &[u8] = b"0123456789\t\n\r -+.,/:STACKPARTNETSGAPstackgapROWTABLE\0\x0b\x7f\x80\xff";
 const ODD_BYTES: [u8; 4] = [0, 13, 32, 255];
 const NUMBERS: [&str; 16] = ["0", "1", "2", "8", "9", "10", "31", "32", "33", "64", "65", "99", "999", "1000", "1001", "9999"];
+const ILL_FORMED: [&str; 18] =
+    ["", "00", "01", "0000", "00000", "10000", "65537", "4294967297", "+1", "-1", " 1", "1 ", "x", "1x", "1.0", "\0", "1\r", "/"];
 const LINES: [&str; 10] = [
     "\n",
     "STACK\t1\n",
@@ -112,6 +119,86 @@ fn with_gaps(random: &mut Random, text: &[u8]) -> Vec<Vec<u8>> {
     all
 }
 
+/// A field that is no number: with a zero or a sign before it, of five digits, or one of the list.
+fn ill_formed(random: &mut Random, fields: &mut [Vec<u8>], n: usize) {
+    match random.below(6) {
+        0 => fields[n].insert(0, b'0'),
+        1 => fields[n].insert(0, [b'+', b'-', b' ', b'.'][random.below(4)]),
+        2 => fields[n] = (10_000 + random.below(90_000)).to_string().into_bytes(),
+        _ => fields[n] = ILL_FORMED[random.below(ILL_FORMED.len())].into(),
+    }
+}
+
+/// A field to be added: a number in its range or beyond, or one that is ill-formed.
+fn any_field(random: &mut Random) -> Vec<u8> {
+    if random.chance(2) {
+        return NUMBERS[random.below(NUMBERS.len())].into();
+    }
+    ILL_FORMED[random.below(ILL_FORMED.len())].into()
+}
+
+/// One to four fields added at a place behind the word or at the end; now and then as many as make about 64 terminals.
+fn add_fields(random: &mut Random, fields: &mut Vec<Vec<u8>>, n: usize) {
+    let place = if random.chance(2) { fields.len() } else { n.max(1) };
+    let count = if random.chance(8) { 66 - fields.len().min(60) + random.below(4) } else { 1 + random.below(4) };
+    let alike = any_field(random);
+    for _ in 0..count {
+        let field = if random.chance(4) { any_field(random) } else { alike.clone() };
+        fields.insert(place, field);
+    }
+}
+
+/// One to four fields behind the word dropped, or all, from a place on.
+fn drop_fields(random: &mut Random, fields: &mut Vec<Vec<u8>>, n: usize) {
+    let place = if random.chance(4) { 1 } else { n.max(1) };
+    let count = if random.chance(4) { fields.len() } else { 1 + random.below(4) };
+    fields.drain(place..fields.len().min(place + count));
+}
+
+/// An ill-formed number and one to three more faults in a line: numbers beyond their range or ill-formed, terminals that do not rise, a crowd, another count of
+/// fields, another word.
+fn several_faults(random: &mut Random, fields: &mut Vec<Vec<u8>>, n: usize) {
+    ill_formed(random, fields, n);
+    for _ in 0..1 + random.below(3) {
+        let other = random.below(fields.len());
+        match random.below(8) {
+            0 | 1 => fields[other] = NUMBERS[random.below(NUMBERS.len())].into(),
+            2 => fields[other] = fields[other.saturating_sub(2)].clone(),
+            3 | 4 => ill_formed(random, fields, other),
+            5 => add_fields(random, fields, other),
+            6 => drop_fields(random, fields, other),
+            _ if random.chance(2) => fields[0].push(b'S'),
+            _ => fields.resize(65 + random.below(5), b"7".into()),
+        }
+    }
+}
+
+/// An ill-formed terminal, further left one beyond every strip or equal to the one before it on its edge, and in short lines or now and then 64 terminals or
+/// more. Their number stays even.
+fn ill_formed_terminals(random: &mut Random, fields: &mut Vec<Vec<u8>>, n: usize) {
+    if fields.len() < 5 || random.chance(3) {
+        fields.resize(65 + 2 * random.below(3), b"7".into());
+    }
+    let place = if random.chance(2) { fields.len() - 1 - random.below(4) } else { n.max(1) };
+    let left = 1 + random.below(place);
+    fields[left] = if random.chance(2) { b"1001".into() } else { fields[left.saturating_sub(2).max(1)].clone() };
+    ill_formed(random, fields, place);
+}
+
+/// The text with damage to the fields of a line: of each word as often, so that it gets `GAP` lines where it has none. Now and then it ends with that line,
+/// which is unended.
+fn fields_done(random: &mut Random, text: &[u8], change: impl Fn(&mut Random, &mut Vec<Vec<u8>>, usize)) -> Vec<u8> {
+    let word = ["STACK", "PART", "NETS", "GAP"][random.below(4)];
+    let whole = if word == "GAP" { with_gaps(random, text).concat() } else { text.to_vec() };
+    let mut new = with_field(random, &whole, word, change);
+    if random.chance(10) {
+        let changed = new.iter().zip(&whole).position(|(new, old)| new != old).unwrap_or(0);
+        let end = (changed..new.len()).find(|at| new[*at] == 10).unwrap_or(new.len());
+        new.truncate(end);
+    }
+    new
+}
+
 /// A field of a `GAP` line with a channel or a floor at the end of its range, or beyond.
 fn gap_number(random: &mut Random, fields: &mut [Vec<u8>], n: usize, k: usize) {
     let value = match n {
@@ -119,14 +206,6 @@ fn gap_number(random: &mut Random, fields: &mut [Vec<u8>], n: usize, k: usize) {
         _ => [0, 1, 63, 64, 65, 66, 256, 9999][random.below(8)],
     };
     fields[n] = value.to_string().into_bytes();
-}
-
-fn ill_formed(random: &mut Random, fields: &mut [Vec<u8>], n: usize) {
-    match random.below(3) {
-        0 => fields[n].insert(0, b'0'),
-        1 => fields[n].insert(0, [b'+', b'-', b' ', b'.'][random.below(4)]),
-        _ => fields[n] = (10_000 + random.below(90_000)).to_string().into_bytes(),
-    }
 }
 
 fn other_fields(random: &mut Random, fields: &mut Vec<Vec<u8>>, n: usize) {
@@ -268,6 +347,11 @@ pub fn done(random: &mut Random, text: &[u8], kind: usize) -> Vec<u8> {
         "cut short" => new.truncate(if random.chance(3) { text.len() - 1 } else { at }),
         "run on" => new.extend([&b"\n"[..], b"\t", b"0", b"NETS\n", b"\0", b"NETS\t0\t0\n", b"GAP\t1\t2\n", b"GAP\t1\t2"][random.below(8)]),
         "about 8,192 bytes" => new = near_limit(random, text),
+        "fields added" => new = fields_done(random, text, add_fields),
+        "fields dropped" => new = fields_done(random, text, drop_fields),
+        "ill-formed number" => new = fields_done(random, text, |random, fields, n| ill_formed(random, fields, n)),
+        "several faults in one line" => new = fields_done(random, text, several_faults),
+        "NETS: several faults" => new = with_field(random, text, "NETS", ill_formed_terminals),
         kind => new = gap_done(random, text, kind),
     }
     new

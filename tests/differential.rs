@@ -4,6 +4,7 @@
 #[path = "../reference/channel.rs"]
 mod channel;
 mod damage;
+mod faults;
 mod library;
 #[path = "../reference/page.rs"]
 mod page;
@@ -38,7 +39,7 @@ const USAGE: &str =
 const COUNTS: [u64; 5] = [4000, 1500, 50000, 50, 2000];
 
 /// What is counted and must have been met, in a run of at least the usual counts.
-const MET: [&str; 30] = [
+const MET: [&str; 25] = [
     "tables, a total that falls by 2 or more",
     "stacks with floors",
     "stacks with a floor on a channel without pairs",
@@ -64,11 +65,6 @@ const MET: [&str; 30] = [
     "trials, not legal by a separation of 1 alone",
     "trials, legal by a search for paths",
     "trials, not legal by a search for paths",
-    "refusal 2 of a GAP line",
-    "refusal 2 of another line behind NETS",
-    "refusal 3 of a GAP line's channel",
-    "refusal 3 of a GAP line's floor",
-    "refusal 6 of a GAP line",
 ];
 
 /// Longer than every table.
@@ -175,23 +171,6 @@ fn page_tracks(stack: &Stack, answer: &solver::Answer, channel: usize) -> Vec<&'
         all.push("pages, an upright step below runs");
     }
     all
-}
-
-/// What is counted of a refusal at a line behind the last `NETS`.
-fn refused_gap(text: &[u8], r: Refusal) -> Option<&'static str> {
-    // A refusal behind the first line says that the first is good: its number is at byte 6.
-    if r.1 < 2 || r.1 <= 2 * (text[6] - b'0') as u32 + 2 {
-        return None;
-    }
-    let word = text.split(|b| *b == 10).nth(r.1 as usize - 1)?.split(|b| *b == 9).next()?;
-    match r {
-        (2, ..) if word == b"GAP" => Some("refusal 2 of a GAP line"),
-        (2, ..) => Some("refusal 2 of another line behind NETS"),
-        (3, _, 2) => Some("refusal 3 of a GAP line's channel"),
-        (3, _, 3) => Some("refusal 3 of a GAP line's floor"),
-        (6, _, 2) => Some("refusal 6 of a GAP line"),
-        _ => None,
-    }
 }
 
 /// The text of an accepted stack without its `GAP` lines, if it has any.
@@ -700,17 +679,7 @@ impl Run {
             }
             Err(r) => {
                 self.count("damaged texts, refused");
-                self.count(match r.0 {
-                    1 => "refusal 1",
-                    2 => "refusal 2",
-                    3 => "refusal 3",
-                    4 => "refusal 4",
-                    5 => "refusal 5",
-                    _ => "refusal 6",
-                });
-                if let Some(what) = refused_gap(text, *r) {
-                    self.count(what);
-                }
+                faults::met(text, *r).into_iter().for_each(|what| self.count(what));
                 self.table(text, &Err(*r))?;
                 self.refused(text, spread, *r)?;
                 self.count("pages, text refused");
@@ -840,6 +809,10 @@ fn check_specimens(run: &mut Run) {
         let checked = run.trial(&text, spread, &placement, Ok(due));
         expect(name, &text, checked);
     }
+    let odd = specimens::tabbed(&specimens::pairs(32)).replace("31\n", "31\t32\n").into_bytes();
+    run.count("specimens");
+    let checked = run.table(&odd, &Err((11, 4, 67)));
+    expect("65 terminals", &odd, checked);
     for (m, due) in [(32, Ok(b"TABLE\t1\nROW\t40\t0\t0\t0\t0\n".to_vec())), (33, Err((3, 4, 66)))] {
         let text = specimens::tabbed(&specimens::pairs(m)).into_bytes();
         run.count("specimens");
@@ -937,7 +910,7 @@ fn main() {
         println!("{:>9} {}", count, what);
     }
     let usual = counts.iter().zip(COUNTS).all(|(given, usual)| *given >= usual);
-    if let Some(what) = MET.iter().chain(&paths::MET).find(|what| usual && !run.counts.contains_key(*what)) {
+    if let Some(what) = MET.iter().chain(&paths::MET).chain(&faults::MET).find(|what| usual && !run.counts.contains_key(*what)) {
         println!("never met: {}", what);
         std::process::exit(1);
     }

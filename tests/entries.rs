@@ -151,11 +151,17 @@ fn bare(k: usize, length: u32) -> String {
     format!("STACK\t{}\n{}{}", k, format!("PART\t{}\n", length).repeat(k + 1), "NETS\n".repeat(k))
 }
 
-/// A line put in place of line n, from 1, of A.
+/// A line put in place of line n, from 1.
+fn put_line(text: &[u8], n: usize, line: &[u8]) -> Vec<u8> {
+    let mut lines: Vec<&[u8]> = text.split_inclusive(|b| *b == b'\n').collect();
+    let line = [line, b"\n"].concat();
+    lines[n - 1] = &line;
+    lines.concat()
+}
+
+/// A line put in place of line n of A.
 fn with_line(n: usize, line: &str) -> Vec<u8> {
-    let mut lines: Vec<&str> = A.lines().collect();
-    lines[n - 1] = line;
-    (lines.join("\n") + "\n").into_bytes()
+    put_line(A.as_bytes(), n, line.as_bytes())
 }
 
 fn with_byte(n: usize, line: &str, byte: u8) -> Vec<u8> {
@@ -177,6 +183,9 @@ fn gaps(floors: &[u32]) -> String {
     floors.iter().enumerate().map(|(i, floor)| format!("GAP\t{}\t{}\n", i + 1, floor)).collect()
 }
 
+/// A text with its name and its refusal: number, line and field.
+type Refused = (&'static str, Vec<u8>, Refusal);
+
 /// Lines behind A, of one channel: the first is line 5. Spaces stand for tabs.
 const BEHIND_A: [(&str, &str, Refusal); 43] = [
     ("another word", "GOP 1 1\n", (2, 5, 0)),
@@ -184,23 +193,23 @@ const BEHIND_A: [(&str, &str, Refusal); 43] = [
     ("a longer word", "GAPS 1 1\n", (2, 5, 0)),
     ("a shorter word", "GA 1 1\n", (2, 5, 0)),
     ("FIX", "FIX 4 NETS\n", (2, 5, 0)),
-    ("GAP alone", "GAP\n", (2, 5, 0)),
-    ("GAP with one number", "GAP 1\n", (2, 5, 0)),
-    ("GAP with three numbers", "GAP 1 1 1\n", (2, 5, 0)),
-    ("GAP with a tab behind", "GAP 1 1 \n", (2, 5, 0)),
+    ("GAP alone", "GAP\n", (11, 5, 2)),
+    ("GAP with one number", "GAP 1\n", (11, 5, 3)),
+    ("GAP with three numbers", "GAP 1 1 1\n", (11, 5, 4)),
+    ("GAP with a tab behind", "GAP 1 1 \n", (11, 5, 4)),
     ("GAP with a tab before", " GAP 1 1\n", (2, 5, 0)),
-    ("GAP with an empty channel", "GAP  1\n", (2, 5, 0)),
-    ("GAP with an empty floor", "GAP 1 \n", (2, 5, 0)),
-    ("GAP with two tabs", "GAP  \n", (2, 5, 0)),
-    ("channel with a leading zero", "GAP 01 1\n", (2, 5, 0)),
-    ("floor with a leading zero", "GAP 1 01\n", (2, 5, 0)),
-    ("floor 00", "GAP 1 00\n", (2, 5, 0)),
-    ("channel with five digits", "GAP 10000 1\n", (2, 5, 0)),
-    ("floor with five digits", "GAP 1 10000\n", (2, 5, 0)),
-    ("channel with a sign", "GAP +1 1\n", (2, 5, 0)),
-    ("floor below 0", "GAP 1 -1\n", (2, 5, 0)),
-    ("floor with a letter", "GAP 1 1x\n", (2, 5, 0)),
-    ("an empty line", "\n", (2, 5, 0)),
+    ("GAP with an empty channel", "GAP  1\n", (12, 5, 2)),
+    ("GAP with an empty floor", "GAP 1 \n", (12, 5, 3)),
+    ("GAP with two tabs", "GAP  \n", (12, 5, 2)),
+    ("channel with a leading zero", "GAP 01 1\n", (12, 5, 2)),
+    ("floor with a leading zero", "GAP 1 01\n", (12, 5, 3)),
+    ("floor 00", "GAP 1 00\n", (12, 5, 3)),
+    ("channel with five digits", "GAP 10000 1\n", (12, 5, 2)),
+    ("floor with five digits", "GAP 1 10000\n", (12, 5, 3)),
+    ("channel with a sign", "GAP +1 1\n", (12, 5, 2)),
+    ("floor below 0", "GAP 1 -1\n", (12, 5, 3)),
+    ("floor with a letter", "GAP 1 1x\n", (12, 5, 3)),
+    ("two empty lines", "\n\n", (2, 5, 0)),
     ("unended GAP", "GAP 1 1", (2, 5, 0)),
     ("unended word", "GAP", (2, 5, 0)),
     ("channel 0", "GAP 0 1\n", (3, 5, 2)),
@@ -210,13 +219,13 @@ const BEHIND_A: [(&str, &str, Refusal); 43] = [
     ("floor 9,999", "GAP 1 9999\n", (3, 5, 3)),
     ("channel before floor", "GAP 0 65\n", (3, 5, 2)),
     ("channel before floor", "GAP 2 9999\n", (3, 5, 2)),
-    ("layout before channel", "GAP 0\n", (2, 5, 0)),
-    ("layout before channel and floor", "GAP 0 065\n", (2, 5, 0)),
+    ("layout before channel", "GAP 0\n", (11, 5, 3)),
+    ("layout before channel and floor", "GAP 0 065\n", (12, 5, 3)),
     ("unended before channel and floor", "GAP 2 65", (2, 5, 0)),
     ("equal channels", "GAP 1 1\nGAP 1 1\n", (6, 6, 2)),
     ("equal channels, floors 0", "GAP 1 0\nGAP 1 0\n", (6, 6, 2)),
     ("floor before equal channels", "GAP 1 1\nGAP 1 65\n", (3, 6, 3)),
-    ("layout before equal channels", "GAP 1 1\nGAP 1\n", (2, 6, 0)),
+    ("layout before equal channels", "GAP 1 1\nGAP 1\n", (11, 6, 3)),
     ("equal channels before a later floor", "GAP 1 1\nGAP 1 1\nGAP 1 65\n", (6, 6, 2)),
     ("floor before a later line", "GAP 1 65\nNETS\n", (3, 5, 3)),
     ("NETS behind GAP", "GAP 1 1\nNETS\n", (2, 6, 0)),
@@ -237,12 +246,12 @@ const BEHIND_B: [(&str, &str, Refusal); 13] = [
     ("a third that does not rise", "GAP 1 1\nGAP 2 1\nGAP 2 0\n", (6, 9, 2)),
     ("a third that is none", "GAP 1 1\nGAP 2 1\nGAP 3 0\n", (3, 9, 2)),
     ("another word as a third", "GAP 1 1\nGAP 2 1\nROW 4\n", (2, 9, 0)),
-    ("layout before falling channels", "GAP 2\nGAP 1 1\n", (2, 7, 0)),
+    ("layout before falling channels", "GAP 2\nGAP 1 1\n", (11, 7, 3)),
     ("falling channels before layout", "GAP 2 1\nGAP 1 1\nGAP\n", (6, 8, 2)),
 ];
 
 /// Texts refused for a `GAP` line or where it stands, or before it for something else.
-fn refused_gaps() -> Vec<(&'static str, Vec<u8>, Refusal)> {
+fn refused_gaps() -> Vec<Refused> {
     let b = specimens::tabbed(specimens::TABLES[1].1);
     let behind = |text: &str, lines: &str| [text.as_bytes(), specimens::tabbed(lines).as_bytes()].concat();
     let mut all = Vec::new();
@@ -265,8 +274,11 @@ fn refused_gaps() -> Vec<(&'static str, Vec<u8>, Refusal)> {
     all.push(("8,192 bytes of GAP lines", many[..8192].to_vec(), (6, 6, 2)));
     all.push(("8,193 bytes of GAP lines", many[..8193].to_vec(), (1, 0, 0)));
     for (name, byte) in ODD_BYTES {
-        for line in ["?GAP\t1\t1", "GAP?\t1\t1", "GAP\t?\t1", "GAP\t1?\t1", "GAP\t1\t1?"] {
+        for line in ["?GAP\t1\t1", "GAP?\t1\t1"] {
             all.push((name, with_byte(4, &format!("NETS\n{}", line), byte), (2, 5, 0)));
+        }
+        for (line, field) in [("GAP\t?\t1", 2), ("GAP\t1?\t1", 2), ("GAP\t1\t1?", 3)] {
+            all.push((name, with_byte(4, &format!("NETS\n{}", line), byte), (12, 5, field)));
         }
     }
     all
@@ -274,8 +286,8 @@ fn refused_gaps() -> Vec<(&'static str, Vec<u8>, Refusal)> {
 
 const ODD_BYTES: [(&str, u8); 4] = [("byte 0", 0), ("byte 13", 13), ("byte 32", 32), ("byte 255", 255)];
 
-/// Texts that document 01 refuses: number, line and field.
-fn refused() -> Vec<(&'static str, Vec<u8>, Refusal)> {
+/// Texts that document 01 refuses, with P5's numbers for their layout.
+fn refused() -> Vec<Refused> {
     let mut all = vec![
         ("E: empty text", Vec::new(), (2, 1, 0)),
         ("F: length 0", with_line(2, "PART\t0"), (4, 2, 2)),
@@ -298,34 +310,34 @@ fn refused() -> Vec<(&'static str, Vec<u8>, Refusal)> {
         ("STACK with a letter more", with_line(1, "STACKS\t1"), (2, 1, 0)),
         ("STACK with a letter less", with_line(1, "STAC\t1"), (2, 1, 0)),
         ("STACK with a space", with_line(1, "STACK 1"), (2, 1, 0)),
-        ("STACK with two numbers", with_line(1, "STACK\t1\t1"), (2, 1, 0)),
-        ("STACK without a number", with_line(1, "STACK"), (2, 1, 0)),
-        ("STACK with an empty field", with_line(1, "STACK\t"), (2, 1, 0)),
-        ("STACK with a leading zero", with_line(1, "STACK\t01"), (2, 1, 0)),
-        ("STACK with five digits", with_line(1, "STACK\t10000"), (2, 1, 0)),
-        ("STACK with a sign", with_line(1, "STACK\t+1"), (2, 1, 0)),
+        ("STACK with two numbers", with_line(1, "STACK\t1\t1"), (11, 1, 3)),
+        ("STACK without a number", with_line(1, "STACK"), (11, 1, 2)),
+        ("STACK with an empty field", with_line(1, "STACK\t"), (12, 1, 2)),
+        ("STACK with a leading zero", with_line(1, "STACK\t01"), (12, 1, 2)),
+        ("STACK with five digits", with_line(1, "STACK\t10000"), (12, 1, 2)),
+        ("STACK with a sign", with_line(1, "STACK\t+1"), (12, 1, 2)),
         ("an empty line first", [b"\n", A.as_bytes()].concat(), (2, 1, 0)),
         ("PART for STACK", with_line(1, "PART\t1"), (2, 1, 0)),
         ("wrong word for PART", with_line(2, "PORT\t4"), (2, 2, 0)),
         ("NETS for PART", with_line(3, "NETS\t4"), (2, 3, 0)),
-        ("PART without a number", with_line(2, "PART"), (2, 2, 0)),
-        ("PART with an empty field", with_line(2, "PART\t"), (2, 2, 0)),
-        ("PART with two numbers", with_line(3, "PART\t4\t4"), (2, 3, 0)),
-        ("PART with a tab behind", with_line(2, "PART\t4\t"), (2, 2, 0)),
-        ("PART with two tabs", with_line(2, "PART\t\t4"), (2, 2, 0)),
-        ("PART with a leading zero", with_line(2, "PART\t04"), (2, 2, 0)),
-        ("PART with 00", with_line(2, "PART\t00"), (2, 2, 0)),
-        ("PART with five digits", with_line(3, "PART\t00004"), (2, 3, 0)),
+        ("PART without a number", with_line(2, "PART"), (11, 2, 2)),
+        ("PART with an empty field", with_line(2, "PART\t"), (12, 2, 2)),
+        ("PART with two numbers", with_line(3, "PART\t4\t4"), (11, 3, 3)),
+        ("PART with a tab behind", with_line(2, "PART\t4\t"), (11, 2, 3)),
+        ("PART with two tabs", with_line(2, "PART\t\t4"), (11, 2, 3)),
+        ("PART with a leading zero", with_line(2, "PART\t04"), (12, 2, 2)),
+        ("PART with 00", with_line(2, "PART\t00"), (12, 2, 2)),
+        ("PART with five digits", with_line(3, "PART\t00004"), (12, 3, 2)),
         ("PART with 9,999", with_line(2, "PART\t9999"), (4, 2, 2)),
         ("an empty line for PART", with_line(3, ""), (2, 3, 0)),
         ("a PART line less", b"STACK\t1\nPART\t4\nNETS\t0\t2\t2\t4\n".to_vec(), (2, 3, 0)),
         ("wrong word for NETS", with_line(4, "NET\t0\t2\t2\t4"), (2, 4, 0)),
-        ("NETS with an odd number of terminals", with_line(4, "NETS\t0\t2\t2"), (2, 4, 0)),
-        ("NETS with a tab alone", with_line(4, "NETS\t"), (2, 4, 0)),
-        ("NETS with an empty field", with_line(4, "NETS\t0\t\t2\t4"), (2, 4, 0)),
-        ("NETS with a tab behind", with_line(4, "NETS\t0\t2\t2\t4\t"), (2, 4, 0)),
-        ("NETS with a leading zero", with_line(4, "NETS\t0\t02\t2\t4"), (2, 4, 0)),
-        ("NETS with five digits", with_line(4, "NETS\t0\t2\t2\t40000"), (2, 4, 0)),
+        ("NETS with an odd number of terminals", with_line(4, "NETS\t0\t2\t2"), (11, 4, 5)),
+        ("NETS with a tab alone", with_line(4, "NETS\t"), (11, 4, 3)),
+        ("NETS with an empty field", with_line(4, "NETS\t0\t\t2\t4"), (12, 4, 3)),
+        ("NETS with a tab behind", with_line(4, "NETS\t0\t2\t2\t4\t"), (11, 4, 7)),
+        ("NETS with a leading zero", with_line(4, "NETS\t0\t02\t2\t4"), (12, 4, 3)),
+        ("NETS with five digits", with_line(4, "NETS\t0\t2\t2\t40000"), (12, 4, 5)),
         ("NETS: overhang on the lower strip", with_line(4, "NETS\t5\t2"), (5, 4, 2)),
         ("NETS: equal terminals below", with_line(4, "NETS\t0\t2\t0\t3"), (6, 4, 4)),
         ("NETS: equal terminals above", with_line(4, "NETS\t0\t2\t1\t2"), (6, 4, 5)),
@@ -340,23 +352,302 @@ fn refused() -> Vec<(&'static str, Vec<u8>, Refusal)> {
         ("crossing at an earlier field than overhang", with_line(4, "NETS\t3\t2\t2\t1\t9\t3"), (6, 4, 4)),
         ("overhang and crossing of one field", with_line(4, "NETS\t0\t4\t9\t3"), (5, 4, 4)),
         ("crossing, then overhang", with_line(4, "NETS\t0\t2\t0\t9"), (6, 4, 4)),
-        ("layout before overhang in a line", with_line(4, "NETS\t9\t9\t9"), (2, 4, 0)),
+        ("layout before overhang in a line", with_line(4, "NETS\t9\t9\t9"), (11, 4, 5)),
         ("length before a later layout", [&with_line(2, "PART\t0")[..A.len() - 5], b"x"].concat(), (4, 2, 2)),
         ("NETS fault before the extra line", [&with_line(4, "NETS\t0\t5")[..], b"NETS\n"].concat(), (5, 4, 3)),
         ("crowd before length", b"STACK\t9\nPART\t0\n".to_vec(), (3, 1, 2)),
-        ("layout of STACK before crowd", b"STACK\t9\t1\n".to_vec(), (2, 1, 0)),
+        ("layout of STACK before crowd", b"STACK\t9\t1\n".to_vec(), (11, 1, 3)),
         ("fault of the second channel", b"STACK\t2\nPART\t4\nPART\t4\nPART\t2\nNETS\t0\t4\nNETS\t4\t3\n".to_vec(), (5, 6, 3)),
         ("eight channels, one PART less", format!("STACK\t8\n{}{}", "PART\t1\n".repeat(8), "NETS\n".repeat(8)).into_bytes(), (2, 10, 0)),
         ("eight channels, an extra line", (bare(8, 1) + "NETS\n").into_bytes(), (2, 19, 0)),
     ];
     for (name, byte) in ODD_BYTES {
-        all.push((name, with_byte(1, "STACK\t1?", byte), (2, 1, 0)));
+        all.push((name, with_byte(1, "STACK\t1?", byte), (12, 1, 2)));
         all.push((name, with_byte(1, "STAC?\t1", byte), (2, 1, 0)));
-        all.push((name, with_byte(2, "PART\t4?", byte), (2, 2, 0)));
+        all.push((name, with_byte(2, "PART\t4?", byte), (12, 2, 2)));
         all.push((name, with_byte(3, "PAR?\t4", byte), (2, 3, 0)));
-        all.push((name, with_byte(4, "NETS\t0\t2\t2\t?", byte), (2, 4, 0)));
+        all.push((name, with_byte(4, "NETS\t0\t2\t2\t?", byte), (12, 4, 5)));
         all.push((name, with_byte(4, "?NETS", byte), (2, 4, 0)));
     }
+    all
+}
+
+/// B with floors, an accepted text with a line of each kind: `STACK` is line 1, `PART` lines 2 to 4, `NETS` 5 and 6, `GAP` 7 and 8.
+fn floored_b() -> Vec<u8> {
+    let b = specimens::TABLES.iter().find(|s| s.0 == "B, floors 2 and 5").expect("B with floors");
+    specimens::tabbed(b.1).into_bytes()
+}
+
+/// By word: numbers of fields that a line may not have, each with the first field that is missing or extra.
+const WRONG_COUNTS: [(&str, &[(usize, u32)]); 4] = [
+    ("STACK", &[(1, 2), (3, 3), (4, 3), (67, 3)]),
+    ("PART", &[(1, 2), (3, 3), (4, 3), (67, 3)]),
+    ("NETS", &[(2, 3), (4, 5), (6, 7), (64, 65), (66, 67), (68, 69), (2000, 2001)]),
+    ("GAP", &[(1, 2), (2, 3), (4, 4), (5, 4), (68, 4)]),
+];
+
+/// Every line of B with floors with every wrong count of fields: good numbers, empty fields and other ill-formed numbers behind the word.
+fn refused_counts() -> Vec<Refused> {
+    let text = floored_b();
+    let mut all = Vec::new();
+    for (n, line) in (1..).zip(text.split(|b| *b == b'\n')) {
+        let counts = WRONG_COUNTS.iter().filter(|w| line.starts_with(w.0.as_bytes())).flat_map(|w| w.1.iter().map(|c| (w.0, c)));
+        for (word, (fields, due)) in counts {
+            for number in ["1", "", "x", "01"] {
+                let line = word.to_string() + &format!("\t{}", number).repeat(fields - 1);
+                all.push(("a wrong count of fields", put_line(&text, n, line.as_bytes()), (11, n as u32, *due)));
+                if *fields == 1 {
+                    break;
+                }
+            }
+        }
+    }
+    all
+}
+
+/// Numbers that are ill-formed. 2^32 + 1 and 2^16 + 1 would be 1 if they were cut to 32 or 16 bits.
+const ILL_FORMED: [(&str, &[u8]); 22] = [
+    ("an empty number", b""),
+    ("a leading zero", b"01"),
+    ("00", b"00"),
+    ("0000", b"0000"),
+    ("five digits", b"10000"),
+    ("five zeros", b"00000"),
+    ("a plus", b"+1"),
+    ("a minus", b"-1"),
+    ("a space before", b" 1"),
+    ("a space behind", b"1 "),
+    ("a space alone", b" "),
+    ("a letter", b"x"),
+    ("a letter behind a digit", b"1x"),
+    ("a point", b"1.0"),
+    ("byte 0 alone", b"\0"),
+    ("byte 0 behind", b"1\0"),
+    ("byte 13 behind", b"1\r"),
+    ("byte 255", b"1\xff"),
+    ("2^32 + 1", b"4294967297"),
+    ("2^16 + 1", b"65537"),
+    ("the byte before the digits", b"/"),
+    ("the byte behind the digits", b":"),
+];
+
+/// Every number of B with floors ill-formed in every way.
+fn refused_numbers() -> Vec<Refused> {
+    let text = floored_b();
+    let mut all = Vec::new();
+    for (n, line) in (1..).zip(text.split(|b| *b == b'\n')) {
+        let fields: Vec<&[u8]> = line.split(|b| *b == b'\t').collect();
+        for place in 1..fields.len() {
+            for (name, number) in ILL_FORMED {
+                let mut fields = fields.clone();
+                fields[place] = number;
+                all.push((name, put_line(&text, n, &fields.join(&b'\t')), (12, n as u32, place as u32 + 1)));
+            }
+        }
+    }
+    all
+}
+
+/// So many terminals, the ill-formed fields among them, and the refusal's number and field.
+const MANY_TERMINALS: [(usize, &[usize], u32, u32); 25] = [
+    (1, &[], 11, 3),
+    (1, &[2], 11, 3),
+    (3, &[], 11, 5),
+    (3, &[4], 11, 5),
+    (63, &[], 11, 65),
+    (63, &[64], 11, 65),
+    (64, &[2], 12, 2),
+    (64, &[33], 12, 33),
+    (64, &[65], 12, 65),
+    (65, &[], 11, 67),
+    (65, &[2], 11, 67),
+    (65, &[66], 11, 67),
+    (66, &[], 3, 66),
+    (66, &[2], 12, 2),
+    (66, &[65], 12, 65),
+    (66, &[66], 12, 66),
+    (66, &[67], 12, 67),
+    (67, &[], 11, 69),
+    (67, &[67], 11, 69),
+    (68, &[], 3, 66),
+    (68, &[66, 69], 12, 66),
+    (68, &[68, 69], 12, 68),
+    (999, &[2], 11, 1001),
+    (1000, &[1001], 12, 1001),
+    (1000, &[], 3, 66),
+];
+
+/// Channels with about the greatest number of terminals, or more: first the count of fields, then the numbers, then the crowd. None is within its strip.
+fn refused_terminals() -> Vec<Refused> {
+    let mut all = Vec::new();
+    for n in [5, 6] {
+        for (terminals, ill_formed, number, field) in MANY_TERMINALS {
+            let numbers = (2..terminals + 2).map(|field| if ill_formed.contains(&field) { "\t-" } else { "\t9" });
+            let line = "NETS".to_string() + &numbers.collect::<String>();
+            all.push(("many terminals", put_line(&floored_b(), n, line.as_bytes()), (number, n as u32, field)));
+        }
+    }
+    all
+}
+
+/// Lines in place of some of B with floors, by number. Spaces stand for tabs.
+type Changes = &'static [(usize, &'static str)];
+
+/// A line in place of one of B with floors, with faults of layout and others at once. Spaces stand for tabs.
+const IN_ONE_LINE: [(&str, usize, &str, Refusal); 59] = [
+    ("word before count and number", 1, "STOCK x 2", (2, 1, 0)),
+    ("word before count and number", 2, "PORT x x", (2, 2, 0)),
+    ("word before count", 3, "PARTS", (2, 3, 0)),
+    ("word before number and length", 4, "part 00", (2, 4, 0)),
+    ("word before count and number", 5, "NET 0 x 2", (2, 5, 0)),
+    ("word before count, number and crossing", 6, "NETZ 0 x 0", (2, 6, 0)),
+    ("word before count", 7, "GAPS 1", (2, 7, 0)),
+    ("word before number and floor", 8, "gap x 65", (2, 8, 0)),
+    ("the word of another line before its count", 4, "NETS 0", (2, 4, 0)),
+    ("the word of another line before its number", 5, "PART x", (2, 5, 0)),
+    ("the word of another line before its count", 6, "GAP 1", (2, 6, 0)),
+    ("a tab before the word", 1, " STACK 2", (2, 1, 0)),
+    ("a tab before the word", 5, " NETS 0 2 2", (2, 5, 0)),
+    ("a tab alone", 6, " ", (2, 6, 0)),
+    ("a tab alone", 7, " ", (2, 7, 0)),
+    ("a doubled tab", 1, "STACK  2", (11, 1, 3)),
+    ("a doubled tab", 3, "PART  4", (11, 3, 3)),
+    ("a doubled tab behind the word", 5, "NETS  0 2 2 4", (11, 5, 7)),
+    ("a doubled tab in the middle", 6, "NETS 0 2  2 4", (11, 6, 7)),
+    ("two doubled tabs", 5, "NETS 0  2  2 4", (12, 5, 3)),
+    ("a doubled tab behind the word", 7, "GAP  1 2", (11, 7, 4)),
+    ("a doubled tab in the middle", 8, "GAP 2  5", (11, 8, 4)),
+    ("a tab behind", 1, "STACK 2 ", (11, 1, 3)),
+    ("a tab behind", 4, "PART 4 ", (11, 4, 3)),
+    ("a tab behind", 6, "NETS 0 2 2 4 ", (11, 6, 7)),
+    ("two tabs behind", 6, "NETS 0 2 2 4  ", (12, 6, 6)),
+    ("three tabs behind", 6, "NETS 0 2 2 4   ", (11, 6, 9)),
+    ("two tabs alone", 5, "NETS  ", (12, 5, 2)),
+    ("a tab behind", 7, "GAP 1 2 ", (11, 7, 4)),
+    ("a tab for the floor", 7, "GAP 3 ", (12, 7, 3)),
+    ("count before number and crowd", 1, "STACK 09 9", (11, 1, 3)),
+    ("count before crowd", 1, "STACK 0 ", (11, 1, 3)),
+    ("number before crowd", 1, "STACK 009", (12, 1, 2)),
+    ("count before number and length", 2, "PART 0 x", (11, 2, 3)),
+    ("count before length", 3, "PART 1001 4", (11, 3, 3)),
+    ("number before length", 4, "PART 01001", (12, 4, 2)),
+    ("number before length", 4, "PART 0x", (12, 4, 2)),
+    ("count before overhang", 5, "NETS 9 2 2", (11, 5, 5)),
+    ("count before crossing", 5, "NETS 0 2 0", (11, 5, 5)),
+    ("count before number and overhang", 6, "NETS 9 x 2", (11, 6, 5)),
+    ("number before overhang further left", 5, "NETS 9 2 x 4", (12, 5, 4)),
+    ("number before overhang next to it", 6, "NETS 0 2 9 x", (12, 6, 5)),
+    ("number before overhang further right", 6, "NETS x 9 2 4", (12, 6, 2)),
+    ("number before crossing further left", 5, "NETS 0 2 0 x", (12, 5, 5)),
+    ("number before crossing and overhang", 6, "NETS 2 0 2 0 9 x", (12, 6, 7)),
+    ("number before crossing further right", 6, "NETS 0 x 0 4", (12, 6, 3)),
+    ("the left one of two numbers", 5, "NETS 0 x 2 y", (12, 5, 3)),
+    ("the left one of two numbers", 6, "NETS x 2 2 ", (12, 6, 2)),
+    ("the left one of four numbers", 6, "NETS 00 01 -1 x", (12, 6, 2)),
+    ("the left one of two numbers", 7, "GAP 01 01", (12, 7, 2)),
+    ("count before channel", 7, "GAP 3", (11, 7, 3)),
+    ("count before channel, floor and number", 7, "GAP 0 65 x", (11, 7, 4)),
+    ("number before channel", 7, "GAP 0 x", (12, 7, 3)),
+    ("number before floor", 7, "GAP x 65", (12, 7, 2)),
+    ("count before channel behind another", 8, "GAP 0", (11, 8, 3)),
+    ("count before crossing and floor", 8, "GAP 1 65 1", (11, 8, 4)),
+    ("number before crossing", 8, "GAP 1 ", (12, 8, 3)),
+    ("number before crossing and floor", 8, "GAP 1 065", (12, 8, 3)),
+    ("number before channel behind another", 8, "GAP 0 05", (12, 8, 3)),
+];
+
+/// Faults of several lines at once: that of the first line is given.
+const IN_SEVERAL_LINES: [(&str, Changes, Refusal); 38] = [
+    ("12 before 2", &[(1, "STACK 02"), (2, "PORT 4")], (12, 1, 2)),
+    ("12 before 2", &[(2, "PART x"), (3, "PORT 4")], (12, 2, 2)),
+    ("12 before 2", &[(4, "PART "), (5, "NET")], (12, 4, 2)),
+    ("12 before 2", &[(5, "NETS 0 x"), (6, "")], (12, 5, 3)),
+    ("12 before 2", &[(7, "GAP 1 x"), (8, "ROW 4")], (12, 7, 3)),
+    ("11 before 2", &[(1, "STACK"), (2, "PORT 4")], (11, 1, 2)),
+    ("11 before 2", &[(3, "PART 4 4"), (4, "NETS")], (11, 3, 3)),
+    ("11 before 2", &[(6, "NETS 0"), (7, "NETS")], (11, 6, 3)),
+    ("11 before 2", &[(7, "GAP"), (8, "GOP 2 5")], (11, 7, 2)),
+    ("2 before 11", &[(1, "STACKS"), (2, "PART")], (2, 1, 0)),
+    ("2 before 11", &[(5, "NET"), (6, "NETS 0")], (2, 5, 0)),
+    ("2 before 12", &[(2, "PORT 4"), (3, "PART x")], (2, 2, 0)),
+    ("2 before 12", &[(6, "PART 4"), (7, "GAP x 1")], (2, 6, 0)),
+    ("11 before 12", &[(2, "PART"), (3, "PART x")], (11, 2, 2)),
+    ("12 before 11", &[(2, "PART x"), (3, "PART")], (12, 2, 2)),
+    ("12 before 11", &[(5, "NETS 0 2 2 04"), (6, "NETS 0")], (12, 5, 5)),
+    ("11 before 11", &[(5, "NETS 0 2 2"), (6, "NETS 0")], (11, 5, 5)),
+    ("12 before 12", &[(6, "NETS 0 2 x 4"), (7, "GAP x 1")], (12, 6, 4)),
+    ("11 before 3, 4, 5 and 6", &[(1, "STACK 9 9"), (2, "PART 0"), (5, "NETS 9 9"), (6, "NETS 0 0 0 0")], (11, 1, 3)),
+    ("11 before 4", &[(2, "PART 4 4"), (3, "PART 0")], (11, 2, 3)),
+    ("12 before 4", &[(2, "PART x"), (3, "PART 0")], (12, 2, 2)),
+    ("11 before 5", &[(5, "NETS 0"), (6, "NETS 9 9")], (11, 5, 3)),
+    ("12 before 6", &[(5, "NETS 0 x"), (6, "NETS 0 2 0 4")], (12, 5, 3)),
+    ("11 before 3", &[(7, "GAP 1"), (8, "GAP 3 65")], (11, 7, 3)),
+    ("3 before 11", &[(1, "STACK 9"), (2, "PART")], (3, 1, 2)),
+    ("3 before 12", &[(1, "STACK 0"), (2, "PART x")], (3, 1, 2)),
+    ("4 before 11", &[(2, "PART 0"), (3, "PART")], (4, 2, 2)),
+    ("4 before 12", &[(3, "PART 1001"), (4, "PART x")], (4, 3, 2)),
+    ("4 before 11 of another word", &[(4, "PART 0"), (5, "NETS 0")], (4, 4, 2)),
+    ("5 before 11", &[(5, "NETS 0 5"), (6, "NETS 0")], (5, 5, 3)),
+    ("5 before 12", &[(6, "NETS 5 0"), (7, "GAP 1 x")], (5, 6, 2)),
+    ("6 before 11", &[(5, "NETS 0 2 0 4"), (6, "NETS 0 2 2")], (6, 5, 4)),
+    ("3 of a channel before 11", &[(7, "GAP 3 1"), (8, "GAP")], (3, 7, 2)),
+    ("3 of a floor before 12", &[(7, "GAP 1 65"), (8, "GAP 2 x")], (3, 7, 3)),
+    ("6 of a GAP line before 11", &[(8, "GAP 1 1\nGAP 2")], (6, 8, 2)),
+    ("an extra line before its count and number", &[(8, "GAP 2 5\nNETS x")], (2, 9, 0)),
+    ("a third GAP line: 11 before 6", &[(8, "GAP 2 5\nGAP 2")], (11, 9, 3)),
+    ("a third GAP line: 12 before 3", &[(8, "GAP 2 5\nGAP x 65")], (12, 9, 2)),
+];
+
+/// Lines of B with floors at which the text ends without a line feed: other faults of the line come behind that. Spaces stand for tabs.
+const UNENDED: [(usize, &str); 12] = [
+    (1, "STACK  "),
+    (1, "STACK 2 2"),
+    (1, "STACK x"),
+    (2, "PART "),
+    (4, "PART 4 x"),
+    (5, "NETS 0"),
+    (5, "NETS "),
+    (6, "NETS 0 2 2 x"),
+    (6, "NETS 9 2 x"),
+    (7, "GAP 1"),
+    (7, "GAP 1 x"),
+    (8, "GAP 1 1 1"),
+];
+
+/// Texts of about the greatest length with a fault of layout in their first line.
+fn refused_long() -> Vec<Refused> {
+    let long = |line: &str, bytes: usize| [line.as_bytes(), &vec![b'\n'; bytes - line.len()]].concat();
+    let fields = |bytes: usize| "STACK".to_string() + &"\t1".repeat((bytes - 6) / 2);
+    vec![
+        ("8,192 bytes behind an ill-formed number", long("STACK\tx", 8192), (12, 1, 2)),
+        ("overlong before an ill-formed number", long("STACK\tx", 8193), (1, 0, 0)),
+        ("8,192 bytes behind a missing number", long("STACK", 8192), (11, 1, 2)),
+        ("overlong before a missing number", long("STACK", 8193), (1, 0, 0)),
+        ("8,192 bytes of numbers in one line", long(&fields(8192), 8192), (11, 1, 3)),
+        ("8,194 bytes of numbers in one line", long(&fields(8194), 8194), (1, 0, 0)),
+        ("8,191 bytes of an unended line", fields(8192).into_bytes(), (2, 1, 0)),
+    ]
+}
+
+/// Texts refused for their layout by P5, or before it or behind it for something else.
+fn refused_layout() -> Vec<Refused> {
+    let text = floored_b();
+    let put = |text: &[u8], n: usize, line: &str| put_line(text, n, specimens::tabbed(line).as_bytes());
+    let mut all = [refused_counts(), refused_numbers(), refused_terminals(), refused_long()].concat();
+    all.extend(IN_ONE_LINE.map(|(name, n, line, due)| (name, put(&text, n, line), due)));
+    for (name, changes, due) in IN_SEVERAL_LINES {
+        all.push((name, changes.iter().fold(text.clone(), |text, (n, line)| put(&text, *n, line)), due));
+    }
+    for (n, line) in UNENDED {
+        let before = text.split_inclusive(|b| *b == b'\n').take(n - 1);
+        let line = specimens::tabbed(line).into_bytes();
+        all.push(("unended before its count and numbers", before.chain([&line[..]]).collect::<Vec<_>>().concat(), (2, n as u32, 0)));
+    }
+    let crowded = put(&text, 5, &("NETS".to_string() + &" 0 0".repeat(33)));
+    all.push(("3 of a channel before 11", put(&crowded, 6, "NETS 0"), (3, 5, 66)));
+    all.push(("3 of a channel before 12", put(&crowded, 6, "NETS x 0"), (3, 5, 66)));
+    all.push(("11 before a missing line", b"STACK\t2\nPART\n".to_vec(), (11, 2, 2)));
+    all.push(("12 before a missing line", b"STACK\t2\nPART\t04\n".to_vec(), (12, 2, 2)));
     all
 }
 
@@ -746,6 +1037,7 @@ fn check_page_refusals() {
 fn main() {
     let (mut refused, accepted) = (refused(), accepted());
     refused.extend(refused_gaps());
+    refused.extend(refused_layout());
     for (name, text, due) in &refused {
         check_refused(name, text, *due);
     }
@@ -766,9 +1058,12 @@ fn main() {
     check_pages();
     check_tall_pages();
     check_page_refusals();
+    let [counts, numbers] = [11, 12].map(|number| refused.iter().filter(|r| r.2 .0 == number).count());
     println!(
-        "entries: {} refused texts, {} tables, totals, placements, trials and pages of the specimens: no difference",
+        "entries: {} refused texts, {} of them as 11 and {} as 12, {} tables, totals, placements, trials and pages of the specimens: no difference",
         refused.len(),
+        counts,
+        numbers,
         accepted.len()
     );
 }

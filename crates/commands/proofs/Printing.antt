@@ -1,4 +1,4 @@
--- The laws of what is printed, and of the status that goes with it: a line put is printed where there is space for it, a refusal stands for any text, and then
+-- The laws of what is printed, of the status and the words that go with it: a line put is printed where there is space for it, a refusal stands for any text, and then
 -- the table, the page, the total, the row and the verdict, each where it is accepted and where it is refused. Assumes nothing.
 use mathlib.Core.Path.{_≡_, refl, sym, ap, _∙_}
 use mathlib.Core.Bool.{Bool, true, false}
@@ -15,7 +15,7 @@ use Rattle.stack.specs.Stack.{Stack, Row, Rows-are, Answer, sum}
 use Rattle.stack.proofs.Within.{few-channels, stack-channels}
 use Rattle.text.specs.Text.{Refusal, refusal, fine, text-refusal, stack-in}
 use Rattle.text.specs.Outcome.{number-of, refusal-of, is-accepted}
-use Rattle.text.specs.Driver.{Stack-read}
+use Rattle.reading.specs.Driver.{Stack-read}
 use Rattle.text.specs.declared.Refused.{Refused as Refused-struct}
 use Rattle.text.specs.declared.Outcome.{Outcome}
 use Rattle.text.specs.declared.Outcome.the-variants.{Accepted, Refused}
@@ -26,6 +26,7 @@ use Rattle.writing.specs.Output.{over, fitted, written, line-bytes, Line-put, r
 use Rattle.trial.specs.Legal.{is-legal}
 use Rattle.answer.proofs.Alone.{legal-lengths}
 use Rattle.page.specs.Page.{channel-page}
+use Rattle.complaint.specs.Complaint.{complaint}
 use Rattle.nabetsu.specs.Pages.{page-refusal, Paged, Page-says}
 use Rattle.reply.specs.Told.{table-told}
 use Rattle.nabetsu.specs.Entry.{spread-refusal, total-told, Totalled, Total-says, placed-is, Placed-for, placed, unmet, Placed-or, Placement-says, Fits, Tabled, Table-says, Trial-says}
@@ -40,13 +41,14 @@ use Rattle.commands.specs.Output.{Printed, unless-refused, status-of, Re
 use Rattle.commands.specs.declared.Reply.{Reply}
 
 -- what is printed is as long as the part of the output that is written
-pub printed-counts : {t out : List ℕ} {s : ℕ} {r : Reply} → Printed t s out r → r .length ≡ length (take (r .length) out)
+pub printed-counts : {f : Refusal} {t out : List ℕ} {s : ℕ} {r : Reply} → Printed f t s out r → r .length ≡ length (take (r .length) out)
 printed-counts p = rw (p .stands) (p .counted)
 
 -- A LINE put where there is space for it
-pub put-printed : {t before after : List ℕ} {n : ℕ} (s : ℕ) → line-bytes ≤ length before → Line-put t before after n → Printed t s after (record { length = n; status = s })
+pub put-printed : {t before after : List ℕ} {n : ℕ} (s : ℕ) (o : Outcome) → line-bytes ≤ length before → Line-put t before after n →
+    Printed (refusal-of o) t s after (record { length = n; status = s; outcome = o })
 unfolding written fitted over
-put-printed {t} {before} {after} s h p =
+put-printed {t} {before} {after} s o h p =
     let short : length t ≤ length before = omega (arith, p .counted, p .few) in
     let e : after ≡ t ++ drop (length t) before = p .stands ∙ rw (le-leb (length t) (length before) short) in
     record {
@@ -54,23 +56,38 @@ put-printed {t} {before} {after} s h p =
       within = rw (p .counted, e, length-append) (omega arith);
       stands = rw (p .counted, e) (take-append-seam t (drop (length t) before));
       with-status = refl;
+      in-words = refl;
     }
 
 -- WHAT IS WRITTEN already
-written-printed : (out : List ℕ) (n s : ℕ) → n ≤ length out → Printed (take n out) s out (record { length = n; status = s })
-written-printed out n s h = record { counted = sym (length-take-le n out h); within = h; stands = refl; with-status = refl }
+written-printed : (out : List ℕ) (n s : ℕ) (o : Outcome) → n ≤ length out → Printed (refusal-of o) (take n out) s out (record { length = n; status = s; outcome = o })
+written-printed out n s o h = record { counted = sym (length-take-le n out h); within = h; stands = refl; with-status = refl; in-words = refl }
+
+-- NO WORDS where nothing is refused
+no-words : (f : Refusal) → f .number ≡ 0 → complaint f ≡ []
+unfolding complaint
+no-words f h = rw (eq-eqb (f .number) 0 h)
+
+same-words : {f : Refusal} {t out : List ℕ} {s : ℕ} {r : Reply} (g : Refusal) → f .number ≡ 0 → g .number ≡ 0 → Printed f t s out r → Printed g t s out r
+same-words {f} g a b p = record {
+  counted = p .counted;
+  within = p .within;
+  stands = p .stands;
+  with-status = p .with-status;
+  in-words = p .in-words ∙ (no-words f a ∙ sym (no-words g b));
+}
 
 -- A REFUSAL
 module _ (f : Refusal) (t out : List ℕ) (r : Reply) where
-  accepted-replied : f .number ≡ 0 → Printed t 0 out r → Replied f t out r
+  accepted-replied : f .number ≡ 0 → Printed f t 0 out r → Replied f t out r
   unfolding unless-refused status-of
   accepted-replied h p = rw (eq-eqb (f .number) 0 h) p
 
-  replied-accepted : f .number ≡ 0 → Replied f t out r → Printed t 0 out r
+  replied-accepted : f .number ≡ 0 → Replied f t out r → Printed f t 0 out r
   unfolding unless-refused status-of
   replied-accepted h p = rw (eq-eqb (f .number) 0 h) at p
 
-  refused-replied : (f .number ≡ 0 → ⊥) → Printed (refusal-text (f .number) (f .line) (f .field)) 1 out r → Replied f t out r
+  refused-replied : (f .number ≡ 0 → ⊥) → Printed f (refusal-text (f .number) (f .line) (f .field)) 1 out r → Replied f t out r
   unfolding unless-refused status-of
   refused-replied h p = rw (ne-eqb (f .number) 0 h) p
 
@@ -81,14 +98,15 @@ module _ (f : Refusal) (t out : List ℕ) (r : Reply) where
       let same : unless-refused f u ≡ unless-refused f t = rw (ne-eqb (f .number) 0 h) in
       rw same at p
 
-pub outcome-accepted : (o : Outcome) (out : List ℕ) (n : ℕ) → n ≤ length out → o ≡ Accepted → Replied (refusal-of o) (take n out) out (record { length = n; status = 0 })
+pub outcome-accepted : (o : Outcome) (out : List ℕ) (n : ℕ) → n ≤ length out → o ≡ Accepted → Replied (refusal-of o) (take n out) out (record { length = n; status = 0; outcome = o })
 unfolding fine refusal
-outcome-accepted o out n h e = rw e (accepted-replied fine (take n out) out _ refl (written-printed out n 0 h))
+outcome-accepted o out n h e = accepted-replied (refusal-of o) (take n out) out _ (rw e) (written-printed out n 0 o h)
 
-pub outcome-refused : {out : List ℕ} {r : Reply} (t : List ℕ) (o : Outcome) (w : Refused-struct) → o ≡ Refused w → Printed (refusal-text (number-of (w .why)) (w .line) (w .field)) 1 out r →
-    Replied (refusal-of o) t out r
+pub outcome-refused : {before after : List ℕ} {n m : ℕ} (t : List ℕ) (o : Outcome) (w : Refused-struct) → o ≡ Refused w → m ≡ number-of (w .why) → line-bytes ≤ length before →
+    Line-put (refusal-text m (w .line) (w .field)) before after n → Replied (refusal-of o) t after (record { length = n; status = 1; outcome = Refused w })
 unfolding refusal
-outcome-refused {out} {r} t o w e p = rw e (refused-replied (refusal-of (Refused w)) t out r (refused-number (Refused w) refl) p)
+outcome-refused t o w e same h p =
+    refused-replied (refusal-of o) t _ _ (rw e (refused-number (Refused w) refl)) (rw e (put-printed 1 (Refused w) h (rw same at p)))
 
 -- no outcome is accepted and refused
 accepted-number : (o : Outcome) → is-accepted o ≡ true → refusal-of o .number ≡ 0
@@ -123,7 +141,7 @@ module _ (t : List ℕ) (a : TableAnswer) (o x : List ℕ) where
     unfolding table-told
     settled-replied enough out r (fits z p) q =
         let e : take (a .written) x ≡ t = fits-stands (leb (length t) (length o)) p (enough z) in
-        accepted-replied f t out r z (replied-accepted (refusal-of (a .outcome)) t out r (enough z) (rw e at q))
+        accepted-replied f t out r z (same-words f (enough z) z (replied-accepted (refusal-of (a .outcome)) t out r (enough z) (rw e at q)))
     settled-replied enough out r (sent-back n p) q = refused-any f t out r (take (a .written) x) n (rw (p .0) at q)
 
 -- THE TABLE
@@ -203,7 +221,7 @@ module _ (bs : List ℕ) (s : ℕ) (a : TotalAnswer) (says : Total-says bs s a) 
   total-refused h p =
       record { answer = a; says = says; printed = rw (← total-outcome) (refused-any (refusal-of (a .outcome)) _ out r [] (refused-number (a .outcome) h) p) }
 
-  pub total-accepted : is-accepted (a .outcome) ≡ true → Printed (total-text (a .total .0)) 0 out r → Total-printed bs s out r
+  pub total-accepted : is-accepted (a .outcome) ≡ true → Printed (refusal-of (a .outcome)) (total-text (a .total .0)) 0 out r → Total-printed bs s out r
   total-accepted h p =
       record { answer = a; says = says; printed = rw (← total-outcome) (accepted-replied (refusal-of (a .outcome)) _ out r (accepted-number (a .outcome) h) p) }
 
@@ -243,7 +261,8 @@ module _ (bs : List ℕ) (s v : ℕ) (a : PlacementAnswer) (says : Placement-say
     pub row-asked : Row-asks (g .stack .count) v (a .separations)
     row-asked = record { channels = few-channels (g .stack) (d .within); added = rw count (in-row .1) }
 
-    pub placement-accepted : (out : List ℕ) (r : Reply) → Printed (row-text (row-of (g .stack .count) s (a .separations) (a .positions))) 0 out r → Placement-printed bs s v out r
+    pub placement-accepted : (out : List ℕ) (r : Reply) →
+        Printed (refusal-of (a .outcome)) (row-text (row-of (g .stack .count) s (a .separations) (a .positions))) 0 out r → Placement-printed bs s v out r
     placement-accepted out r p =
         record { answer = a; says = says; printed = accepted-replied (refusal-of (a .outcome)) _ out r (accepted-number (a .outcome) accepted) (rw count at p) }
 
@@ -267,7 +286,8 @@ module _ (bs : List ℕ) (s : ℕ) (t : TotalAnswer) (says : Total-says bs s t) 
 
 -- A TRIAL
 module _ (bs : List ℕ) (g : Reading) (d : Stack-read bs g) (n : ℕ) (vs out : List ℕ) where
-  pub trial-refused : (r : Reply) → is-accepted (g .outcome) ≡ false → Replied (refusal-of (g .outcome)) [] out r → Printed (trial-text bs n vs) (trial-status bs n) out r
+  pub trial-refused : (r : Reply) → is-accepted (g .outcome) ≡ false → Replied (refusal-of (g .outcome)) [] out r →
+      Printed (text-refusal bs) (trial-text bs n vs) (trial-status bs n) out r
   unfolding trial-text trial-status unless-refused status-of
   trial-refused r h p =
       let some : eqb (text-refusal bs .number) 0 ≡ false = ne-eqb _ 0 (λ z. refused-number (g .outcome) h (ap (λ (f : Refusal). f .number) (d .outcome) ∙ z)) in
@@ -280,18 +300,19 @@ module _ (bs : List ℕ) (g : Reading) (d : Stack-read bs g) (n : ℕ) (vs out :
     count-there : g .stack .count ≡ channels bs
     count-there = count-is bs g d fine-number
 
-    pub trial-misfit : (n ≡ 2 * g .stack .count + 2 → ⊥) → Printed (trial-text bs n vs) (trial-status bs n) out (record { length = 0; status = 2 })
+    pub trial-misfit : (n ≡ 2 * g .stack .count + 2 → ⊥) →
+        Printed (text-refusal bs) (trial-text bs n vs) (trial-status bs n) out (record { length = 0; status = 2; outcome = g .outcome })
     unfolding trial-text trial-status unless-refused
     trial-misfit h =
         let other : eqb n (2 * channels bs + 2) ≡ false = ne-eqb n (2 * channels bs + 2) (λ e. h (e ∙ rw count-there)) in
-        rw (eq-eqb (text-refusal bs .number) 0 fine-number, other) (written-printed out 0 2 (omega arith))
+        rw (eq-eqb (text-refusal bs .number) 0 fine-number, other, ← d .outcome) (written-printed out 0 2 (g .outcome) (omega arith))
 
     pub trial-verdict : (t : TrialAnswer) (ts xs : List ℕ) (r : Reply) → n ≡ 2 * g .stack .count + 2 → ts ≡ separations-in (g .stack .count) vs → xs ≡ positions-in (g .stack .count) vs →
-        Trial-says bs (getD vs 0 0) ts xs t → Printed (verdict-text (t .legal)) 0 out r → Printed (trial-text bs n vs) (trial-status bs n) out r
+        Trial-says bs (getD vs 0 0) ts xs t → Printed (refusal-of (g .outcome)) (verdict-text (t .legal)) 0 out r → Printed (text-refusal bs) (trial-text bs n vs) (trial-status bs n) out r
     unfolding trial-text trial-status unless-refused Trial-says
     trial-verdict t ts xs r e p q says printed =
         let fine-text : eqb (text-refusal bs .number) 0 ≡ true = eq-eqb (text-refusal bs .number) 0 fine-number in
         let fits : eqb n (2 * channels bs + 2) ≡ true = eq-eqb n (2 * channels bs + 2) (e ∙ rw count-there) in
         let verdict : t .legal ≡ is-legal (stack-in bs) (getD vs 0 0) (separations-in (channels bs) vs) (positions-in (channels bs) vs) =
         says .1 ∙ rw (fine-text, p, q, count-there) in
-        rw (fine-text, fits, ← verdict) printed
+        rw (fine-text, fits, ← verdict, ← d .outcome) printed

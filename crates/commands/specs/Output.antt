@@ -1,4 +1,5 @@
--- What is printed, a table, a total, a row, a page or a verdict, or the line of a refusal, and the exit status that goes with it. Assumes nothing: these are definitions.
+-- What is printed, a table, a total, a row, a page or a verdict, or the line of a refusal; the words that are said of a refusal; and the exit status. Assumes
+-- nothing: these are definitions.
 use mathlib.Core.Path.{_≡_}
 use mathlib.Core.Bool.{Bool, cond}
 use mathlib.Core.List.{List, [], _∷_}
@@ -13,6 +14,7 @@ use Rattle.writing.specs.TableText.{row-text, table-text, total-text, refusal-t
 use Rattle.writing.specs.Output.{row-of}
 use Rattle.trial.specs.Legal.{is-legal}
 use Rattle.page.specs.Page.{channel-page}
+use Rattle.complaint.specs.Complaint.{complaint}
 use Rattle.nabetsu.specs.Entry.{spread-refusal, Total-says, Placement-says}
 use Rattle.nabetsu.specs.Best.{Spread-says}
 use Rattle.nabetsu.specs.Pages.{page-refusal}
@@ -20,12 +22,13 @@ use Rattle.reply.specs.declared.PlacementAnswer.{PlacementAnswer}
 use Rattle.nabetsu.specs.declared.TotalAnswer.{TotalAnswer}
 use Rattle.commands.specs.declared.Reply.{Reply}
 
--- a text is the first bytes of an output, and a status goes with it
-pub record Printed (text : List ℕ) (status : ℕ) (output : List ℕ) (r : Reply) : Type 0 where
+-- a text is the first bytes of an output, a status goes with it, and the words for what is refused, none where nothing is
+pub record Printed (f : Refusal) (text : List ℕ) (status : ℕ) (output : List ℕ) (r : Reply) : Type 0 where
   pub counted : r .length ≡ length text
   pub within : r .length ≤ length output
   pub stands : take (r .length) output ≡ text
   pub with-status : r .status ≡ status
+  pub in-words : complaint (refusal-of (r .outcome)) ≡ complaint f
 
 -- a text, or where something is refused the refusal's line instead
 unfoldable pub unless-refused : Refusal → List ℕ → List ℕ
@@ -36,37 +39,37 @@ unfoldable pub status-of : Refusal → ℕ
 status-of f = cond (eqb (f .number) 0) 0 1
 
 abbrev pub Replied : Refusal → (text output : List ℕ) → Reply → Type 0
-Replied f t o r = Printed (unless-refused f t) (status-of f) o r
+Replied f t o r = Printed f (unless-refused f t) (status-of f) o r
 
 -- how many channels the stack in a text has
 abbrev pub channels : List ℕ → ℕ
 channels bs = length (stack-in bs .channels)
 
--- THE TABLE: 1 to 6, else the table of the stack's rows; the program's space is enough for every table, so 8 never happens
+-- THE TABLE: the refusal of the text, else the table of the stack's rows; the program's space is enough for every table, so 8 never happens
 pub record Table-printed (bs output : List ℕ) (r : Reply) : Type 0 where
   pub rows : List Row
   pub rows-are : text-refusal bs .number ≡ 0 → Rows-are (stack-in bs) rows
   pub printed : Replied (text-refusal bs) (table-text (channels bs) rows) output r
 
--- THE LEAST TOTAL: 1 to 7, else its digits
+-- THE LEAST TOTAL: that, then 7, else its digits
 pub record Total-printed (bs : List ℕ) (s : ℕ) (output : List ℕ) (r : Reply) : Type 0 where
   pub answer : TotalAnswer
   pub says : Total-says bs s answer
   pub printed : Replied (spread-refusal bs s) (total-text (answer .total .0)) output r
 
--- THE PLACEMENT FOR A TOTAL: 1 to 7 and 10, else its row
+-- THE PLACEMENT FOR A TOTAL: these, then 10, else its row
 pub record Placement-printed (bs : List ℕ) (s v : ℕ) (output : List ℕ) (r : Reply) : Type 0 where
   pub answer : PlacementAnswer
   pub says : Placement-says bs s v answer
   pub printed : Replied (refusal-of (answer .outcome)) (row-text (row-of (channels bs) s (answer .separations) (answer .positions))) output r
 
--- ONE SPREAD: 1 to 7, else the row of both together
+-- ONE SPREAD: the refusal of the text, then 7, else the row of both together
 pub record Spread-printed (bs : List ℕ) (s : ℕ) (output : List ℕ) (r : Reply) : Type 0 where
   pub answer : PlacementAnswer
   pub says : Spread-says bs s answer
   pub printed : Replied (spread-refusal bs s) (row-text (row-of (channels bs) s (answer .separations) (answer .positions))) output r
 
--- A PAGE: 1 to 7 and 9, else the page of the answer's channel; the space is enough for every page too
+-- A PAGE: the refusal of the text, then 3, 7 and 9, else the page of the answer's channel; the space is enough for every page too
 pub record Page-printed (bs : List ℕ) (s channel : ℕ) (output : List ℕ) (r : Reply) : Type 0 where
   pub separations : List ℕ
   pub positions : List ℕ
@@ -85,7 +88,7 @@ unfoldable pub verdict-text : Bool → List ℕ
 verdict-text v =
     cond v (108 ∷ 101 ∷ 103 ∷ 97 ∷ 108 ∷ 10 ∷ []) (110 ∷ 111 ∷ 116 ∷ 32 ∷ 108 ∷ 101 ∷ 103 ∷ 97 ∷ 108 ∷ 10 ∷ [])
 
--- 1 to 6, else the verdict; nothing where so many numbers are not those of k channels
+-- the refusal of the text, else the verdict; nothing where so many numbers are not those of k channels
 unfoldable pub trial-text : List ℕ → (count : ℕ) → (numbers : List ℕ) → List ℕ
 trial-text bs n vs =
     let k = channels bs in

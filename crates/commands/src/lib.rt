@@ -1,8 +1,10 @@
-// The program's commands, on slices: what its arguments stand for, and for each command what is printed of a text and the exit status that goes with it.
+// The program's commands, on slices: what its arguments stand for, and for each command what is printed of a text, what is refused, and the exit status that
+// goes with it.
 ghost use mathlib.Core.Path.{_≡_};
 ghost use Prim.Native.Nat.{_≤_};
 ghost use lib.ListN.{length, take};
 ghost use Rattle.stack.specs.Value.{tracks-of, columns-of};
+ghost use Rattle.text.specs.Text.{text-refusal};
 ghost use Rattle.text.specs.Outcome.{refusal-of};
 ghost use Rattle.writing.specs.Output.{Line-put};
 ghost use Rattle.commands.specs.Words.{Number-read, is-help, if-named, either-named, command-alone, command-in};
@@ -28,11 +30,11 @@ use nabetsu::place_total;
 use nabetsu::try_placement;
 use nabetsu::write_page;
 use nabetsu::write_table;
+use reading::read_stack;
 use stack::Columns;
 use stack::Stack;
 use stack::Tracks;
 use text::Outcome;
-use text::read_stack;
 use writing::put_line;
 use writing::put_refusal;
 use writing::put_row;
@@ -41,7 +43,7 @@ use writing::put_total as put_total_line;
 // A trial's spread, separations and positions.
 pub const NUMBERS: usize = 2 * Stack::MAX_CHANNELS + 2;
 
-// The exit status where an answer is printed, where a refusal is, and where something is said on standard error.
+// The exit status where an answer is printed, where a refusal is, and where arguments are wrong or reading or writing fails.
 pub const ANSWERED: u32 = 0;
 
 const REFUSED: u32 = 1;
@@ -168,10 +170,11 @@ pub fn read_command(word: &[u8], words: usize) -> Command
     Command::Wrong
 }
 
-// What stands at the start of an output: how many bytes, and the status that goes with them.
+// What stands at the start of an output: how many bytes, the status that goes with them, and what is refused.
 pub struct Reply {
     pub length: usize,
     pub status: u32,
+    pub outcome: Outcome,
 }
 
 // The line of a refusal; where there is none, the bytes that are written already.
@@ -183,6 +186,7 @@ fn put_outcome(outcome: Outcome, written: usize, output: &mut [u8; TABLE_BYTES])
         Outcome::Accepted => Reply {
             length: written,
             status: ANSWERED,
+            outcome,
         },
         Outcome::Refused(r) => {
             let why = r.why;
@@ -190,6 +194,7 @@ fn put_outcome(outcome: Outcome, written: usize, output: &mut [u8; TABLE_BYTES])
             Reply {
                 length,
                 status: REFUSED,
+                outcome,
             }
         }
     }
@@ -218,6 +223,7 @@ pub fn put_total(text: &[u8], spread: u32, output: &mut [u8; TABLE_BYTES]) -> Re
     Reply {
         length,
         status: ANSWERED,
+        outcome,
     }
 }
 
@@ -244,6 +250,7 @@ pub fn put_place(text: &[u8], spread: u32, total: u32, output: &mut [u8; TABLE_B
     Reply {
         length,
         status: ANSWERED,
+        outcome,
     }
 }
 
@@ -307,7 +314,7 @@ pub fn put_trial(
     numbers: [u32; NUMBERS],
     output: &mut [u8; TABLE_BYTES],
 ) -> Reply
-    ensures { λ r. ⌜ Printed (trial-text (now (text .entry)) count numbers) (trial-status (now (text .entry)) count) (now (output .exit)) r ⌝ }
+    ensures { λ r. ⌜ Printed (text-refusal (now (text .entry))) (trial-text (now (text .entry)) count numbers) (trial-status (now (text .entry)) count) (now (output .exit)) r ⌝ }
 {
     let reading = read_stack(text);
     let outcome = reading.outcome;
@@ -319,6 +326,7 @@ pub fn put_trial(
         return Reply {
             length: 0,
             status: FAILED,
+            outcome,
         };
     }
     let answer = try_placement(
@@ -331,5 +339,6 @@ pub fn put_trial(
     Reply {
         length,
         status: ANSWERED,
+        outcome,
     }
 }

@@ -14,7 +14,7 @@ use Rattle.stack.specs.Limits.{all-rising}
 use Rattle.stack.proofs.Within.{within-rising}
 use Rattle.routing.proofs.Drawable.{drawable-legal, legal-drawable}
 use Rattle.text.specs.Text.{Refusal, refusal, fine, stack-in}
-use Rattle.text.proofs.Within.{accepted-within}
+use Rattle.reading.proofs.Within.{accepted-within}
 use Rattle.answer.proofs.Alone.{total-alone, placement-alone, placement-met, answer-alone}
 use Rattle.rows.proofs.Rows.{rows-alone}
 use Rattle.writing.specs.TableText.{table-text}

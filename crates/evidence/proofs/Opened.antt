@@ -30,9 +30,9 @@ unfoldable pub reading : List String → Stack
 unfolding byte-shown line-shown text-shown stacks.pair stacks.stack
     lines.line lines.to-front lines.lines lines.no-line lines.line-at lines.into-field lines.fields lines.word-of lines.number-fields lines.same-bytes
     lines.has-word lines.is-digit lines.all-digits lines.is-number lines.ill-formed lines.value-of lines.value lines.values lines.numbers-of tabulate
-    texts.refusal texts.fine texts.or-else texts.stack-word texts.part-word texts.nets-word texts.gap-word texts.kind texts.exactly texts.in-pairs texts.stack-kind
-    texts.part-kind texts.nets-kind texts.gap-kind texts.layout texts.entry texts.first-of texts.second-of texts.fault-at texts.supplied texts.part-content
-    texts.terminals-refusal texts.nets-content texts.gap-content texts.check texts.k-of texts.head-refusal texts.head-check texts.part-check texts.length-at
+    texts.refusal texts.fine texts.or-else texts.stack-word texts.part-word texts.nets-word texts.gap-word texts.entry texts.first-of texts.second-of texts.fault-at texts.kind
+    texts.exactly texts.in-pairs texts.misplaced texts.count-refusal texts.number-refusal texts.layout texts.stack-content texts.part-content texts.terminals-refusal
+    texts.nets-content texts.gap-content texts.stack-kind texts.part-kind texts.nets-kind texts.gap-kind texts.check texts.supplied texts.line-check texts.k-of texts.head-refusal texts.head-check texts.part-check texts.length-at
     texts.nets-check texts.tail-at texts.tail-count texts.channel-before texts.tail-check texts.checks texts.in-turn texts.text-refusal texts.file
     texts.file-in texts.pairs-of texts.floor-in texts.stack-in-file texts.stack-in
 reading t = texts.stack-in (text-shown t)

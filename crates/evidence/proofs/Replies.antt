@@ -14,7 +14,7 @@ use Rattle.stack.specs.Stack.{Stack, Total-met, Least-total, Placement, Answer,
 use Rattle.stack.specs.Limits.{within-limits}
 use Rattle.lines.specs.Lines.{same-bytes}
 use Rattle.text.specs.Text.{Refusal, refusal, fine, text-refusal, stack-in}
-use Rattle.text.proofs.Within.{accepted-within}
+use Rattle.reading.proofs.Within.{accepted-within}
 use Rattle.answer.specs.Solve.{answer-total, separations-for, positions-for, answer-separations, answer-positions}
 use Rattle.answer.proofs.Alone.{total-alone, placement-alone, placement-met, answer-alone}
 use Rattle.answer.proofs.Answers.{least-there, placement-there, met-from-least}

@@ -1,5 +1,5 @@
 -- Wrong versions break the promises, each on a specimen: what such a version returns is not the specimen's reply. Document 01, "Reviewer's checklist" and
--- "Traps in the work"; document 02, P1 to P4. Assumes nothing.
+-- "Traps in the work"; document 02, P1 to P5. Assumes nothing.
 use mathlib.Core.Path.{_≡_, refl, sym, ap, _∙_}
 use mathlib.Core.Bool.{true, false}
 use mathlib.Core.List.{List, [], _∷_, _++_}
@@ -16,7 +16,7 @@ use Rattle.stack.specs.Limits.{rises-above, rising, all-rising}
 use Rattle.answer.proofs.Alone.{answer-total-is, answer-placed}
 use Rattle.answer.proofs.Answers.{zeros-of}
 use Rattle.rows.proofs.Floored.{floors-of, all-covered, floors-answer}
-use Rattle.text.proofs.Within.{accepted-within}
+use Rattle.reading.proofs.Within.{accepted-within}
 use Rattle.routing.proofs.Drawable.{drawable-legal, legal-drawable}
 use Rattle.routing.specs.Paths as paths
 use Rattle.routing.specs.Paths.{point, Drawable}
@@ -33,7 +33,7 @@ use Rattle.reply.specs.declared.PlacementAnswer.{PlacementAnswer}
 use Rattle.reply.specs.declared.TableAnswer.{TableAnswer}
 use Rattle.nabetsu.specs.declared.TotalAnswer.{TotalAnswer}
 use Rattle.nabetsu.specs.declared.TrialAnswer.{TrialAnswer}
-use Rattle.evidence.specs.Specimens.{text-shown, Specimen, spread-gives, spread-refused, place-gives, place-refused, table-gives, table-refused, trial-gives, page-gives, page-shown, page-a, Holds, All-hold, text-a, table-a, text-b, text-c, table-c, text-d, table-d, text-e, text-between, text-moved, text-a-4, text-b-3-5, text-512, specimens, Specimens-right}
+use Rattle.evidence.specs.Specimens.{text-shown, Specimen, spread-gives, spread-refused, place-gives, place-refused, table-gives, table-refused, trial-gives, page-gives, page-shown, page-a, Holds, All-hold, text-a, table-a, text-b, text-c, table-c, text-d, table-d, text-e, text-between, text-moved, text-a-4, text-b-3-5, text-512, headed, parted, netted, specimens, Specimens-right}
 use Rattle.evidence.proofs.Opened.{reading, replying, showing}
 use Rattle.evidence.proofs.Replies.{least-told, placement-told}
 use Rattle.evidence.proofs.Specimens.{specimens-right}
@@ -162,6 +162,22 @@ b-3-5-for-7 : Holds (place-refused text-b-3-5 9 7 10 0 0)
 unfolding specimens Entry-holds
 b-3-5-for-7 = specimen 142
 
+stock-at-100 : Holds (spread-refused (headed "STOCK 1 1") 100 2 1 0)
+unfolding specimens Entry-holds
+stock-at-100 = specimen 148
+
+zero-one-at-100 : Holds (spread-refused (headed "STACK 01 1") 100 11 1 3)
+unfolding specimens Entry-holds
+zero-one-at-100 = specimen 151
+
+three-extra-at-100 : Holds (spread-refused (parted "PART 4 4 4 4") 100 11 2 3)
+unfolding specimens Entry-holds
+three-extra-at-100 = specimen 155
+
+partner-at-100 : Holds (spread-refused (netted "NETS 0 2 2") 100 11 4 5)
+unfolding specimens Entry-holds
+partner-at-100 = specimen 160
+
 -- bytes that differ
 bytes-same : (a : List ℕ) → same-bytes a a ≡ true
 unfolding same-bytes
@@ -171,10 +187,14 @@ bytes-same (x ∷ xs) = rw (eq-eqb x x refl) (bytes-same xs)
 differ : (a b : List ℕ) → same-bytes a b ≡ false → a ≡ b → ⊥
 differ a b d e = let same : same-bytes a b ≡ true = rw e (bytes-same b) in impossible (sym d ∙ same)
 
--- the number of a refusal that is told, and separations other than those of a reply
+-- the number and the field of a refusal that is told, and separations other than those of a reply
 number-told : (n l f : ℕ) (g : Refusal) → g ≡ refusal n l f → g .number ≡ n
 unfolding refusal
 number-told n l f g e = ap (λ (h : Refusal). h .number) e
+
+field-told : (n l f : ℕ) (g : Refusal) → g ≡ refusal n l f → g .field ≡ f
+unfolding refusal
+field-told n l f g e = ap (λ (h : Refusal). h .field) e
 
 other-separations : (f : Refusal) (v : ℕ) (ts us xs : List ℕ) (r : PlacementAnswer) → same-bytes (padded 8 ts) (padded 8 us) ≡ false →
     tracks-of (r .separations) ≡ padded 8 ts → placed-is f v us xs r → ⊥
@@ -491,3 +511,26 @@ pub runs-on-edge-breaks : (r : TableAnswer) (o x : List ℕ) → length o ≡ 27
     x ≡ page-shown ("  3 ..o.o" ∷ "  2 ..|.|" ∷ "  1 .++.|" ∷ "  0 o+o-+" ∷ []) → Page-says (text-shown text-a) 4 1 r o x → ⊥
 unfolding Holds reading showing
 runs-on-edge-breaks r o x l w a = differ _ _ refl (sym w ∙ a-page-at-4 r o x l .0 a .1)
+
+-- LAYOUT IN ANOTHER ORDER: the count before the word, and the numbers before the count
+pub word-after-count-breaks : (r : TotalAnswer) → refusal-of (r .outcome) .number ≡ 11 → Total-says (text-shown (headed "STOCK 1 1")) 100 r → ⊥
+unfolding Holds total-told
+word-after-count-breaks r w a = omega (arith, number-told 2 1 0 _ (stock-at-100 .0 r .0 a .0))
+
+pub numbers-first-breaks : (r : TotalAnswer) → refusal-of (r .outcome) .number ≡ 12 → Total-says (text-shown (headed "STACK 01 1")) 100 r → ⊥
+unfolding Holds total-told
+numbers-first-breaks r w a = omega (arith, number-told 11 1 3 _ (zero-one-at-100 .0 r .0 a .0))
+
+-- ANOTHER FIELD: the last of three extra ones, and the odd terminal's own
+pub last-extra-breaks : (r : TotalAnswer) → refusal-of (r .outcome) .field ≡ 5 → Total-says (text-shown (parted "PART 4 4 4 4")) 100 r → ⊥
+unfolding Holds total-told
+last-extra-breaks r w a = omega (arith, field-told 11 2 3 _ (three-extra-at-100 .0 r .0 a .0))
+
+pub own-field-breaks : (r : TotalAnswer) → refusal-of (r .outcome) .field ≡ 4 → Total-says (text-shown (netted "NETS 0 2 2")) 100 r → ⊥
+unfolding Holds total-told
+own-field-breaks r w a = omega (arith, field-told 11 4 5 _ (partner-at-100 .0 r .0 a .0))
+
+-- ONE NUMBER FOR ALL of layout, as before P5
+pub one-number-breaks : (r : TotalAnswer) → refusal-of (r .outcome) .number ≡ 2 → Total-says (text-shown (netted "NETS 0 2 2")) 100 r → ⊥
+unfolding Holds total-told
+one-number-breaks r w a = omega (arith, number-told 11 4 5 _ (partner-at-100 .0 r .0 a .0))

@@ -1,6 +1,6 @@
 -- TRUSTED. Document 01's specimen cards: one table of texts, questions and replies, and what each says of an entry's result. proofs/Specimens.antt proves all
--- of them. Document 01, "Specimen cards"; document 02: their pages by P1, floors by P2, stated totals by P3, all by P4's rule. Assumes nothing: these are
--- definitions.
+-- of them. Document 01, "Specimen cards"; document 02: their pages by P1, floors by P2, stated totals by P3, all by P4's rule, refusals by P5. Assumes nothing:
+-- these are definitions.
 use mathlib.Core.Path.{_≡_}
 use mathlib.Core.Bool.{Bool, true, false, cond}
 use mathlib.Core.List.{List, [], _∷_, _++_}
@@ -246,6 +246,21 @@ text-512 =
     ∷ "GAP 1 64" ∷ "GAP 2 64" ∷ "GAP 3 64" ∷ "GAP 4 64" ∷ "GAP 5 64" ∷ "GAP 6 64" ∷ "GAP 7 64" ∷ "GAP 8 64"
     ∷ []
 
+-- FAULTS OF LAYOUT: A with another first line, another PART as its second line, or another NETS
+abbrev pub headed : String → List String
+headed l = l ∷ "PART 4" ∷ "PART 4" ∷ "NETS 0 2 2 4" ∷ []
+
+abbrev pub parted : String → List String
+parted l = "STACK 1" ∷ l ∷ "PART 4" ∷ "NETS 0 2 2 4" ∷ []
+
+abbrev pub netted : String → List String
+netted l = "STACK 1" ∷ "PART 4" ∷ "PART 4" ∷ l ∷ []
+
+-- 65 terminals
+abbrev pub text-65 : List String
+text-65 =
+    netted "NETS 0 0 1 1 2 2 3 3 4 4 5 5 6 6 7 7 8 8 9 9 10 10 11 11 12 12 13 13 14 14 15 15 16 16 17 17 18 18 19 19 20 20 21 21 22 22 23 23 24 24 25 25 26 26 27 27 28 28 29 29 30 30 31 31 32"
+
 -- THE SPECIMENS
 unfoldable pub specimens : List Specimen
 specimens =
@@ -371,9 +386,9 @@ specimens =
     ∷ page-gives text-a-4 6 1 345 page-a-4
     ∷ page-gives text-c-3 5 1 276 ("  3 " ∷ "  2 " ∷ "  1 " ∷ "  0 " ∷ [])
     -- refusals of a GAP line, in their order
-    ∷ table-refused (with-lines text-a ("GAP 1" ∷ [])) 50 2 5 0
-    ∷ table-refused (with-lines text-a ("GAP 1 1 1" ∷ [])) 50 2 5 0
-    ∷ table-refused (with-lines text-a ("GAP 0 065" ∷ [])) 50 2 5 0
+    ∷ table-refused (with-lines text-a ("GAP 1" ∷ [])) 50 11 5 3
+    ∷ table-refused (with-lines text-a ("GAP 1 1 1" ∷ [])) 50 11 5 4
+    ∷ table-refused (with-lines text-a ("GAP 0 065" ∷ [])) 50 12 5 3
     ∷ table-refused (with-lines text-a-1 ("NETS" ∷ [])) 50 2 6 0
     ∷ table-refused (with-lines text-a ("GAP 0 1" ∷ [])) 50 3 5 2
     ∷ table-refused (with-lines text-a ("GAP 2 65" ∷ [])) 50 3 5 2
@@ -419,11 +434,41 @@ specimens =
     ∷ place-gives text-b-1 6 4 (1 ∷ 3 ∷ []) (2 ∷ 0 ∷ 0 ∷ [])
     ∷ place-refused text-b-3-5 9 7 10 0 0
     ∷ place-gives text-b-3-5 9 9 (3 ∷ 6 ∷ []) (0 ∷ 0 ∷ 0 ∷ [])
-    -- 1 to 6, then 7, before 10
+    -- the text's refusals, then 7, before 10
     ∷ place-refused text-e 100 0 2 1 0
     ∷ place-refused text-h 3 0 6 4 4
     ∷ place-refused text-a 3 0 7 0 0
     ∷ place-refused text-a 3 4294967295 7 0 0
+    -- layout: the word, then the count of the fields, then each number from the left; a trailing tab makes one field more
+    ∷ spread-refused (headed "STOCK 1 1") 100 2 1 0
+    ∷ table-refused (headed "STACK") 50 11 1 2
+    ∷ table-refused (headed "STACK 1 1") 50 11 1 3
+    ∷ spread-refused (headed "STACK 01 1") 100 11 1 3
+    ∷ table-refused (headed "STACK 01") 50 12 1 2
+    ∷ table-refused (headed "STACK 9") 50 3 1 2
+    ∷ table-refused (parted "PART") 50 11 2 2
+    ∷ spread-refused (parted "PART 4 4 4 4") 100 11 2 3
+    ∷ table-refused (parted "PART 4 ") 50 11 2 3
+    ∷ table-refused (parted "PART ") 50 12 2 2
+    ∷ table-refused (parted "PART 01001") 50 12 2 2
+    ∷ table-refused (netted "NETS 0") 50 11 4 3
+    ∷ spread-refused (netted "NETS 0 2 2") 100 11 4 5
+    ∷ table-refused (netted "NETS ") 50 11 4 3
+    ∷ table-refused text-65 50 11 4 67
+    -- of two ill-formed numbers the left one; layout before overhang, 5, at a field further left
+    ∷ table-refused (netted "NETS 9 2 x 0x") 50 12 4 4
+    -- a line further up first: length, 4, before a count, and a count before a word
+    ∷ table-refused ("STACK 1" ∷ "PART 0" ∷ "PART" ∷ []) 50 4 2 2
+    ∷ table-refused ("STACK 1" ∷ "PART 4" ∷ "PART" ∷ "NOTS" ∷ []) 50 11 3 2
+    -- of a GAP: the count before the numbers
+    ∷ table-refused (with-lines text-a ("GAP x" ∷ [])) 50 11 5 3
+    ∷ table-refused (with-lines text-a ("GAP x 65" ∷ [])) 50 12 5 2
+    -- every entry gives them before its own refusals
+    ∷ trial-refused (netted "NETS 0 2 2") 4 (3 ∷ []) (0 ∷ 0 ∷ []) 11 4 5
+    ∷ trial-refused (netted "NETS 0 2 2 x") 4 (3 ∷ []) (0 ∷ 0 ∷ []) 12 4 5
+    ∷ spread-refused (netted "NETS 0 2 2 x") 3 12 4 5
+    ∷ page-refused (netted "NETS 0 2 2") 64 2 300 11 4 5
+    ∷ page-refused (netted "NETS 0 2 2 x") 64 2 0 12 4 5
     ∷ []
 
 -- every one of them holds

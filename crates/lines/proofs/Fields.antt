@@ -53,19 +53,23 @@ ill-more k (g ∷ fs) f = go (is-number g) (ill-more (suc k) fs f)
     go true e =
         let place : suc (length fs) + suc k ≡ length fs + suc (suc k) = omega arith in
         rw place e
-    go false e = rw (ne-eqb (suc k) 0 (omega arith))
+    go false e = rw (ne-eqb (suc k) 0 (omega arith)) (kept (is-number f))
+      where
+        kept : (w : Bool) → suc k ≡ cond w (suc k) (suc k)
+        kept true = refl
+        kept false = refl
 
 -- one field more
-module _ (f : List ℕ) (n : Numbers) (g : FieldRead) (ill : ℕ) (values : List ℕ) (read : Field-read f g) (first : ill ≡ first-ill (n .ill) (g .good) (n .count + 2))
-    (put : values ≡ set (n .values) (n .count) (g .value)) where
+module _ (f : List ℕ) (n : Numbers) (before : List ℕ) (g : FieldRead) (ill : ℕ) (values : List ℕ) (read : Field-read f g)
+    (first : ill ≡ first-ill (n .ill) (g .good) (n .count + 2)) (put : values ≡ set before (n .count) (g .value)) where
   abbrev more : Numbers
-  more = record { ill = ill; count = n .count + 1; values = values }
+  more = record { ill = ill; count = n .count + 1 }
 
-  field-read-more : (fs : List (List ℕ)) → Numbers-read fs n → Numbers-read (fs ++ (f ∷ [])) more
+  field-read-more : (fs : List (List ℕ)) → Numbers-read fs n before → Numbers-read (fs ++ (f ∷ [])) more values
   field-read-more fs m = record {
     ill = first ∙ rw (read .good, m .ill, m .count) (sym (ill-more 1 fs f));
     count = rw (m .count, length-append fs (f ∷ []));
-    values = put ∙ rw (read .value, m .values, m .count, ← numbers-length fs, set-in-places 64 (numbers-in fs) (number-in f), numbers-more fs f);
+    kept = put ∙ rw (read .value, m .kept, m .count, ← numbers-length fs, set-in-places 64 (numbers-in fs) (number-in f), numbers-more fs f);
   }
 
 fields-on : (at j : ℕ) (xs : List ℕ) → at ≤ length xs → fields-from j (drop at xs) ≡ fields-from (at + j) xs
@@ -79,12 +83,12 @@ fields-on (suc at) j (x ∷ xs) h =
 pub rest-of : (xs : List ℕ) (at : ℕ) → take (length xs - at) (drop at xs) ≡ drop at xs
 rest-of xs at = take-all (length xs - at) (drop at xs) (omega (arith, length-drop at xs))
 
-none-read : Numbers-read [] (record { ill = 0; count = 0; values = replicate 64 0 })
+none-read : (values : List ℕ) → values ≡ replicate 64 0 → Numbers-read [] (record { ill = 0; count = 0 }) values
 unfolding ill-formed numbers-in in-places
-none-read = record { ill = refl; count = refl; values = refl }
+none-read values e = record { ill = refl; count = refl; kept = e }
 
-pub taking-starts : (xs : List ℕ) (from : ℕ) → from ≤ suc (length xs) → Taking xs from from (record { ill = 0; count = 0; values = replicate 64 0 })
-taking-starts xs from h = record { seen = []; rest = refl; few = omega arith; below = h; read = none-read }
+pub taking-starts : (xs : List ℕ) (from : ℕ) (values : List ℕ) → from ≤ suc (length xs) → values ≡ replicate 64 0 → Taking xs from from (record { ill = 0; count = 0 }) values
+taking-starts xs from values h e = record { seen = []; rest = refl; few = omega arith; below = h; read = none-read values e }
 
 -- while fields are read, the numbers kept have their places
 places-length : (n : ℕ) (vs : List ℕ) → length (in-places n vs) ≡ n
@@ -93,8 +97,8 @@ places-length zero vs = refl
 places-length (suc n) [] = ap suc (places-length n [])
 places-length (suc n) (v ∷ vs) = ap suc (places-length n vs)
 
-pub taking-long : (xs : List ℕ) (from at : ℕ) (n : Numbers) → Taking xs from at n → length (n .values) ≡ 64
-taking-long xs from at n t = rw (t .read .values) (places-length 64 (numbers-in (t .seen)))
+pub taking-long : (xs : List ℕ) (from at : ℕ) (n : Numbers) (values : List ℕ) → Taking xs from at n values → length values ≡ 64
+taking-long xs from at n values t = rw (t .read .kept) (places-length 64 (numbers-in (t .seen)))
 
 -- the field at a place ends at the first tab behind it
 module _ (xs : List ℕ) (at r : ℕ) (here : at ≤ length xs) (e : r ≡ run 9 (take (length xs - at) (drop at xs))) where
@@ -112,22 +116,22 @@ module _ (xs : List ℕ) (at r : ℕ) (here : at ≤ length xs) (e : r ≡ run 9
       let q : r ≡ run 9 (drop at xs) = e ∙ rw (rest-of xs at) in
       rw (s, n, ← fields-on at (suc r) xs here, q) (field-whole ∙ fields-cut (drop at xs))
 
-  pub taking-steps : (from : ℕ) (n : Numbers) (g : FieldRead) (ill : ℕ) (values : List ℕ) → Taking xs from at n → Field-read (take (at + r - at) (drop at xs)) g →
-      ill ≡ first-ill (n .ill) (g .good) (n .count + 2) → values ≡ set (n .values) (n .count) (g .value) →
-      Taking xs from (at + r + 1) (record { ill = ill; count = n .count + 1; values = values })
-  taking-steps from n g ill values t a p q =
+  pub taking-steps : (from : ℕ) (n : Numbers) (before : List ℕ) (g : FieldRead) (ill : ℕ) (values : List ℕ) → Taking xs from at n before →
+      Field-read (take (at + r - at) (drop at xs)) g → ill ≡ first-ill (n .ill) (g .good) (n .count + 2) → values ≡ set before (n .count) (g .value) →
+      Taking xs from (at + r + 1) (record { ill = ill; count = n .count + 1 }) values
+  taking-steps from n before g ill values t a p q =
       let f = take (at + r - at) (drop at xs) in
       record {
         seen = t .seen ++ (f ∷ []);
         rest = t .rest ∙ rw (field-cut, append-assoc (t .seen) (f ∷ []) (fields-from (at + r + 1) xs));
         few = omega (arith, t .few, length-append (t .seen) (f ∷ []));
         below = omega (arith, field-end);
-        read = field-read-more f n g ill values a p q (t .seen) (t .read);
+        read = field-read-more f n before g ill values a p q (t .seen) (t .read);
       }
 
-pub taking-ends : (xs : List ℕ) (from at : ℕ) (n : Numbers) → length xs < at → Taking xs from at n → Numbers-read (fields-from from xs) n
+pub taking-ends : (xs : List ℕ) (from at : ℕ) (n : Numbers) (values : List ℕ) → length xs < at → Taking xs from at n values → Numbers-read (fields-from from xs) n values
 unfolding fields-from
-taking-ends xs from at n h t =
+taking-ends xs from at n values h t =
     let none : fields-from at xs ≡ [] = rw (lt-leb at (length xs) h) in
     rw (t .rest, none, append-nil (t .seen)) (t .read)
 
@@ -170,16 +174,26 @@ pub numbers-few : (xs : List ℕ) (b : Bool) → length (number-fields (line xs 
 unfolding number-fields line
 numbers-few xs b = omega (arith, length-drop 1 (fields xs), fields-few xs)
 
+-- the first ill-formed field is one of them
+pub ill-few : (f : ℕ) (fs : List (List ℕ)) → ill-formed f fs ≤ f + length fs
+unfolding ill-formed
+ill-few f [] = omega arith
+ill-few f (x ∷ xs) = go (is-number x) (ill-few (suc f) xs)
+  where
+    go : (v : Bool) → ill-formed (suc f) xs ≤ suc f + length xs → cond v (ill-formed (suc f) xs) f ≤ f + suc (length xs)
+    go true h = omega arith
+    go false h = omega arith
+
 -- A LINE whose word ends at r
-pub line-reads : (xs w : List ℕ) (b v : Bool) (r : ℕ) (n : Numbers) → r ≡ run 9 xs → Numbers-read (fields-from (r + 1) xs) n → v ≡ (b && same-bytes (take r xs) w) →
-    Line-read (line xs b) w (record { worded = v; ill = n .ill; count = n .count; values = n .values })
+pub line-reads : (xs w : List ℕ) (b v : Bool) (r : ℕ) (n : Numbers) (values : List ℕ) → r ≡ run 9 xs → Numbers-read (fields-from (r + 1) xs) n values →
+    v ≡ (b && same-bytes (take r xs) w) → Line-read (line xs b) w (record { worded = v; ill = n .ill; count = n .count }) values
 unfolding has-word word-of number-fields numbers-of line
-line-reads xs w b v r n e m g =
+line-reads xs w b v r n values e m g =
     let word : getD (fields xs) 0 [] ≡ take r xs = rw (fields-cut xs, e) in
     let others : drop 1 (fields xs) ≡ fields-from (r + 1) xs = rw (fields-cut xs, e, add-one (run 9 xs)) in
     record {
       worded = rw word g;
       ill = rw others (m .ill);
       count = rw others (m .count);
-      values = λ z. rw others (m .values ∙ ap (λ v. in-places 64 v) (numbers-are 1 (fields-from (r + 1) xs) (sym (m .ill) ∙ z)));
+      kept = λ z. rw others (m .kept ∙ ap (λ v. in-places 64 v) (numbers-are 1 (fields-from (r + 1) xs) (sym (m .ill) ∙ z)));
     }

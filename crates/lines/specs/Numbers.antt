@@ -53,30 +53,30 @@ in-places (suc n) [] = 0 ∷ in-places n []
 in-places (suc n) (x ∷ xs) = x ∷ in-places n xs
 
 -- the first ill-formed of fields that begin with field 2, how many they are, and the first 64 numbers
-pub record Numbers-read (fs : List (List ℕ)) (r : Numbers) : Type 0 where
+pub record Numbers-read (fs : List (List ℕ)) (r : Numbers) (values : List ℕ) : Type 0 where
   pub ill : r .ill ≡ ill-formed 2 fs
   pub count : r .count ≡ length fs
-  pub values : r .values ≡ in-places 64 (numbers-in fs)
+  pub kept : values ≡ in-places 64 (numbers-in fs)
 
 -- the first ill-formed field, where one more is looked at
 unfoldable pub first-ill : (before : ℕ) → (good : Bool) → (field : ℕ) → ℕ
-first-ill b g f = cond (eqb b 0) (cond g 0 f) b
+first-ill b g f = cond g b (cond (eqb b 0) f b)
 
 -- the fields from a place on; none past the end
 unfoldable pub fields-from : (at : ℕ) → List ℕ → List (List ℕ)
 fields-from at xs = cond (leb at (length xs)) (fields (drop at xs)) []
 
 -- while fields are read: those that are behind the place from are the ones seen and those from the place at on
-pub record Taking (xs : List ℕ) (from at : ℕ) (n : Numbers) : Type 0 where
+pub record Taking (xs : List ℕ) (from at : ℕ) (n : Numbers) (values : List ℕ) : Type 0 where
   pub seen : List (List ℕ)
   pub rest : fields-from from xs ≡ seen ++ fields-from at xs
   pub few : length seen ≤ at
   pub below : at ≤ suc (length xs)
-  pub read : Numbers-read seen n
+  pub read : Numbers-read seen n values
 
 -- A LINE as one of a word; its numbers where all are well-formed
-pub record Line-read (l : Line) (w : List ℕ) (r : LineRead) : Type 0 where
+pub record Line-read (l : Line) (w : List ℕ) (r : LineRead) (values : List ℕ) : Type 0 where
   pub worded : r .worded ≡ has-word l w
   pub ill : r .ill ≡ ill-formed 2 (number-fields l)
   pub count : r .count ≡ length (number-fields l)
-  pub values : r .ill ≡ 0 → r .values ≡ in-places 64 (numbers-of l)
+  pub kept : r .ill ≡ 0 → values ≡ in-places 64 (numbers-of l)

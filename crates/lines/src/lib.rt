@@ -1,7 +1,7 @@
 // A text's lines: where each ends, and one reader for the lines of every word.
 ghost use mathlib.Core.Path.{_≡_};
 ghost use Prim.Native.Nat.{suc, _≤_};
-ghost use lib.ListN.{length, set};
+ghost use lib.ListN.{length, set, replicate};
 ghost use Rattle.lines.specs.Lines.{line, is-digit, same-bytes};
 ghost use Rattle.lines.specs.Cut.{run, Line-from};
 ghost use Rattle.lines.specs.Numbers.{
@@ -127,11 +127,10 @@ fn read_field(field: &[u8]) -> FieldRead
 // So many numbers of a line are kept, as many as a channel may have terminals.
 pub const KEPT: usize = 64;
 
-// The first of a line's fields that is no number, 0 where all are numbers; how many they are, and the first of them.
+// The first of a line's fields that is no number, 0 where all are numbers, and how many they are.
 struct Numbers {
     ill: usize,
     count: usize,
-    values: [u32; KEPT],
 }
 
 // Puts the number in its place, where there is one.
@@ -148,55 +147,53 @@ fn put_number(values: &mut [u32; KEPT], i: usize, x: u32)
 fn first_ill(before: usize, good: bool, field: usize) -> usize
     ensures { λ r. ⌜ r ≡ first-ill before good field ⌝ }
 {
-    if before != 0 {
+    if good {
         return before;
     }
-    if good {
-        return 0;
+    if before == 0 {
+        return field;
     }
-    field
+    before
 }
 
-// The numbers of a line's fields from a place on.
-fn numbers_from(line: &[u8], from: usize) -> Numbers
-    requires { ⌜ from ≤ suc (length (now line)) ⌝ }
-    ensures { λ r. ⌜ Numbers-read (fields-from from (now (line .entry))) r ⌝ }
+// The numbers of a line's fields from a place on: the first of them into these places, which are zeros before.
+fn numbers_from(line: &[u8], from: usize, values: &mut [u32; KEPT]) -> Numbers
+    requires { ⌜ (from ≤ suc (length (now line))) × (now values ≡ replicate 64 0) ⌝ }
+    ensures { λ r. ⌜ Numbers-read (fields-from from (now (line .entry))) r (now (values .exit)) ⌝ }
 {
-    let mut values = [0u32; KEPT];
     let mut ill = 0;
     let mut count = 0;
     let mut at = from;
     while at <= line.len() {
         let end = at + run(&line[at..], TAB);
         let field = read_field(&line[at..end]);
-        put_number(&mut values, count, field.value);
+        put_number(values, count, field.value);
         ill = first_ill(ill, field.good, count + 2);
         count += 1;
         at = end + 1;
     }
-    Numbers { ill, count, values }
+    Numbers { ill, count }
 }
 
-// A line as one of a word: whether it is ended and has the word; of the fields behind it the first that is no number, 0 where all are numbers, how many they are,
-// and the first numbers.
+// A line as one of a word: whether it is ended and has the word; of the fields behind it the first that is no number, 0 where all are numbers, and how many they
+// are.
 pub struct LineRead {
     pub worded: bool,
     pub ill: usize,
     pub count: usize,
-    pub values: [u32; KEPT],
 }
 
-pub fn read_line(bytes: &[u8], ended: bool, word: &[u8]) -> LineRead
-    ensures { λ r. ⌜ Line-read (line (now (bytes .entry)) ended) (now (word .entry)) r ⌝ }
+// The line, its first numbers into these places, which are zeros before.
+pub fn read_line(bytes: &[u8], ended: bool, word: &[u8], values: &mut [u32; KEPT]) -> LineRead
+    requires { ⌜ now values ≡ replicate 64 0 ⌝ }
+    ensures { λ r. ⌜ Line-read (line (now (bytes .entry)) ended) (now (word .entry)) r (now (values .exit)) ⌝ }
 {
     let end = run(bytes, TAB);
-    let numbers = numbers_from(bytes, end + 1);
-    let values = numbers.values;
+    let numbers = numbers_from(bytes, end + 1, values);
     LineRead {
         worded: ended && is_word(&bytes[..end], word),
         ill: numbers.ill,
         count: numbers.count,
-        values,
     }
 }
 

@@ -16,7 +16,7 @@ use Rattle.stack.specs.declared.Columns.{Columns}
 use Rattle.stack.proofs.Values.{track-at, column-at, tracks-long, columns-long}
 use Rattle.text.specs.Text.{Refusal, refusal, fine, or-else}
 use Rattle.text.specs.Outcome.{refusal-of, refused}
-use Rattle.text.specs.Driver.{Stack-read}
+use Rattle.reading.specs.Driver.{Stack-read}
 use Rattle.text.specs.declared.Reading.{Reading}
 use Rattle.text.specs.declared.Refused.{Refused as Refused-struct}
 use Rattle.text.specs.declared.Outcome.{Outcome}

@@ -18,11 +18,11 @@ use Rattle.stack.proofs.Values.{track-at, column-at, stack-channel}
 use Rattle.stack.proofs.Within.{stack-channels, strips-count, few-channels}
 use Rattle.text.specs.Text.{Refusal, refusal, fine, or-else, text-refusal, stack-in}
 use Rattle.text.specs.Outcome.{refusal-of, is-accepted}
-use Rattle.text.specs.Driver.{Stack-read}
+use Rattle.reading.specs.Driver.{Stack-read}
 use Rattle.text.specs.declared.Reading.{Reading}
 use Rattle.text.specs.declared.Outcome.{Outcome}
 use Rattle.text.proofs.Refusals.{or-else-fine, or-else-refused, or-else-next, accepted-fine, refused-number}
-use Rattle.text.proofs.Within.{accepted-within}
+use Rattle.reading.proofs.Within.{accepted-within}
 use Rattle.solver.specs.declared.Placement.{Placement}
 use Rattle.answer.specs.Solve.{answer-separations, answer-positions}
 use Rattle.answer.specs.Arrays.{Answer-is}

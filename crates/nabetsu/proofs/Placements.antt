@@ -18,7 +18,7 @@ use Rattle.routing.specs.Paths.{Drawable}
 use Rattle.routing.proofs.Drawable.{drawable-legal, legal-drawable}
 use Rattle.text.specs.Text.{Refusal, refusal, fine, or-else, stack-in}
 use Rattle.text.specs.Outcome.{refusal-of, is-accepted, refused}
-use Rattle.text.specs.Driver.{Stack-read}
+use Rattle.reading.specs.Driver.{Stack-read}
 use Rattle.text.specs.declared.Outcome.{Outcome}
 use Rattle.text.specs.declared.Reading.{Reading}
 use Rattle.text.specs.declared.Refusal.the-variants.{Unmet}

@@ -13,7 +13,7 @@ use Rattle.stack.proofs.Within.{within-rising}
 use Rattle.routing.proofs.Drawable.{drawable-legal, legal-drawable}
 use Rattle.text.specs.Text.{Refusal, fine, text-refusal, stack-in}
 use Rattle.text.proofs.Refusals.{number-fine}
-use Rattle.text.proofs.Within.{accepted-within}
+use Rattle.reading.proofs.Within.{accepted-within}
 use Rattle.answer.specs.Solve.{answer-total, separations-for, positions-for, answer-separations, answer-positions}
 use Rattle.answer.proofs.Alone as alone
 use Rattle.answer.proofs.Answers as answers

@@ -6,7 +6,7 @@ use Prim.Native.Nat.{ℕ}
 use Rattle.stack.specs.Value.{stack-of}
 use Rattle.text.specs.Text.{Refusal, refusal, fine, text-refusal, stack-in}
 use Rattle.text.specs.Outcome.{is-accepted}
-use Rattle.text.specs.Driver.{Stack-read}
+use Rattle.reading.specs.Driver.{Stack-read}
 use Rattle.text.specs.declared.Reading.{Reading}
 use Rattle.text.proofs.Refusals.{refused-number, accepted-fine}
 

@@ -9,7 +9,7 @@ use lib.ListN.{length}
 use borrow.Author.Tests.{le-leb}
 use Rattle.text.specs.Text.{Refusal, refusal, stack-in}
 use Rattle.text.specs.Outcome.{refusal-of}
-use Rattle.text.proofs.Within.{accepted-within}
+use Rattle.reading.proofs.Within.{accepted-within}
 use Rattle.writing.specs.Output.{row-bytes, rows-most, table-bytes}
 use Rattle.writing.specs.TableText.{table-text}
 use Rattle.table.proofs.Space.{rows-space, total-small}

@@ -10,11 +10,11 @@ use Rattle.stack.specs.Limits.{within-limits}
 use Rattle.stack.specs.Value.{stack-of}
 use Rattle.text.specs.Text.{Refusal, refusal, fine, or-else, text-refusal, stack-in}
 use Rattle.text.specs.Outcome.{refusal-of, is-accepted}
-use Rattle.text.specs.Driver.{Stack-read}
+use Rattle.reading.specs.Driver.{Stack-read}
 use Rattle.text.specs.declared.Outcome.{Outcome}
 use Rattle.text.specs.declared.Reading.{Reading}
 use Rattle.text.proofs.Refusals.{or-else-fine, when-fine, refused-number, accepted-fine}
-use Rattle.text.proofs.Within.{accepted-within}
+use Rattle.reading.proofs.Within.{accepted-within}
 use Rattle.reply.specs.Refusals.{narrow-refusal}
 use Rattle.nabetsu.specs.Entry.{spread-refusal}
 

@@ -20,7 +20,7 @@ use Rattle.reply.specs.declared.TableAnswer.{TableAnswer}
 use Rattle.nabetsu.specs.declared.TotalAnswer.{TotalAnswer}
 use Rattle.nabetsu.specs.declared.TrialAnswer.{TrialAnswer}
 
--- A SPREAD: 1 to 6, then 7
+-- A SPREAD: the text's refusals, then 7
 unfoldable pub spread-refusal : List ℕ → (s : ℕ) → Refusal
 spread-refusal bs s = or-else (text-refusal bs) (narrow-refusal (stack-in bs) s)
 
@@ -51,7 +51,7 @@ Placed-or (suc n) f k s v r = placed-is f 0 [] [] r
 unfoldable pub Placement-says : List ℕ → (s v : ℕ) → PlacementAnswer → Type 0
 Placement-says bs s v r = Placed-or (spread-refusal bs s .number) (spread-refusal bs s) (stack-in bs) s v r
 
--- THE TABLE: its whole text and zeros behind it; or 1 to 6, then 8, with zeros everywhere
+-- THE TABLE: its whole text and zeros behind it; or the text's refusals, then 8, with zeros everywhere
 unfoldable pub Fits : (fits : Bool) → (text : List ℕ) → TableAnswer → (o o-now : List ℕ) → Type 0
 Fits true t r o x = table-told (refusal 0 0 0) (length t) r × (x ≡ t ++ replicate (length o - length t) 0)
 Fits false t r o x = table-told (refusal 8 0 0) 0 r × (x ≡ zeros o)
@@ -64,7 +64,7 @@ Tabled (suc n) f k r o x = table-told f 0 r × (x ≡ zeros o)
 unfoldable pub Table-says : List ℕ → TableAnswer → (o o-now : List ℕ) → Type 0
 Table-says bs r o x = Tabled (text-refusal bs .number) (text-refusal bs) (stack-in bs) r o x
 
--- THE TRIAL: 1 to 6, else the verdict
+-- THE TRIAL: the text's refusals, else the verdict
 unfoldable pub Trial-says : List ℕ → (s : ℕ) → (ts xs : List ℕ) → TrialAnswer → Type 0
 Trial-says bs s ts xs r = (refusal-of (r .outcome) ≡ text-refusal bs) × (r .legal ≡ (eqb (text-refusal bs .number) 0 && is-legal (stack-in bs) s ts xs))
 

@@ -16,7 +16,7 @@ use Rattle.reply.specs.declared.TableAnswer.{TableAnswer}
 use Rattle.reply.specs.Told.{zeros, table-told}
 use Rattle.nabetsu.specs.Entry.{Fits, code}
 
--- THE PAGE: 1 to 6, then 3 for the channel, 7, 9, and at last 8
+-- THE PAGE: the text's refusals, then 3 for the channel, 7, 9, and at last 8
 unfoldable pub page-refusal : List ℕ → (s channel : ℕ) → Refusal
 page-refusal bs s n = or-else (text-refusal bs) (asked-refusal (stack-in bs) s n)
 

@@ -18,7 +18,7 @@ unfoldable pub all-bytes : List ℕ → Bool
 all-bytes [] = true
 all-bytes (x ∷ xs) = ltb x 256 && all-bytes xs
 
--- ACCEPTED: none of the conditions 1 to 6 applies
+-- ACCEPTED: none of the conditions 1 to 6, 11 and 12 applies
 unfoldable pub accepted : List ℕ → Bool
 accepted bs = all-bytes bs && eqb (text-refusal bs .number) 0
 

@@ -18,6 +18,7 @@ use answer::answer_in;
 use answer::placement_in;
 use answer::total_in;
 use plot::put_page;
+use reading::read_stack;
 use reply::PlacementAnswer;
 use reply::TableAnswer;
 use reply::finish;
@@ -31,7 +32,6 @@ use stack::Tracks;
 use table::put_table;
 use text::Outcome;
 use text::Refusal;
-use text::read_stack;
 use trial::is_placement_legal;
 
 // How many numbers a placement has with its total: total, separations, positions.
@@ -43,7 +43,7 @@ pub struct TotalAnswer {
     pub total: Tracks,
 }
 
-// Document 02, P3: the least total in one spread of the stack in a text, or the first refusal that applies: 1 to 6, then 7. Nothing is placed.
+// Document 02, P3: the least total in one spread of the stack in a text, or the first refusal that applies: the text's, then 7. Nothing is placed.
 pub fn least_total(text: &[u8], spread: u32) -> TotalAnswer
     ensures { λ r. ⌜ Total-says (now (text .entry)) spread r ⌝ }
     ensures { λ r. ⌜ Total-best (now (text .entry)) spread r ⌝ }
@@ -62,7 +62,7 @@ pub fn least_total(text: &[u8], spread: u32) -> TotalAnswer
     TotalAnswer { outcome, total }
 }
 
-// Document 02, P3: the placement in one spread for a stated total of the stack in a text, or the first refusal that applies: 1 to 6, then 7, then 10.
+// Document 02, P3: the placement in one spread for a stated total of the stack in a text, or the first refusal that applies: the text's, then 7, then 10.
 pub fn place_total(text: &[u8], spread: u32, total: Tracks) -> PlacementAnswer
     ensures { λ r. ⌜ Placement-says (now (text .entry)) spread (total .0) r ⌝ }
     ensures { λ r. ⌜ Placement-best (now (text .entry)) spread (total .0) r ⌝ }
@@ -93,7 +93,7 @@ pub fn place_total(text: &[u8], spread: u32, total: Tracks) -> PlacementAnswer
 // Enough bytes for the table of every text, whatever its floors: a first line of 8, and at most 265 rows of at most 82.
 pub const TABLE_BYTES: usize = 21738;
 
-// Document 01, "Sent back at the counter": the table of the stack in a text with zeros behind it, or the first refusal that applies, 1 to 6, then 8, and
+// Document 01, "Sent back at the counter": the table of the stack in a text with zeros behind it, or the first refusal that applies, the text's, then 8, and
 // zeros in the whole output.
 pub fn write_table(text: &[u8], output: &mut [u8]) -> TableAnswer
     ensures { λ r. ⌜ Table-says (now (text .entry)) r (now (output .entry)) (now (output .exit)) ⌝ }
@@ -129,7 +129,7 @@ fn put_channel(stack: Stack, spread: u32, channel: u32, output: &mut [u8]) -> us
     )
 }
 
-// Document 02, P1: the page of a channel in the answer for one spread, with zeros behind it, or the first refusal that applies, 1 to 6, then 3 for the channel,
+// Document 02, P1: the page of a channel in the answer for one spread, with zeros behind it, or the first refusal that applies, the text's, then 3 for the channel,
 // 7, 9 and 8, and zeros in the whole output.
 pub fn write_page(text: &[u8], spread: u32, channel: u32, output: &mut [u8]) -> TableAnswer
     ensures { λ r. ⌜ Page-says (now (text .entry)) spread channel r (now (output .entry)) (now (output .exit)) ⌝ }
@@ -156,7 +156,7 @@ pub struct TrialAnswer {
     pub legal: bool,
 }
 
-// Whether a placement of the stack in a text is legal in a spread, or the first refusal that applies, 1 to 6.
+// Whether a placement of the stack in a text is legal in a spread, or the first refusal that applies, the text's.
 pub fn try_placement(
     text: &[u8],
     spread: u32,

@@ -1,6 +1,6 @@
 // The program stacktable: it prints the table of a stack, the least total in one spread, the placement for a total, both together, the page of a channel, or the
-// verdict on a placement. No contract can say what is read or written, so what is printed and the status that goes with it come from crate commands; the
-// functions here read, write and pass the status on.
+// verdict on a placement. No contract can say what is read or written, so what is printed, what is refused and the status that goes with it come from crate
+// commands, the words for a refusal from crate complaint; the functions here read, write and pass the status on.
 ghost use mathlib.Core.Path.{_≡_};
 ghost use mathlib.Core.Bool.{false};
 ghost use Prim.Native.Nat.{_≤_, _<_};
@@ -24,11 +24,14 @@ use commands::put_total;
 use commands::put_trial;
 use commands::read_command;
 use commands::read_number;
+use complaint::COMPLAINT_BYTES;
+use complaint::complaint_before;
 use libc::STDERR_FILENO;
 use libc::STDIN_FILENO;
 use libc::STDOUT_FILENO;
 use lines::is_word;
 use nabetsu::TABLE_BYTES;
+use text::Outcome;
 use text::Reading;
 
 // One byte more than an accepted text has, so that a longer one is seen to be.
@@ -43,13 +46,21 @@ fn fail(what: &[u8]) -> u32
     FAILED
 }
 
-// Prints what a status goes with.
-fn print(bytes: &[u8], status: u32) -> u32
+// Says a refusal in words; nothing where there is none.
+fn say_refusal(outcome: Outcome) {
+    let mut room = [0u8; COMPLAINT_BYTES];
+    let at = complaint_before(&mut room, outcome);
+    io::write_all(STDERR_FILENO, &room[at..]);
+}
+
+// Prints what a status goes with, and then says in words what is refused.
+fn print(bytes: &[u8], status: u32, outcome: Outcome) -> u32
     ensures { λ r. ⌜ Passed-on status r ⌝ }
 {
     if !io::write_all(STDOUT_FILENO, bytes) {
         return fail(b"standard output");
     }
+    say_refusal(outcome);
     status
 }
 
@@ -86,13 +97,15 @@ fn print_help() -> u32
   trial: legal or not legal, for separations T1..TK and positions X0..XK in spread N.
 A line GAP, a channel and a floor behind the stack's NETS lines is a least separation of that channel.
 In a channel with separation T paths run along tracks 1 to T - 1 only: the tracks of both strips' edges, 0 and T, stay clear.
-Where the stack, the spread, the total or the channel is refused it prints the refusal's number, line and field.
+Where the stack, the spread, the total or the channel is refused it prints the refusal's number, line and field, and says on standard error in words what is
+wrong and where.
 A number is 1 to 10 decimal digits, at most 4294967295.
-It exits with 0 for an answer, 1 for a refusal, 2 for anything said on standard error.
+It exits with 0 for an answer, 1 for a refusal, 2 where arguments are wrong or reading or writing fails.
 Example: two strips of 4 columns and two pairs, in a spread of 5
   printf 'STACK\\t1\\nPART\\t4\\nPART\\t4\\nNETS\\t0\\t2\\t2\\t4\\n' | stacktable spread 5
 ",
         ANSWERED,
+        Outcome::Accepted,
     )
 }
 
@@ -100,7 +113,7 @@ Example: two strips of 4 columns and two pairs, in a spread of 5
 fn print_version() -> u32
     ensures { λ r. ⌜ Passed-on 0 r ⌝ }
 {
-    print(b"stacktable 1.4\n", ANSWERED)
+    print(b"stacktable 1.5\n", ANSWERED, Outcome::Accepted)
 }
 
 // Says what is wrong with the arguments, and how the program is used.
@@ -264,7 +277,8 @@ fn print_table(text: &[u8]) -> u32
     let mut output = [0u8; TABLE_BYTES];
     let reply = put_table(text, &mut output);
     let length = reply.length;
-    print(&output[..length], reply.status)
+    let outcome = reply.outcome;
+    print(&output[..length], reply.status, outcome)
 }
 
 // The least total in one spread.
@@ -274,7 +288,8 @@ fn print_total(text: &[u8], spread: u32) -> u32
     let mut output = [0u8; TABLE_BYTES];
     let reply = put_total(text, spread, &mut output);
     let length = reply.length;
-    print(&output[..length], reply.status)
+    let outcome = reply.outcome;
+    print(&output[..length], reply.status, outcome)
 }
 
 // The placement for a total in one spread.
@@ -284,7 +299,8 @@ fn print_place(text: &[u8], spread: u32, total: u32) -> u32
     let mut output = [0u8; TABLE_BYTES];
     let reply = put_place(text, spread, total, &mut output);
     let length = reply.length;
-    print(&output[..length], reply.status)
+    let outcome = reply.outcome;
+    print(&output[..length], reply.status, outcome)
 }
 
 // The answer for one spread.
@@ -294,7 +310,8 @@ fn print_spread(text: &[u8], spread: u32) -> u32
     let mut output = [0u8; TABLE_BYTES];
     let reply = put_spread(text, spread, &mut output);
     let length = reply.length;
-    print(&output[..length], reply.status)
+    let outcome = reply.outcome;
+    print(&output[..length], reply.status, outcome)
 }
 
 // The page of a channel in the answer for one spread.
@@ -304,7 +321,8 @@ fn print_page(text: &[u8], spread: u32, channel: u32) -> u32
     let mut output = [0u8; TABLE_BYTES];
     let reply = put_page(text, spread, channel, &mut output);
     let length = reply.length;
-    print(&output[..length], reply.status)
+    let outcome = reply.outcome;
+    print(&output[..length], reply.status, outcome)
 }
 
 // The verdict on a trial of so many numbers.
@@ -317,7 +335,8 @@ fn print_trial(text: &[u8], count: usize, numbers: [u32; NUMBERS]) -> u32
         return print_wrong(b"trial: a stack of K channels takes 2K + 2 numbers");
     }
     let length = reply.length;
-    print(&output[..length], reply.status)
+    let outcome = reply.outcome;
+    print(&output[..length], reply.status, outcome)
 }
 
 // Reads the text, and prints its table.
@@ -399,8 +418,8 @@ fn run_trial(place: usize, end: usize) -> u32
     print_trial(&text[..length], end - first, values)
 }
 
-// Runs the program on its arguments, and answers its exit status: 0 where an answer was printed, 1 where a refusal was, 2 where something was said on standard
-// error.
+// Runs the program on its arguments, and answers its exit status: 0 where an answer was printed, 1 where a refusal was, 2 where arguments are wrong or reading or
+// writing fails.
 pub fn run() -> u32
     ensures { λ r. ⌜ r ≤ 2 ⌝ }
 {

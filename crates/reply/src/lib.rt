@@ -36,7 +36,7 @@ pub fn refused_placement(outcome: Outcome) -> PlacementAnswer
     }
 }
 
-// What a spread adds to the outcome of a text that has this stack: 7 behind 1 to 6.
+// What a spread adds to the outcome of a text that has this stack: 7 behind the text's refusals.
 pub fn spread_outcome(outcome: Outcome, stack: Stack, spread: u32) -> Outcome
     requires { ⌜ within-limits (stack-of stack) ≡ true ⌝ }
     ensures { λ r. ⌜ refusal-of r ≡ or-else (refusal-of outcome) (narrow-refusal (stack-of stack) spread) ⌝ }

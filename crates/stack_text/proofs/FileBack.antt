@@ -10,7 +10,7 @@ use lib.Seq.{getD-append-add}
 use borrow.Author.Tests.{le-leb, lt-ltb, le-ltb}
 use Rattle.numbers.specs.Lists.{tabulate}
 use Rattle.lines.specs.Lines.{Line, lines, no-line, line-at}
-use Rattle.text.specs.Text.{refusal, fine, or-else, stack-word, part-word, nets-word, gap-word, kind, exactly, in-pairs, stack-kind, part-kind, nets-kind, gap-kind, layout, entry, first-of, supplied, part-content, nets-content, gap-content, Check, check, k-of, head-refusal, head-check, part-check, length-at, nets-check, tail-at, tail-count, channel-before, tail-check, checks, in-turn, text-refusal, File, file, file-in}
+use Rattle.text.specs.Text.{refusal, fine, or-else, stack-word, part-word, nets-word, gap-word, entry, first-of, fault-at, kind, exactly, in-pairs, layout, stack-content, part-content, nets-content, gap-content, stack-kind, part-kind, nets-kind, gap-kind, Check, check, supplied, line-check, k-of, head-refusal, head-check, part-check, length-at, nets-check, tail-at, tail-count, channel-before, tail-check, checks, in-turn, text-refusal, File, file, file-in}
 use Rattle.stack_text.specs.StackText.{lines-text, file-text}
 use Rattle.stack_text.proofs.Cuts.{without}
 use Rattle.stack_text.proofs.LineBack.{small, Small, line-made, numbers-back, layout-back, line-back, lines-back}
@@ -177,13 +177,13 @@ in-turn-fine (suc n) i g rest h = rw (h i (omega arith) (omega arith)) (in-turn-
 
 module _ (f : File) (s : Shaped f) (o : Contents f) where
   head-fine : head-refusal (file-lines f) ≡ fine
-  unfolding head-refusal line-at file-lines stack-kind kind stack-word without or-else fine refusal exactly
+  unfolding head-refusal line-check check supplied entry k-of first-of line-at file-lines stack-kind kind stack-content fault-at stack-word without or-else fine refusal exactly
   head-fine =
       let laid : layout stack-kind 1 (line-made stack-word (length (f .nets) ∷ [])) ≡ fine = layout-back stack-kind 1 (length (f .nets) ∷ []) refl (head-small f s) refl in
       rw (laid, k-back f s, le-leb 1 (length (f .nets)) (o .some), le-leb (length (f .nets)) 8 (o .most))
 
   part-fine : (j : ℕ) → j < length (f .parts) → part-check (file-lines f) j ≡ check fine fine
-  unfolding part-check part-kind kind part-word without
+  unfolding part-check line-check part-kind kind part-word without
   part-fine j h =
       let laid = layout-back part-kind (suc (suc j)) (getD (f .parts) j []) refl (s .parts j h) (o .part-count j h) in
       rw (part-line f s j h, laid, part-supplied f s j h, o .part-good j (suc (suc j)) h)
@@ -193,10 +193,10 @@ module _ (f : File) (s : Shaped f) (o : Contents f) where
   lengths i h = rw (part-supplied f s i h)
 
   nets-fine : (c : ℕ) → c < length (f .nets) → nets-check (file-lines f) c ≡ check fine fine
-  unfolding nets-check nets-kind kind nets-word without
+  unfolding nets-check line-check nets-kind kind nets-word without
   nets-fine c h =
       let n = suc (length (f .nets) + 2 + c) in
-      let laid = layout-back nets-kind n (getD (f .nets) c []) refl (s .nets c h) (o .nets-count c h) in
+      let laid = layout-back (nets-kind (getD (getD (f .parts) c []) 0 0) (getD (getD (f .parts) (suc c) []) 0 0)) n (getD (f .nets) c []) refl (s .nets c h) (o .nets-count c h) in
       rw (k-back f s, lengths c (omega (arith, s .strips)), lengths (suc c) (omega (arith, s .strips)), nets-line f s c h, laid, nets-supplied f s c h, o .nets-good c n h)
 
   before-back : (g : ℕ) → g < length (f .gaps) → channel-before (file-lines f) g ≡ gap-before 0 (f .gaps) g
@@ -205,10 +205,10 @@ module _ (f : File) (s : Shaped f) (o : Contents f) where
   before-back (suc g) h = rw (gap-supplied f s g (omega arith))
 
   gap-fine : (g : ℕ) → g < length (f .gaps) → tail-check (file-lines f) g ≡ check fine fine
-  unfolding tail-check gap-kind kind gap-word without
+  unfolding tail-check line-check gap-kind kind gap-word without
   gap-fine g h =
       let n = suc (tail-at (file-lines f) + g) in
-      let laid = layout-back gap-kind n (getD (f .gaps) g []) refl (s .gaps g h) (o .gap-count g h) in
+      let laid = layout-back (gap-kind (k-of (file-lines f)) (channel-before (file-lines f) g)) n (getD (f .gaps) g []) refl (s .gaps g h) (o .gap-count g h) in
       rw (gap-line f s g h, laid, gap-supplied f s g h, before-back g h, k-back f s, o .gap-good g n h)
 
   checks-fine : in-turn (checks (file-lines f)) ≡ fine

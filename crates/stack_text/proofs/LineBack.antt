@@ -11,7 +11,7 @@ use lib.ListN.{length, getD, length-map, length-append}
 use borrow.Author.Tests.{ltb-true, eq-eqb}
 use Rattle.numbers.proofs.Bools.{ands}
 use Rattle.lines.specs.Lines.{Line, line, lines, fields, word-of, number-fields, same-bytes, has-word, ill-formed, values, numbers-of}
-use Rattle.text.specs.Text.{fine, Kind, layout}
+use Rattle.text.specs.Text.{refusal, fine, or-else, Kind, misplaced, count-refusal, number-refusal, layout}
 use Rattle.writing.specs.TableText.{digits, tabbed}
 use Rattle.stack_text.specs.StackText.{line-text, lines-text}
 use Rattle.stack_text.proofs.Cuts.{Number-made, number-made, number-few, without, without-append, number-without, field-last, field-first, line-first}
@@ -65,7 +65,7 @@ same-self [] = refl
 same-self (x ∷ xs) = rw (eq-eqb x x refl, same-self xs)
 
 pub layout-back : (K : Kind) (n : ℕ) (ns : List ℕ) → without 9 (K .word) ≡ true → small ns ≡ true → K .fault (length ns) ≡ 0 → layout K n (line-made (K .word) ns) ≡ fine
-unfolding layout has-word word-of number-fields line-made line
+unfolding layout count-refusal number-refusal misplaced or-else fine refusal has-word word-of number-fields line-made line
 layout-back K n ns h k e = rw (fields-back (K .word) ns h k, same-self (K .word), length-map ns digits, e, well-formed 2 ns k)
 
 -- LINES of a word

@@ -11,24 +11,22 @@ use borrow.Author.Tests.{leb-true, leb-false, ltb-false, eq-eqb, ne-eqb}
 use Rattle.numbers.specs.Lists.{tabulate}
 use Rattle.numbers.proofs.Bools.{ands}
 use Rattle.lines.specs.Lines.{Line, numbers-of}
-use Rattle.lines.specs.Numbers.{Line-read}
-use Rattle.lines.specs.declared.LineRead.{LineRead}
-use Rattle.text.specs.Text.{refusal, fine, gap-word, kind, exactly, gap-kind, Entry, entry, first-of, second-of, fault-at, gap-content, floor-in}
+use Rattle.text.specs.Text.{refusal, fine, gap-word, Entry, entry, first-of, second-of, fault-at, kind, exactly, gap-content, gap-kind, floor-in}
 use Rattle.text.specs.Outcome.{refusal-of, is-accepted}
-use Rattle.text.specs.Kinds.{layout-found, gap-refusal, Gap-read}
+use Rattle.text.specs.Kinds.{Kind-read, Gap-read}
+use Rattle.text.specs.declared.KindRead.{KindRead}
 use Rattle.text.specs.declared.Outcome.{Outcome}
 use Rattle.text.proofs.Refusals.{when-fine, refused-number}
 use Rattle.text.proofs.Layouts.{layout-refused, layout-then, number-kept}
 
 -- THE LINE
-module _ (k b n : ℕ) (l : Line) (r : LineRead) (m : Line-read l gap-word r) (f : ℕ) (e : f ≡ exactly 2 (r .count)) (o : Outcome)
-    (t : refusal-of o ≡ layout-found (r .worded) f (r .ill) n) where
-  pub gap-ill : (c v : ℕ) → is-accepted o ≡ false → Gap-read k b n l (record { outcome = o; channel = c; floor = v })
-  unfolding gap-refusal gap-kind kind
+module _ (k b n : ℕ) (l : Line) (r : KindRead) (vs : List ℕ) (m : Kind-read gap-word (λ n. exactly 2 n) n l r vs) where
+  pub gap-ill : (c v : ℕ) → is-accepted (r .layout) ≡ false → Gap-read k b n l (record { outcome = r .layout; channel = c; floor = v })
+  unfolding gap-kind kind
   gap-ill c v a = record {
-    outcome = layout-refused gap-kind n l r m f e o t _ a;
-    channel = λ z. absurd (refused-number o a z);
-    floor = λ z. absurd (refused-number o a z);
+    outcome = layout-refused (gap-kind k b) n l r vs m a;
+    channel = λ z. absurd (refused-number (r .layout) a z);
+    floor = λ z. absurd (refused-number (r .layout) a z);
   }
 
   -- the content of a line's numbers is that of the first two
@@ -36,15 +34,15 @@ module _ (k b n : ℕ) (l : Line) (r : LineRead) (m : Line-read l gap-word r) (f
   unfolding gap-content first-of second-of entry fault-at
   by-two = refl
 
-  pub gap-there : (q : Outcome) → is-accepted o ≡ true → refusal-of q ≡ gap-content k b (entry n 0 (getD (r .values) 0 0 ∷ getD (r .values) 1 0 ∷ [])) →
-      Gap-read k b n l (record { outcome = q; channel = getD (r .values) 0 0; floor = getD (r .values) 1 0 })
-  unfolding gap-refusal gap-kind kind
+  pub gap-there : (q : Outcome) → is-accepted (r .layout) ≡ true →
+      refusal-of q ≡ gap-content k b (entry n 0 (getD vs 0 0 ∷ getD vs 1 0 ∷ [])) →
+      Gap-read k b n l (record { outcome = q; channel = getD vs 0 0; floor = getD vs 1 0 })
+  unfolding gap-kind kind
   gap-there q a h =
-      let first : getD (r .values) 0 0 ≡ getD (numbers-of l) 0 0 = number-kept gap-kind n l r m f e o t a 0 (omega arith) in
-      let second : getD (r .values) 1 0 ≡ getD (numbers-of l) 1 0 = number-kept gap-kind n l r m f e o t a 1 (omega arith) in
-      let after = layout-then gap-kind n l r m f e o t a (gap-content k b (entry n 0 (numbers-of l))) in
+      let first : getD vs 0 0 ≡ getD (numbers-of l) 0 0 = number-kept (gap-kind k b) n l r vs m a 0 (omega arith) in
+      let second : getD vs 1 0 ≡ getD (numbers-of l) 1 0 = number-kept (gap-kind k b) n l r vs m a 1 (omega arith) in
       record {
-        outcome = h ∙ (rw (first, second) by-two ∙ sym after);
+        outcome = h ∙ (rw (first, second) by-two ∙ sym (layout-then (gap-kind k b) n l r vs m a));
         channel = λ z. first;
         floor = λ z. second;
       }

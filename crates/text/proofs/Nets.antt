@@ -11,10 +11,9 @@ use lib.ListN.{length, getD, length-append}
 use lib.Seq.{ext-getD, getD-append-seam}
 use borrow.Author.Tests.{leb-false, lt-ltb, le-ltb, ltb-true, ltb-false, eqb-true, le-leb, lt-leb, ne-eqb}
 use Rattle.numbers.proofs.Lists.{getD-tabulate}
-use Rattle.lines.specs.Lines.{Line, number-fields, numbers-of}
-use Rattle.lines.specs.Numbers.{in-places, Line-read}
-use Rattle.lines.specs.declared.LineRead.{LineRead}
-use Rattle.lines.proofs.Fields.{getD-in-places, numbers-count}
+use Rattle.lines.specs.Lines.{Line, numbers-of}
+use Rattle.lines.specs.Numbers.{in-places}
+use Rattle.lines.proofs.Fields.{getD-in-places}
 use Rattle.stack.specs.Stack.{Pair, pair, p-at, q-at}
 use Rattle.stack.specs.Value.{channel-of}
 use Rattle.stack.specs.Made.{not-above, pair-found, or-fault, pairs-found, terminals-found, kept, pairs-in, Terminals-made}
@@ -23,13 +22,14 @@ use Rattle.stack.specs.declared.Terminals.{Terminals}
 use Rattle.stack.specs.declared.TerminalsFound.{TerminalsFound}
 use Rattle.stack.specs.declared.TerminalsFound.the-variants.{Good, Crowd, Overhang, Crossing}
 use Rattle.stack.specs.declared.TerminalsMade.{TerminalsMade}
-use Rattle.text.specs.Text.{Refusal, refusal, nets-word, kind, in-pairs, nets-kind, entry, fault-at, terminals-refusal, nets-content, pairs-of}
+use Rattle.text.specs.Text.{Refusal, refusal, nets-word, entry, fault-at, kind, in-pairs, terminals-refusal, nets-content, nets-kind, pairs-of}
 use Rattle.text.specs.Outcome.{refusal-of, is-accepted, refused}
-use Rattle.text.specs.Kinds.{layout-found, place, found-refusal, nets-refusal, Nets-read}
+use Rattle.text.specs.Kinds.{Kind-read, kind-refusal, place, found-refusal, Nets-read}
 use Rattle.text.specs.declared.Refusal.the-variants as why
+use Rattle.text.specs.declared.KindRead.{KindRead}
 use Rattle.text.specs.declared.Outcome.{Outcome}
 use Rattle.text.proofs.Refusals.{refused-number}
-use Rattle.text.proofs.Layouts.{layout-refused, layout-then, good-count, numbers-kept}
+use Rattle.text.proofs.Layouts.{layout-refused, layout-then}
 
 -- THE PLACE of a fault is below 64
 module _ (c : List Pair) (lo hi p q : ℕ) where
@@ -216,39 +216,30 @@ pairs-even n h = go (eqb (n % 2) 0) refl h
     go false e h = absurd (omega arith)
 
 -- THE LINE
-module _ (lo hi n : ℕ) (l : Line) (r : LineRead) (m : Line-read l nets-word r) (f : ℕ) (e : f ≡ in-pairs (r .count)) (o : Outcome)
-    (t : refusal-of o ≡ layout-found (r .worded) f (r .ill) n) where
-  pub nets-ill : (q : Terminals) → is-accepted o ≡ false → Nets-read lo hi n l (record { outcome = o; terminals = q })
-  unfolding nets-refusal nets-kind kind
-  nets-ill q a = record { outcome = layout-refused nets-kind n l r m f e o t _ a; pairs = λ z. absurd (refused-number o a z) }
+module _ (lo hi n : ℕ) (l : Line) (r : KindRead) (vs : List ℕ) (m : Kind-read nets-word (λ n. in-pairs n) n l r vs) where
+  pub nets-ill : (q : Terminals) → is-accepted (r .layout) ≡ false → Nets-read lo hi n l (record { outcome = r .layout; terminals = q })
+  unfolding nets-kind kind
+  nets-ill q a = record { outcome = layout-refused (nets-kind lo hi) n l r vs m a; pairs = λ z. absurd (refused-number (r .layout) a z) }
 
-  module _ (a : is-accepted o ≡ true) where
-    count-there : r .count ≡ length (numbers-of l)
-    count-there = m .count ∙ sym (numbers-count l)
-
+  module _ (a : is-accepted (r .layout) ≡ true) where
     even-there : length (numbers-of l) % 2 ≡ 0
-    unfolding nets-kind kind
-    even-there = rw (numbers-count l) (pairs-even (length (number-fields l)) (good-count nets-kind n l r m f e o t a))
+    even-there = rw (m .count) at (pairs-even (r .count) (m .fault a))
 
-    values-there : r .values ≡ in-places 64 (numbers-of l)
+    line-refused : kind-refusal (nets-kind lo hi) n l ≡ found-refusal n (terminals-found lo hi (pairs-in vs (r .count / 2)))
     unfolding nets-kind kind
-    values-there = numbers-kept nets-kind n l r m f e o t a
-
-    line-refused : nets-refusal lo hi n l ≡ found-refusal n (terminals-found lo hi (pairs-in (r .values) (r .count / 2)))
-    unfolding nets-refusal nets-kind kind
     line-refused =
-        layout-then nets-kind n l r m f e o t a (nets-content lo hi (entry n 0 (numbers-of l)))
-        ∙ rw (values-there, count-there) (sym (terminals-refused n lo hi (numbers-of l) even-there))
+        layout-then (nets-kind lo hi) n l r vs m a
+        ∙ rw (m .kept a, m .count) (sym (terminals-refused n lo hi (numbers-of l) even-there))
 
-    pairs-kept : (q : TerminalsMade) → Terminals-made (r .values) (r .count / 2) lo hi q → q .found ≡ Good → channel-of (q .terminals) ≡ pairs-of (numbers-of l)
+    pairs-kept : (q : TerminalsMade) → Terminals-made vs (r .count / 2) lo hi q → q .found ≡ Good → channel-of (q .terminals) ≡ pairs-of (numbers-of l)
     unfolding kept
     pairs-kept q s g =
-        let vs = numbers-of l in
-        let found = good-few lo hi (pairs-in (r .values) (r .count / 2)) (sym (s .found) ∙ g) in
-        let few : length vs / 2 ≤ 32 = omega (arith, found, pairs-in-length (r .values) (r .count / 2), count-there) in
-        s .pairs ∙ rw (g, values-there, count-there) (pairs-in-places vs few)
+        let ns = numbers-of l in
+        let found = good-few lo hi (pairs-in vs (r .count / 2)) (sym (s .found) ∙ g) in
+        let few : length ns / 2 ≤ 32 = omega (arith, found, pairs-in-length vs (r .count / 2), m .count) in
+        s .pairs ∙ rw (g, m .kept a, m .count) (pairs-in-places ns few)
 
-    pub nets-found : (w : Outcome) (q : TerminalsMade) → Terminals-made (r .values) (r .count / 2) lo hi q → refusal-of w ≡ found-refusal n (q .found) →
+    pub nets-found : (w : Outcome) (q : TerminalsMade) → Terminals-made vs (r .count / 2) lo hi q → refusal-of w ≡ found-refusal n (q .found) →
         Nets-read lo hi n l (record { outcome = w; terminals = q .terminals })
     nets-found w q s v = record {
       outcome = v ∙ (rw (s .found) (sym line-refused));

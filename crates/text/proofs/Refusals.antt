@@ -9,9 +9,9 @@ use lib.Dec.{eqb}
 use borrow.Author.Tests.{eqb-true, eqb-false, ne-eqb}
 use Rattle.text.specs.Text.{Refusal, refusal, fine, or-else, Check, in-turn}
 use Rattle.text.specs.Outcome.{number-of, refusal-of, is-accepted}
-use Rattle.text.specs.Driver.{line-refusal}
+use Rattle.text.specs.Kinds.{line-refusal}
 use Rattle.text.specs.declared.Refusal.{Refusal as Why}
-use Rattle.text.specs.declared.Refusal.the-variants.{Overlong, Layout, Crowd, Length, Overhang, Crossing, Narrow, ShortSpace, Broad, Unmet}
+use Rattle.text.specs.declared.Refusal.the-variants.{Overlong, Layout, Crowd, Length, Overhang, Crossing, Narrow, ShortSpace, Broad, Unmet, Count, IllFormed}
 use Rattle.text.specs.declared.Outcome.{Outcome}
 use Rattle.text.specs.declared.Outcome.the-variants.{Accepted, Refused}
 
@@ -29,10 +29,13 @@ unfolding refusal
 when-fine true n l f r h = absurd (omega arith)
 when-fine false n l f r h = (refl, h)
 
-pub only-fine : (v : Bool) (n l f : ℕ) → cond v fine (refusal (suc n) l f) .number ≡ 0 → v ≡ true
+pub unless-fine : (v : Bool) (n l f : ℕ) (r : Refusal) → cond v r (refusal (suc n) l f) .number ≡ 0 → (v ≡ true) × (r .number ≡ 0)
 unfolding refusal
-only-fine true n l f h = refl
-only-fine false n l f h = absurd (omega arith)
+unless-fine true n l f r h = (refl, h)
+unless-fine false n l f r h = absurd (omega arith)
+
+pub only-fine : (v : Bool) (n l f : ℕ) → cond v fine (refusal (suc n) l f) .number ≡ 0 → v ≡ true
+only-fine v n l f h = unless-fine v n l f fine h .0
 
 -- a refusal is not nothing
 pub not-fine : (n l f : ℕ) (r : Refusal) → r ≡ refusal (suc n) l f → r .number ≡ 0 → ⊥
@@ -77,6 +80,8 @@ word-number Narrow h = omega arith
 word-number ShortSpace h = omega arith
 word-number Broad h = omega arith
 word-number Unmet h = omega arith
+word-number Count h = omega arith
+word-number IllFormed h = omega arith
 
 pub refused-number : (o : Outcome) → is-accepted o ≡ false → refusal-of o .number ≡ 0 → ⊥
 unfolding refusal fine

@@ -1,26 +1,25 @@
 -- STACK and PART: what the readers answer is what document 01 says of the line, case by case of the tests that the code makes. Assumes nothing.
 use mathlib.Core.Path.{_≡_, refl, ap, sym, _∙_}
 use mathlib.Core.Bool.{Bool, true, false, _&&_, cond}
-use mathlib.Core.List.{[], _∷_}
+use mathlib.Core.List.{List, [], _∷_}
 use Prim.Native.Nat.{ℕ}
 use native.Mathlib.Omega.{arith}
 use lib.Dec.{leb}
 use lib.ListN.{getD}
 use Rattle.lines.specs.Lines.{Line, line-at, numbers-of}
-use Rattle.lines.specs.Numbers.{Line-read}
-use Rattle.lines.specs.declared.LineRead.{LineRead}
-use Rattle.stack.specs.Value.{strip}
-use Rattle.stack.specs.Made.{strip-made, stack-found, channels-made, Stack-made}
+use Rattle.stack.specs.Value.{strip, stack-of}
+use Rattle.stack.specs.Made.{bare, strip-made, stack-found, channels-made, Stack-made}
 use Rattle.stack.specs.declared.Strip.{Strip}
 use Rattle.stack.specs.declared.StripMade.the-variants.{Made, Length}
 use Rattle.stack.specs.declared.StackFound.the-variants.{Sized, Oversized}
 use Rattle.stack.specs.declared.StackMade.{StackMade}
-use Rattle.text.specs.Text.{refusal, fine, stack-word, part-word, kind, exactly, stack-kind, part-kind, entry, first-of, fault-at, part-content, k-of, head-refusal}
+use Rattle.text.specs.Text.{refusal, stack-word, part-word, entry, first-of, fault-at, kind, exactly, stack-content, part-content, stack-kind, part-kind, check, supplied, line-check, k-of, head-refusal}
 use Rattle.text.specs.Outcome.{refusal-of, is-accepted, refused}
-use Rattle.text.specs.Kinds.{layout-found, Head-read, Part-content, part-refusal, Part-read}
+use Rattle.text.specs.Kinds.{Kind-read, kind-refusal, Head-content, Head-read, Part-content, Part-read}
 use Rattle.text.specs.declared.Refusal.the-variants as why
 use Rattle.text.specs.declared.Outcome.{Outcome}
 use Rattle.text.specs.declared.Outcome.the-variants.{Accepted}
+use Rattle.text.specs.declared.KindRead.{KindRead}
 use Rattle.text.specs.declared.Reading.{Reading}
 use Rattle.text.specs.declared.PartRead.{PartRead}
 use Rattle.text.proofs.Refusals.{not-fine, refused-number}
@@ -43,43 +42,52 @@ oversized-says k e = go (leb 1 k && leb k 8) refl e
     go true q e = let z : _≡_ {A = ℕ} 0 1 = cc in absurd (omega arith)
     go false q e = q
 
--- STACK
-module _ (l : Line) (r : LineRead) (m : Line-read l stack-word r) (f : ℕ) (e : f ≡ exactly 1 (r .count)) (o : Outcome)
-    (t : refusal-of o ≡ layout-found (r .worded) f (r .ill) 1) where
-  pub head-ill : (q : Reading) → is-accepted o ≡ false → q .outcome ≡ o → Head-read l q
-  unfolding head-refusal line-at stack-kind kind
-  head-ill q a s =
-      let says : refusal-of o ≡ head-refusal (l ∷ []) = layout-refused stack-kind 1 l r m f e o t _ a in
-      let none : head-refusal (l ∷ []) .number ≡ 0 → ⊥ = rw says at (refused-number o a) in
+-- A REFUSED TEXT: a stack of one channel
+pub one-channel : (r : StackMade) → Stack-made 1 r → stack-of (r .stack) ≡ bare 1
+unfolding stack-found channels-made
+one-channel r m =
+    let one : r .stack .count ≡ 1 = m .count ∙ rw (m .found) in
+    m .bare ∙ rw one
+
+-- STACK: its content, and then the line
+module _ (k : ℕ) (s : StackMade) (h : Stack-made k s) where
+  pub content-sized : s .found ≡ Sized → Head-content k (record { outcome = Accepted; stack = s .stack })
+  unfolding stack-content first-of entry channels-made
+  content-sized g =
+      let count : s .stack .count ≡ k = h .count ∙ rw g in
+      record { outcome = rw (sized-says k (sym (h .found) ∙ g)); count = λ z. count; bare = λ z. h .bare ∙ rw count }
+
+  pub content-oversized : (o : Outcome) → s .found ≡ Oversized → o ≡ refused why.Crowd 1 2 → Head-content k (record { outcome = o; stack = s .stack })
+  unfolding stack-content first-of entry fault-at
+  content-oversized o g w =
+      let is : refusal-of o ≡ refusal 3 1 2 = rw w in
+      let none = not-fine 2 1 2 (refusal-of o) is in
+      record { outcome = is ∙ rw (oversized-says k (sym (h .found) ∙ g)); count = λ z. absurd (none z); bare = λ z. absurd (none z) }
+
+head-is : (l : Line) → head-refusal (l ∷ []) ≡ kind-refusal stack-kind 1 l
+unfolding head-refusal kind-refusal line-check check supplied line-at
+head-is l = refl
+
+-- the content of a line's numbers is that of the first
+head-by-first : (l : Line) → stack-content (entry 1 0 (k-of (l ∷ []) ∷ [])) ≡ stack-content (entry 1 0 (numbers-of l))
+unfolding stack-content first-of entry fault-at k-of line-at
+head-by-first l = refl
+
+module _ (l : Line) (r : KindRead) (vs : List ℕ) (m : Kind-read stack-word (λ n. exactly 1 n) 1 l r vs) (q : Reading) where
+  pub head-ill : is-accepted (r .layout) ≡ false → q .outcome ≡ r .layout → Head-read l q
+  unfolding stack-kind kind
+  head-ill a s =
+      let says : refusal-of (r .layout) ≡ head-refusal (l ∷ []) = layout-refused stack-kind 1 l r vs m a ∙ sym (head-is l) in
+      let none : head-refusal (l ∷ []) .number ≡ 0 → ⊥ = rw says at (refused-number (r .layout) a) in
       record { outcome = rw (s, says); count = λ z. absurd (none z); bare = λ z. absurd (none z) }
 
-  module _ (a : is-accepted o ≡ true) (s : StackMade) (h : Stack-made (getD (r .values) 0 0) s) where
-    number-there : getD (r .values) 0 0 ≡ k-of (l ∷ [])
-    unfolding k-of line-at stack-kind kind
-    number-there = number-kept stack-kind 1 l r m f e o t a 0 (omega arith)
-
-    then-crowd : head-refusal (l ∷ []) ≡ cond (leb 1 (k-of (l ∷ [])) && leb (k-of (l ∷ [])) 8) fine (refusal 3 1 2)
-    unfolding head-refusal line-at stack-kind kind
-    then-crowd = layout-then stack-kind 1 l r m f e o t a _
-
-    found : s .found ≡ stack-found (k-of (l ∷ []))
-    found = h .found ∙ rw number-there
-
-    pub head-sized : s .found ≡ Sized → Head-read l (record { outcome = Accepted; stack = s .stack })
-    unfolding channels-made
-    head-sized g =
-        let count : s .stack .count ≡ k-of (l ∷ []) = h .count ∙ rw (g, number-there) in
-        record {
-          outcome = sym (then-crowd ∙ rw (sized-says (k-of (l ∷ [])) (sym found ∙ g)));
-          count = λ z. count;
-          bare = λ z. h .bare ∙ rw count;
-        }
-
-    pub head-oversized : (q : Outcome) → s .found ≡ Oversized → q ≡ refused why.Crowd 1 2 → Head-read l (record { outcome = q; stack = s .stack })
-    head-oversized q g w =
-        let says : head-refusal (l ∷ []) ≡ refusal 3 1 2 = then-crowd ∙ rw (oversized-says (k-of (l ∷ [])) (sym found ∙ g)) in
-        let none = not-fine 2 1 2 (head-refusal (l ∷ [])) says in
-        record { outcome = rw (w, says); count = λ z. absurd (none z); bare = λ z. absurd (none z) }
+  pub head-there : is-accepted (r .layout) ≡ true → Head-content (getD vs 0 0) q → Head-read l q
+  unfolding k-of line-at stack-kind kind
+  head-there a h =
+      let first : getD vs 0 0 ≡ k-of (l ∷ []) = number-kept stack-kind 1 l r vs m a 0 (omega arith) in
+      let says : refusal-of (q .outcome) ≡ head-refusal (l ∷ []) =
+      h .outcome ∙ (rw first (head-by-first l) ∙ sym (head-is l ∙ layout-then stack-kind 1 l r vs m a)) in
+      record { outcome = says; count = λ z. h .count (rw says z) ∙ first; bare = λ z. h .bare (rw says z) ∙ rw first }
 
 made-says : (v : ℕ) (s : Strip) → strip-made v ≡ Made s → ((leb 1 v && leb v 1000) ≡ true) × (s .length .0 ≡ v)
 unfolding strip-made
@@ -113,21 +121,19 @@ by-first : (n : ℕ) (l : Line) → part-content (entry n 0 (getD (numbers-of l)
 unfolding part-content first-of entry fault-at
 by-first n l = refl
 
-module _ (n : ℕ) (l : Line) (r : LineRead) (m : Line-read l part-word r) (f : ℕ) (e : f ≡ exactly 1 (r .count)) (o : Outcome)
-    (t : refusal-of o ≡ layout-found (r .worded) f (r .ill) n) where
-  pub part-ill : (q : PartRead) → is-accepted o ≡ false → q .outcome ≡ o → Part-read n l q
-  unfolding part-refusal part-kind kind
+module _ (n : ℕ) (l : Line) (r : KindRead) (vs : List ℕ) (m : Kind-read part-word (λ n. exactly 1 n) n l r vs) where
+  pub part-ill : (q : PartRead) → is-accepted (r .layout) ≡ false → q .outcome ≡ r .layout → Part-read n l q
+  unfolding part-kind kind
   part-ill q a s = record {
-    outcome = rw s (layout-refused part-kind n l r m f e o t _ a);
-    strip = λ z. absurd (refused-number o a (rw s at z));
+    outcome = rw s (layout-refused part-kind n l r vs m a);
+    strip = λ z. absurd (refused-number (r .layout) a (rw s at z));
   }
 
-  pub part-there : (q : PartRead) → is-accepted o ≡ true → Part-content (getD (r .values) 0 0) n q → Part-read n l q
-  unfolding part-refusal part-kind kind
+  pub part-there : (q : PartRead) → is-accepted (r .layout) ≡ true → Part-content (getD vs 0 0) n q → Part-read n l q
+  unfolding part-kind kind
   part-there q a h =
-      let first : getD (r .values) 0 0 ≡ getD (numbers-of l) 0 0 = number-kept part-kind n l r m f e o t a 0 (omega arith) in
-      let after = layout-then part-kind n l r m f e o t a (part-content (entry n 0 (numbers-of l))) in
+      let first : getD vs 0 0 ≡ getD (numbers-of l) 0 0 = number-kept part-kind n l r vs m a 0 (omega arith) in
       record {
-        outcome = h .outcome ∙ (rw first (by-first n l) ∙ sym after);
+        outcome = h .outcome ∙ (rw first (by-first n l) ∙ sym (layout-then part-kind n l r vs m a));
         strip = λ z. h .strip z ∙ first;
       }

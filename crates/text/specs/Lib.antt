@@ -1,5 +1,5 @@
--- A stack's text: the trusted definitions, document 01's number, line and field for an outcome, and what the readers answer.
+-- A stack's text: the trusted definitions, the documents' number, line and field for an outcome, and what the readers of single lines answer.
 pub mod Text
+pub mod Layout
 pub mod Outcome
 pub mod Kinds
-pub mod Driver

@@ -1,5 +1,5 @@
--- TRUSTED. The stack's text: its kinds of line, the refusals 1 to 6 at their lines and fields, and the stack in a text.
--- Document 01, "Lines and tabs" and "Sent back at the counter"; document 02, P2. Assumes nothing: these are definitions.
+-- TRUSTED. The stack's text: its kinds of line, the refusals 1 to 6, 11 and 12 at their lines and fields, and the stack in a text.
+-- Document 01, "Lines and tabs" and "Sent back at the counter"; document 02, P2 and P5. Assumes nothing: these are definitions.
 use mathlib.Core.Bool.{Bool, true, false, _&&_, not, cond}
 use mathlib.Core.List.{List, [], _∷_, _++_, map}
 use Prim.Native.Nat.{ℕ, zero, suc, _+_, _*_, _-_, _%_}
@@ -38,38 +38,6 @@ nets-word = 78 ∷ 69 ∷ 84 ∷ 83 ∷ []
 unfoldable pub gap-word : List ℕ
 gap-word = 71 ∷ 65 ∷ 80 ∷ []
 
--- a KIND of line: its word, and the field at which a count of numbers is at fault, the first missing or the first extra; 0 where the count is good
-pub record Kind : Type 0 where
-  pub word : List ℕ
-  pub fault : (count : ℕ) → ℕ
-
-unfoldable pub kind : List ℕ → (ℕ → ℕ) → Kind
-kind w f = record { word = w; fault = f }
-
-unfoldable pub exactly : (due count : ℕ) → ℕ
-exactly m n = cond (ltb n m) (n + 2) (cond (ltb m n) (m + 2) 0)
-
-unfoldable pub in-pairs : (count : ℕ) → ℕ
-in-pairs n = cond (eqb (n % 2) 0) 0 (n + 2)
-
-unfoldable pub stack-kind : Kind
-stack-kind = kind stack-word (λ n. exactly 1 n)
-
-unfoldable pub part-kind : Kind
-part-kind = kind part-word (λ n. exactly 1 n)
-
-unfoldable pub nets-kind : Kind
-nets-kind = kind nets-word (λ n. in-pairs n)
-
-unfoldable pub gap-kind : Kind
-gap-kind = kind gap-word (λ n. exactly 2 n)
-
--- the LAYOUT of line n as a line of a kind, 2: that it is there and ended, its word, the count of its numbers, and each of them
-unfoldable pub layout : Kind → (n : ℕ) → Line → Refusal
-layout K n l =
-    let fs = number-fields l in
-    cond (has-word l (K .word) && (eqb (K .fault (length fs)) 0 && eqb (ill-formed 2 fs) 0)) fine (refusal 2 n 0)
-
 -- an ENTRY: the numbers of a line, the line that supplies them, and by how many fields they are moved there
 pub record Entry : Type 0 where
   pub origin : ℕ
@@ -89,9 +57,42 @@ second-of e = getD (e .numbers) 1 0
 unfoldable pub fault-at : Entry → (number field : ℕ) → Refusal
 fault-at e m f = refusal m (e .origin) (e .shift + f)
 
--- what supplies line i + 1: the line itself
-unfoldable pub supplied : List Line → (i : ℕ) → Entry
-supplied ls i = entry (suc i) 0 (numbers-of (line-at ls i))
+-- a KIND of line: its word, the field at which a count of numbers is at fault (0 where the count is good), and what is refused of its numbers
+pub record Kind : Type 0 where
+  pub word : List ℕ
+  pub fault : (count : ℕ) → ℕ
+  pub content : Entry → Refusal
+
+unfoldable pub kind : (word : List ℕ) → (fault : ℕ → ℕ) → (content : Entry → Refusal) → Kind
+kind w f c = record { word = w; fault = f; content = c }
+
+-- so many numbers are due, the first of them in field 2: the first field missing or extra
+unfoldable pub exactly : (due count : ℕ) → ℕ
+exactly m n = cond (ltb n m) (n + 2) (cond (ltb m n) (m + 2) 0)
+
+-- numbers come in pairs: the missing partner of the last
+unfoldable pub in-pairs : (count : ℕ) → ℕ
+in-pairs n = cond (eqb (n % 2) 0) 0 (n + 2)
+
+-- a fault of the layout of line n at a field, which is moved there by so many fields; none at field 0
+unfoldable pub misplaced : (number n shift field : ℕ) → Refusal
+misplaced m n s f = cond (eqb f 0) fine (refusal m n (s + f))
+
+-- of the fields behind the word their count, 11, and the first that is no number, 12
+unfoldable pub count-refusal : Kind → (n shift : ℕ) → List (List ℕ) → Refusal
+count-refusal K n s fs = misplaced 11 n s (K .fault (length fs))
+
+unfoldable pub number-refusal : (n shift : ℕ) → List (List ℕ) → Refusal
+number-refusal n s fs = misplaced 12 n s (ill-formed 2 fs)
+
+-- the LAYOUT of line n as a line of a kind: that it is there, ended and has its word, 2; then the count of its fields, 11; then each number, 12
+unfoldable pub layout : Kind → (n : ℕ) → Line → Refusal
+layout K n l =
+    cond (has-word l (K .word)) (or-else (count-refusal K n 0 (number-fields l)) (number-refusal n 0 (number-fields l))) (refusal 2 n 0)
+
+-- STACK: crowd, 3, at field 2
+unfoldable pub stack-content : Entry → Refusal
+stack-content e = cond (leb 1 (first-of e) && leb (first-of e) 8) fine (fault-at e 3 2)
 
 -- PART: length, 4, at field 2
 unfoldable pub part-content : Entry → Refusal
@@ -122,6 +123,19 @@ gap-content k b e =
     (cond (leb (first-of e) b) (fault-at e 6 2) fine))
     (fault-at e 3 2)
 
+-- THE KINDS
+unfoldable pub stack-kind : Kind
+stack-kind = kind stack-word (λ n. exactly 1 n) (λ e. stack-content e)
+
+unfoldable pub part-kind : Kind
+part-kind = kind part-word (λ n. exactly 1 n) (λ e. part-content e)
+
+unfoldable pub nets-kind : (lower upper : ℕ) → Kind
+nets-kind lo hi = kind nets-word (λ n. in-pairs n) (λ e. nets-content lo hi e)
+
+unfoldable pub gap-kind : (k before : ℕ) → Kind
+gap-kind k b = kind gap-word (λ n. exactly 2 n) (λ e. gap-content k b e)
+
 -- THE CHECKS of a text, a pair for each line: its form and its content; a missing line has them too
 pub record Check : Type 0 where
   pub form : Refusal
@@ -130,29 +144,34 @@ pub record Check : Type 0 where
 unfoldable pub check : (form content : Refusal) → Check
 check a b = record { form = a; content = b }
 
--- STACK at line 1: layout, then crowd, 3, at field 2; both are its form
+-- line i + 1 as a line of a kind; it supplies its own numbers
+unfoldable pub supplied : List Line → (i : ℕ) → Entry
+supplied ls i = entry (suc i) 0 (numbers-of (line-at ls i))
+
+unfoldable pub line-check : Kind → List Line → (i : ℕ) → Check
+line-check K ls i = check (layout K (suc i) (line-at ls i)) (K .content (supplied ls i))
+
+-- STACK at line 1: layout, then crowd; both are its form
 unfoldable pub k-of : List Line → ℕ
 k-of ls = getD (numbers-of (line-at ls 0)) 0 0
 
 unfoldable pub head-refusal : List Line → Refusal
-head-refusal ls = or-else (layout stack-kind 1 (line-at ls 0)) (cond (leb 1 (k-of ls) && leb (k-of ls) 8) fine (refusal 3 1 2))
+head-refusal ls =
+    let c = line-check stack-kind ls 0 in or-else (c .form) (c .content)
 
 unfoldable pub head-check : List Line → Check
 head-check ls = check (head-refusal ls) fine
 
--- PART of a strip at line i + 1
+-- PART of a strip
 unfoldable pub part-check : List Line → (strip : ℕ) → Check
-part-check ls j =
-    let i = suc j in check (layout part-kind (suc i) (line-at ls i)) (part-content (supplied ls i))
+part-check ls j = line-check part-kind ls (suc j)
 
--- NETS of a channel at line i + 1
+-- NETS of a channel
 unfoldable pub length-at : List Line → (strip : ℕ) → ℕ
 length-at ls j = first-of (supplied ls (suc j))
 
 unfoldable pub nets-check : List Line → (channel : ℕ) → Check
-nets-check ls c =
-    let i = k-of ls + 2 + c in
-    check (layout nets-kind (suc i) (line-at ls i)) (nets-content (length-at ls c) (length-at ls (suc c)) (supplied ls i))
+nets-check ls c = line-check (nets-kind (length-at ls c) (length-at ls (suc c))) ls (k-of ls + 2 + c)
 
 -- the lines behind the last NETS: where they begin, and how many they are
 unfoldable pub tail-at : List Line → ℕ
@@ -168,9 +187,7 @@ channel-before ls (suc g) = first-of (supplied ls (tail-at ls + g))
 
 -- each of them is a GAP: another one is an extra line, 2
 unfoldable pub tail-check : List Line → (g : ℕ) → Check
-tail-check ls g =
-    let i = tail-at ls + g in
-    check (layout gap-kind (suc i) (line-at ls i)) (gap-content (k-of ls) (channel-before ls g) (supplied ls i))
+tail-check ls g = line-check (gap-kind (k-of ls) (channel-before ls g)) ls (tail-at ls + g)
 
 unfoldable pub checks : List Line → List Check
 checks ls =

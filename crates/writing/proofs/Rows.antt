@@ -36,7 +36,7 @@ module _ {A : Type 0} (f : A → ℕ) (d : A) (z : f d ≡ 0) (xs : List A) (k :
       rw (← e) (tabbed-before (take k (map f xs)) i m (omega (arith, counted)))
 
 -- what is put in front of a room's end is a line
-line-made : {m : ℕ} {t before after : List ℕ} {end at : ℕ} → Prepended m t before end after at → end ≡ length before → Line-made t after at
+pub line-made : {m : ℕ} {t before after : List ℕ} {end at : ℕ} → Prepended m t before end after at → end ≡ length before → Line-made t after at
 line-made {before = before} {end = end} p e =
     let none : drop end before ≡ [] = drop-of-length-le before {i = end} (omega arith) in
     record { within = omega arith; stands = p .stands ∙ rw (none, append-nil) }

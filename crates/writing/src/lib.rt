@@ -34,7 +34,7 @@ fn lesser(a: usize, b: usize) -> usize
 }
 
 // A byte in front of a place.
-fn byte_before(room: &mut [u8], end: usize, b: u8) -> usize
+pub fn byte_before(room: &mut [u8], end: usize, b: u8) -> usize
     requires { ⌜ Space 1 (now room) end ⌝ }
     ensures { λ r. ⌜ Prepended 1 (b ∷ []) (now (room .entry)) end (now (room .exit)) r ⌝ }
 {
@@ -44,7 +44,7 @@ fn byte_before(room: &mut [u8], end: usize, b: u8) -> usize
 }
 
 // A word in front of a place.
-fn word_before(room: &mut [u8], end: usize, word: &[u8]) -> usize
+pub fn word_before(room: &mut [u8], end: usize, word: &[u8]) -> usize
     requires { ⌜ Space (length (now word)) (now room) end ⌝ }
     ensures { λ r. ⌜ Prepended (length (now (word .entry))) (now (word .entry)) (now (room .entry)) end (now (room .exit)) r ⌝ }
 {
@@ -58,7 +58,7 @@ fn word_before(room: &mut [u8], end: usize, word: &[u8]) -> usize
 }
 
 // A number's digits in front of a place.
-fn digits_before(room: &mut [u8], end: usize, value: u32) -> usize
+pub fn digits_before(room: &mut [u8], end: usize, value: u32) -> usize
     requires { ⌜ Space 10 (now room) end ⌝ }
     ensures { λ r. ⌜ Prepended 10 (digits value) (now (room .entry)) end (now (room .exit)) r ⌝ }
 {

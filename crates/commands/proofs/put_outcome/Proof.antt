@@ -1,5 +1,5 @@
 -- put_outcome meets its contract: what is written where it is accepted, and a refusal's line. Assumes nothing.
-use Rattle.commands.proofs.Printing.{put-printed, outcome-accepted, outcome-refused}
+use Rattle.commands.proofs.Printing.{outcome-accepted, outcome-refused}
 use borrow.Author.Needs.{needs}
 use Rattle.commands.proofs.put_outcome.Statement.{statement}
 use Rattle.commands.proofs.put_outcome.Tie as tie
@@ -22,7 +22,7 @@ returns c = outcome-accepted _ _ _ (search needs) (c .enum-told .given .1)
 returns-2 : tie.Need-returns-2
 returns-2 c =
     let known = c .before .before .before .before .outcome .given in
-    outcome-refused _ _ (known .0 .0) (known .1) (rw (c .before .number .ensures) at (put-printed 1 (search needs) (c .put-refusal .ensures)))
+    outcome-refused _ _ (known .0 .0) (known .1) (c .before .number .ensures) (search needs) (c .put-refusal .ensures)
 
 pub put-outcome-spec : {M : Type 1} → statement M
 put-outcome-spec =

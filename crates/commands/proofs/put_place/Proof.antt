@@ -34,7 +34,7 @@ returns-2 c =
     let test = reading .before in
     let answer = test .before .before .place-total in
     placement-accepted _ _ _ (answer .result) (answer .ensures .0) (reading .read-stack .result) (reading .read-stack .ensures) (sym (test .before .is-accepted .ensures) ∙ not-false _ (test .if1 .left)) _ _
-    (put-printed 0 (search needs) (c .put-row .ensures))
+    (put-printed 0 _ (search needs) (c .put-row .ensures))
 
 pub put-place-spec : {M : Type 1} → statement M
 put-place-spec =

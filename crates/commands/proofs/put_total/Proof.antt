@@ -27,7 +27,7 @@ returns-2 : tie.Need-returns-2
 returns-2 c =
     let test = c .before .before .before in
     let answer = test .before .before .least-total in
-    total-accepted _ _ (answer .result) (answer .ensures .0) _ _ (sym (test .before .is-accepted .ensures) ∙ not-false _ (test .if1 .left)) (put-printed 0 (search needs) (c .put-total .ensures))
+    total-accepted _ _ (answer .result) (answer .ensures .0) _ _ (sym (test .before .is-accepted .ensures) ∙ not-false _ (test .if1 .left)) (put-printed 0 _ (search needs) (c .put-total .ensures))
 
 pub put-total-spec : {M : Type 1} → statement M
 put-total-spec =

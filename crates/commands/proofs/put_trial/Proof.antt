@@ -45,7 +45,7 @@ put-verdict-requires : tie.Need-put-verdict-requires
 put-verdict-requires c κs = search needs
 
 returns-3 : tie.Need-returns-3
-returns-3 c = trial-verdict _ (c .before .before .before .before .before .before .before .before .read-stack .result) (c .before .before .before .before .before .before .before .before .read-stack .ensures) _ _ _ (sym (c .before .before .before .before .before .before .before .is-accepted .ensures) ∙ not-false _ (c .before .before .before .before .before .before .if1 .left)) (c .before .before .try-placement .result) _ _ _ (c .before .before .before .before .before .if2 .left) (c .before .before .before .before .separations .ensures) (c .before .before .before .positions .ensures) (c .before .before .try-placement .ensures) (put-printed 0 (search needs) (c .put-verdict .ensures))
+returns-3 c = trial-verdict _ (c .before .before .before .before .before .before .before .before .read-stack .result) (c .before .before .before .before .before .before .before .before .read-stack .ensures) _ _ _ (sym (c .before .before .before .before .before .before .before .is-accepted .ensures) ∙ not-false _ (c .before .before .before .before .before .before .if1 .left)) (c .before .before .try-placement .result) _ _ _ (c .before .before .before .before .before .if2 .left) (c .before .before .before .before .separations .ensures) (c .before .before .before .positions .ensures) (c .before .before .try-placement .ensures) (put-printed 0 _ (search needs) (c .put-verdict .ensures))
 
 pub put-trial-spec : {M : Type 1} → statement M
 put-trial-spec =

@@ -9,13 +9,13 @@ use Rattle.lines.proofs.numbers_from.Statement.{statement}
 use Rattle.lines.proofs.numbers_from.Tie as tie
 
 abbrev Inv-loop : tie.InvT-loop
-Inv-loop line from values₀ ill₀ count₀ at₀ values ill count at = Taking line from at (record { ill = ill; count = count; values = values })
+Inv-loop line from values₀ ill₀ count₀ at₀ values ill count at = Taking line from at (record { ill = ill; count = count }) values
 
 abbrev μ-loop : tie.MeasureT-loop
 μ-loop line from values₀ ill₀ count₀ at₀ values ill count at = suc (length line) - at
 
 loop-holds : tie.Need-loop-holds Inv-loop μ-loop
-loop-holds c = taking-starts (c .before .args .line .now) (c .before .args .from) (c .before .pre)
+loop-holds c = taking-starts (c .before .args .line .now) (c .before .args .from) (c .before .args .values .now) (c .before .pre .0) (c .before .pre .1)
 
 sub-run : tie.Need-sub-run Inv-loop μ-loop
 sub-run c = search needs
@@ -54,7 +54,7 @@ put-number-requires : tie.Need-put-number-requires Inv-loop μ-loop
 put-number-requires c κs =
     let b = c .before .before .before .before .before .before in
     let start = b .before .before in
-    taking-long (start .args .line .now) (start .args .from) (b .loop .at) _ (b .loop .inv)
+    taking-long (start .args .line .now) (start .args .from) (b .loop .at) _ _ (b .loop .inv)
 
 add-first-ill : tie.Need-add-first-ill Inv-loop μ-loop
 add-first-ill c =
@@ -90,13 +90,13 @@ loop-again c =
     let r = field .before .before in
     let b = r .before .before .before in
     let start = b .before .before in
-    taking-steps (start .args .line .now) (b .loop .at) (r .run .result) (r .before .before .loop-test .taken) (r .run .ensures) (start .args .from) _ (field .read-field .result) (c .first-ill .result) _ (b .loop .inv) (field .read-field .ensures) (c .first-ill .ensures) (put .put-number .ensures)
+    taking-steps (start .args .line .now) (b .loop .at) (r .run .result) (r .before .before .loop-test .taken) (r .run .ensures) (start .args .from) _ _ (field .read-field .result) (c .first-ill .result) _ (b .loop .inv) (field .read-field .ensures) (c .first-ill .ensures) (put .put-number .ensures)
 
 returns : tie.Need-returns Inv-loop μ-loop
 returns c =
     let b = c .before in
     let start = b .before .before in
-    taking-ends (start .args .line .now) (start .args .from) (b .loop .at) _ (c .loop-test .left) (b .loop .inv)
+    taking-ends (start .args .line .now) (start .args .from) (b .loop .at) _ _ (c .loop-test .left) (b .loop .inv)
 
 pub numbers-from-spec : {M : Type 1} → statement M
 numbers-from-spec =

@@ -18,7 +18,10 @@ add-numbers-from c =
     omega (arith, run .ensures, run-below 9 (start .args .bytes .now), start .good .0)
 
 numbers-from-requires : tie.Need-numbers-from-requires
-numbers-from-requires c κs = omega (arith, c .run .ensures, run-below 9 (c .before .before .before .args .bytes .now))
+numbers-from-requires c κs =
+    let start = c .before .before .before .before in
+    let run = c .before .run in
+    (omega (arith, run .ensures, run-below 9 (start .args .bytes .now)), start .pre)
 
 slice-aggregate-is-word : tie.Need-slice-aggregate-is-word
 slice-aggregate-is-word c =
@@ -33,18 +36,18 @@ returns : tie.Need-returns
 returns c =
     let start = c .before .before .before .before .before .before .before .before in
     let run = c .before .before .before .before .before .run in
-    let numbers-from = c .before .before .before .before .numbers-from in
+    let numbers-from = c .before .before .before .numbers-from in
     let if1 = c .before .before .if1 in
     let is-word = c .is-word in
-    line-reads (start .args .bytes .now) (start .args .word .now) (start .args .ended) (is-word .result) (run .result) (numbers-from .result) (run .ensures) (numbers-from .ensures) (is-word .ensures ∙ rw (if1 .taken))
+    line-reads (start .args .bytes .now) (start .args .word .now) (start .args .ended) (is-word .result) (run .result) (numbers-from .result) _ (run .ensures) (numbers-from .ensures) (is-word .ensures ∙ rw (if1 .taken))
 
 returns-2 : tie.Need-returns-2
 returns-2 c =
     let start = c .before .before .before .before .before .before in
     let run = c .before .before .before .run in
-    let numbers-from = c .before .before .numbers-from in
+    let numbers-from = c .before .numbers-from in
     let if1 = c .if1 in
-    line-reads (start .args .bytes .now) (start .args .word .now) (start .args .ended) (start .args .ended) (run .result) (numbers-from .result) (run .ensures) (numbers-from .ensures) (rw (if1 .left))
+    line-reads (start .args .bytes .now) (start .args .word .now) (start .args .ended) (start .args .ended) (run .result) (numbers-from .result) _ (run .ensures) (numbers-from .ensures) (rw (if1 .left))
 
 pub read-line-spec : {M : Type 1} → statement M
 read-line-spec =

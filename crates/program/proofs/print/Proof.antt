@@ -17,9 +17,19 @@ fail-requires c κs = search needs
 returns : tie.Need-returns
 returns c = inr (c .fail .ensures)
 
+say-refusal-requires : tie.Need-say-refusal-requires
+say-refusal-requires c κs = search needs
+
 returns-2 : tie.Need-returns-2
 returns-2 c = inl refl
 
 pub print-spec : {M : Type 1} → statement M
 print-spec =
-    tie.close (tie.spec write-all-requires slice-aggregate-fail fail-requires returns returns-2)
+    tie.close
+    (tie.spec
+    write-all-requires
+    slice-aggregate-fail
+    fail-requires
+    returns
+    say-refusal-requires
+    returns-2)

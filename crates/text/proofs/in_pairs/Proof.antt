@@ -8,14 +8,14 @@ use Rattle.text.proofs.in_pairs.Tie as tie
 
 returns : tie.Need-returns
 unfolding in-pairs
-returns c = rw (eq-eqb (c .before .args .count % 2) 0 (c .if1 .taken))
+returns c = rw (eq-eqb (c .before .args .numbers % 2) 0 (c .if1 .taken))
 
 add-result : tie.Need-add-result
 add-result c = search needs
 
 returns-2 : tie.Need-returns-2
 unfolding in-pairs
-returns-2 c = rw (ne-eqb (c .before .args .count % 2) 0 (c .if1 .left))
+returns-2 c = rw (ne-eqb (c .before .args .numbers % 2) 0 (c .if1 .left))
 
 pub in-pairs-spec : {M : Type 1} → statement M
 in-pairs-spec = tie.close (tie.spec returns add-result returns-2)

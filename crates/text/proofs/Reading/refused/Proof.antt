@@ -1,6 +1,6 @@
 -- Reading::refused meets its contract. Assumes nothing.
 use mathlib.Core.Path.{refl}
-use Rattle.text.proofs.Whole.{one-channel}
+use Rattle.text.proofs.Singles.{one-channel}
 use borrow.Author.Needs.{needs}
 use Rattle.text.proofs.Reading.refused.Statement.{statement}
 use Rattle.text.proofs.Reading.refused.Tie as tie

@@ -1,0 +1,3 @@
+-- The laws of a line that tells a refusal.
+pub mod Telling
+pub mod Numbered

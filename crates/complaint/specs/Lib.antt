@@ -1,0 +1,2 @@
+-- A refusal in words.
+pub mod Complaint

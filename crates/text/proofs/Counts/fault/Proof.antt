@@ -1,0 +1,27 @@
+-- Counts::fault meets its contract. Assumes nothing.
+use borrow.Author.Needs.{needs}
+use Rattle.text.proofs.Counts.fault.Statement.{statement}
+use Rattle.text.proofs.Counts.fault.Tie as tie
+
+enum-known-self : tie.Need-enum-known-self
+enum-known-self c = search needs
+
+exactly-requires : tie.Need-exactly-requires
+exactly-requires c κs = search needs
+
+enum-told : tie.Need-enum-told
+enum-told c = search needs
+
+in-pairs-requires : tie.Need-in-pairs-requires
+in-pairs-requires c κs = search needs
+
+returns : tie.Need-returns
+returns c = rw (c .before .before .self .given .1) (c .exactly .ensures)
+
+returns-2 : tie.Need-returns-2
+returns-2 c = rw (c .before .enum-told .given .1) (c .in-pairs .ensures)
+
+pub fault-spec : {M : Type 1} → statement M
+fault-spec =
+    tie.close
+    (tie.spec enum-known-self exactly-requires enum-told in-pairs-requires returns returns-2)
