@@ -21,11 +21,11 @@ use Rattle.routing.proofs.Drawable.{drawable-legal, legal-drawable}
 use Rattle.routing.specs.Paths as paths
 use Rattle.routing.specs.Paths.{point, Drawable}
 use Rattle.lines.specs.Lines.{same-bytes}
-use Rattle.text.specs.Text.{Refusal, refusal, fine, stack-in}
+use Rattle.text.specs.Text.{Refusal, refusal, fine, stack-word, stack-in}
 use Rattle.text.specs.Outcome.{refusal-of}
 use Rattle.reply.specs.Refusals.{narrow-refusal}
 use Rattle.reply.specs.Told.{table-told}
-use Rattle.nabetsu.specs.Entry.{spread-refusal, total-told, Total-says, placed-is, Placed-for, placed, unmet, Placed-or, Placement-says, Table-says, Trial-says}
+use Rattle.nabetsu.specs.Entry.{spread-refusal, total-told, Totalled, Total-says, placed-is, Placed-for, placed, unmet, Placed-or, Placement-says, Table-says, Trial-says}
 use Rattle.nabetsu.specs.Best.{Total-best}
 use Rattle.nabetsu.specs.Pages.{Page-says}
 use Rattle.nabetsu.proofs.Placements.{sum-padded, placement-best}
@@ -512,7 +512,11 @@ pub runs-on-edge-breaks : (r : TableAnswer) (o x : List ℕ) → length o ≡ 27
 unfolding Holds reading showing
 runs-on-edge-breaks r o x l w a = differ _ _ refl (sym w ∙ a-page-at-4 r o x l .0 a .1)
 
--- LAYOUT IN ANOTHER ORDER: the count before the word, and the numbers before the count
+-- LAYOUT IN ANOTHER ORDER: the count before the ending (the word STACK unended, and nothing else) and before the word, and the numbers before the count
+pub ending-after-count-breaks : (r : TotalAnswer) → refusal-of (r .outcome) .number ≡ 11 → Total-says stack-word 100 r → ⊥
+unfolding reading spread-refusal Total-says Totalled total-told
+ending-after-count-breaks r w a = omega (arith, number-told 2 1 0 _ (a .0))
+
 pub word-after-count-breaks : (r : TotalAnswer) → refusal-of (r .outcome) .number ≡ 11 → Total-says (text-shown (headed "STOCK 1 1")) 100 r → ⊥
 unfolding Holds total-told
 word-after-count-breaks r w a = omega (arith, number-told 2 1 0 _ (stock-at-100 .0 r .0 a .0))
