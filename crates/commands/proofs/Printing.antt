@@ -19,7 +19,7 @@ use Rattle.reading.specs.Driver.{Stack-read}
 use Rattle.text.specs.declared.Refused.{Refused as Refused-struct}
 use Rattle.text.specs.declared.Outcome.{Outcome}
 use Rattle.text.specs.declared.Outcome.the-variants.{Accepted, Refused}
-use Rattle.text.specs.declared.Reading.{Reading}
+use Rattle.kinds.specs.declared.Reading.{Reading}
 use Rattle.text.proofs.Refusals.{refused-number, accepted-fine, or-else-fine}
 use Rattle.writing.specs.TableText.{row-text, table-text, total-text, refusal-text}
 use Rattle.writing.specs.Output.{over, fitted, written, line-bytes, Line-put, row-of, Row-asks}

@@ -17,7 +17,7 @@ use Rattle.stack.proofs.Values.{track-at, column-at, tracks-long, columns-long}
 use Rattle.text.specs.Text.{Refusal, refusal, fine, or-else}
 use Rattle.text.specs.Outcome.{refusal-of, refused}
 use Rattle.reading.specs.Driver.{Stack-read}
-use Rattle.text.specs.declared.Reading.{Reading}
+use Rattle.kinds.specs.declared.Reading.{Reading}
 use Rattle.text.specs.declared.Refused.{Refused as Refused-struct}
 use Rattle.text.specs.declared.Outcome.{Outcome}
 use Rattle.text.specs.declared.Outcome.the-variants.{Accepted, Refused}

@@ -19,7 +19,7 @@ use Rattle.stack.proofs.Within.{stack-channels, strips-count, few-channels}
 use Rattle.text.specs.Text.{Refusal, refusal, fine, or-else, text-refusal, stack-in}
 use Rattle.text.specs.Outcome.{refusal-of, is-accepted}
 use Rattle.reading.specs.Driver.{Stack-read}
-use Rattle.text.specs.declared.Reading.{Reading}
+use Rattle.kinds.specs.declared.Reading.{Reading}
 use Rattle.text.specs.declared.Outcome.{Outcome}
 use Rattle.text.proofs.Refusals.{or-else-fine, or-else-refused, or-else-next, accepted-fine, refused-number}
 use Rattle.reading.proofs.Within.{accepted-within}

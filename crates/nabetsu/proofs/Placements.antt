@@ -20,7 +20,7 @@ use Rattle.text.specs.Text.{Refusal, refusal, fine, or-else, stack-in}
 use Rattle.text.specs.Outcome.{refusal-of, is-accepted, refused}
 use Rattle.reading.specs.Driver.{Stack-read}
 use Rattle.text.specs.declared.Outcome.{Outcome}
-use Rattle.text.specs.declared.Reading.{Reading}
+use Rattle.kinds.specs.declared.Reading.{Reading}
 use Rattle.text.specs.declared.Refusal.the-variants.{Unmet}
 use Rattle.text.proofs.Refusals.{accepted-fine}
 use Rattle.solver.specs.declared.Placement.{Placement as Placement-struct}

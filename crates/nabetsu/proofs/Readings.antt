@@ -7,7 +7,7 @@ use Rattle.stack.specs.Value.{stack-of}
 use Rattle.text.specs.Text.{Refusal, refusal, fine, text-refusal, stack-in}
 use Rattle.text.specs.Outcome.{is-accepted}
 use Rattle.reading.specs.Driver.{Stack-read}
-use Rattle.text.specs.declared.Reading.{Reading}
+use Rattle.kinds.specs.declared.Reading.{Reading}
 use Rattle.text.proofs.Refusals.{refused-number, accepted-fine}
 
 module _ (bs : List ℕ) (g : Reading) (d : Stack-read bs g) where

@@ -12,7 +12,7 @@ use Rattle.text.specs.Text.{Refusal, refusal, fine, or-else, text-refusal, stac
 use Rattle.text.specs.Outcome.{refusal-of, is-accepted}
 use Rattle.reading.specs.Driver.{Stack-read}
 use Rattle.text.specs.declared.Outcome.{Outcome}
-use Rattle.text.specs.declared.Reading.{Reading}
+use Rattle.kinds.specs.declared.Reading.{Reading}
 use Rattle.text.proofs.Refusals.{or-else-fine, when-fine, refused-number, accepted-fine}
 use Rattle.reading.proofs.Within.{accepted-within}
 use Rattle.reply.specs.Refusals.{narrow-refusal}

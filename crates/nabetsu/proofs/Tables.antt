@@ -14,7 +14,7 @@ use Rattle.stack.specs.Value.{stack-of}
 use Rattle.text.specs.Text.{Refusal, refusal, fine, text-refusal, stack-in}
 use Rattle.text.specs.Outcome.{refusal-of, is-accepted}
 use Rattle.reading.specs.Driver.{Stack-read}
-use Rattle.text.specs.declared.Reading.{Reading}
+use Rattle.kinds.specs.declared.Reading.{Reading}
 use Rattle.text.specs.declared.Outcome.{Outcome}
 use Rattle.text.proofs.Refusals.{accepted-fine}
 use Rattle.rows.specs.Walk.{rows-of}

@@ -9,7 +9,7 @@ use Rattle.stack.specs.Value.{stack-of}
 use Rattle.text.specs.Text.{refusal, fine, text-refusal}
 use Rattle.text.specs.Outcome.{refusal-of, is-accepted}
 use Rattle.reading.specs.Driver.{Stack-read}
-use Rattle.text.specs.declared.Reading.{Reading}
+use Rattle.kinds.specs.declared.Reading.{Reading}
 use Rattle.trial.specs.Legal.{is-legal}
 use Rattle.nabetsu.specs.Entry.{Trial-says}
 use Rattle.nabetsu.specs.declared.TrialAnswer.{TrialAnswer}

@@ -26,13 +26,13 @@ use commands::read_command;
 use commands::read_number;
 use complaint::COMPLAINT_BYTES;
 use complaint::complaint_before;
+use kinds::Reading;
 use libc::STDERR_FILENO;
 use libc::STDIN_FILENO;
 use libc::STDOUT_FILENO;
 use lines::is_word;
 use nabetsu::TABLE_BYTES;
 use text::Outcome;
-use text::Reading;
 
 // One byte more than an accepted text has, so that a longer one is seen to be.
 const TEXT_BYTES: usize = Reading::MAX_BYTES + 1;

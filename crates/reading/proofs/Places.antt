@@ -22,18 +22,19 @@ use Rattle.stack.specs.Made.{bare, Strip-set, Channel-set, Floor-set}
 use Rattle.stack.specs.declared.Stack.{Stack as Stack-struct}
 use Rattle.text.specs.Text.{Refusal, refusal, fine, entry, first-of, second-of, Kind, kind, layout, part-kind, nets-kind, gap-kind, check, supplied, line-check, k-of, head-refusal, head-check, part-check, length-at, nets-check, tail-at, channel-before, tail-check}
 use Rattle.text.specs.Outcome.{refusal-of, is-accepted}
-use Rattle.text.specs.Kinds.{line-refusal, kind-refusal, Head-read, Part-read, Nets-read, Gap-read}
+use Rattle.text.specs.Kinds.{line-refusal, kind-refusal}
+use Rattle.kinds.specs.Readers.{Head-read, Part-read, Nets-read, Gap-read}
 use Rattle.reading.specs.Driver.{Going, Read-to, Head-taken, Parting, Part-taken, nets-pairs, Wiring, Nets-taken, floor-read, gaps-read, Gapping, Gap-taken}
 use Rattle.text.specs.declared.Outcome.{Outcome}
 use Rattle.reading.specs.declared.Progress.{Progress}
-use Rattle.text.specs.declared.Reading.{Reading}
-use Rattle.text.specs.declared.PartRead.{PartRead}
-use Rattle.text.specs.declared.NetsRead.{NetsRead}
-use Rattle.text.specs.declared.GapRead.{GapRead}
+use Rattle.kinds.specs.declared.Reading.{Reading}
+use Rattle.kinds.specs.declared.PartRead.{PartRead}
+use Rattle.kinds.specs.declared.NetsRead.{NetsRead}
+use Rattle.kinds.specs.declared.GapRead.{GapRead}
 use Rattle.text.proofs.Refusals.{or-else-fine, refused-number, accepted-fine, number-fine, or-else-none}
 use Rattle.text.proofs.Layouts.{layout-ended}
 use Rattle.reading.proofs.Within.{head-says}
-use Rattle.text.proofs.Gaps.{Gap-says, gap-says, floor-named, floor-unnamed}
+use Rattle.kinds.proofs.Gaps.{Gap-says, gap-says, floor-named, floor-unnamed}
 
 -- STACK
 module _ (bs : List ℕ) (short : length bs ≤ 8192) (e : LineEnd) (m : Line-from bs 0 e) (r : Reading)

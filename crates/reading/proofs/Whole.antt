@@ -24,7 +24,7 @@ use Rattle.reading.specs.Driver.{Going, Read-to, upto-head, Head-taken, 
 use Rattle.text.specs.declared.Refusal.the-variants as why
 use Rattle.text.specs.declared.Outcome.{Outcome}
 use Rattle.reading.specs.declared.Progress.{Progress}
-use Rattle.text.specs.declared.Reading.{Reading}
+use Rattle.kinds.specs.declared.Reading.{Reading}
 use Rattle.reading.specs.declared.GapTaken.{GapTaken}
 use Rattle.text.proofs.Refusals.{refused-number, accepted-fine}
 use Rattle.reading.proofs.Within.{checks-in-turn, stack-by-lines, accepted-within}

@@ -15,7 +15,7 @@ use Rattle.text.specs.Text.{Refusal, fine, or-else, supplied, Check, k-of, head
 use Rattle.text.specs.Outcome.{refusal-of, is-accepted}
 use Rattle.text.specs.Kinds.{line-refusal}
 use Rattle.reading.specs.declared.Progress.{Progress}
-use Rattle.text.specs.declared.Reading.{Reading}
+use Rattle.kinds.specs.declared.Reading.{Reading}
 use Rattle.reading.specs.declared.GapTaken.{GapTaken}
 
 -- the first i lines are read, nothing is refused, and this stack stands

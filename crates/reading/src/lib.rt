@@ -16,16 +16,16 @@ ghost use Rattle.reading.specs.Driver.{
   Reading-of,
   Stack-read,
 };
+use kinds::Reading;
+use kinds::read_gap;
+use kinds::read_head;
+use kinds::read_nets;
+use kinds::read_part;
 use lines::line_end;
 use stack::Stack;
 use stack::Tracks;
 use text::Outcome;
-use text::Reading;
 use text::Refusal;
-use text::read_gap;
-use text::read_head;
-use text::read_nets;
-use text::read_part;
 
 // How far a text has been read: what was found, where the next line begins, and the stack so far.
 struct Progress {

@@ -1,6 +1,3 @@
--- The laws of refusals, and of what the readers of single lines answer, that proofs of this crate and of the layers above cite.
+-- The laws of refusals, and of the layout of a line, that proofs of this crate and of the layers above cite.
 pub mod Refusals
 pub mod Layouts
-pub mod Singles
-pub mod Nets
-pub mod Gaps

@@ -1,9 +1,9 @@
 -- Reading::refused meets its contract. Assumes nothing.
 use mathlib.Core.Path.{refl}
-use Rattle.text.proofs.Singles.{one-channel}
+use Rattle.kinds.proofs.Singles.{one-channel}
 use borrow.Author.Needs.{needs}
-use Rattle.text.proofs.Reading.refused.Statement.{statement}
-use Rattle.text.proofs.Reading.refused.Tie as tie
+use Rattle.kinds.proofs.Reading.refused.Statement.{statement}
+use Rattle.kinds.proofs.Reading.refused.Tie as tie
 
 new-requires : tie.Need-new-requires
 new-requires c κs = search needs

@@ -11,13 +11,14 @@ use borrow.Author.Tests.{leb-true, leb-false, ltb-false, eq-eqb, ne-eqb}
 use Rattle.numbers.specs.Lists.{tabulate}
 use Rattle.numbers.proofs.Bools.{ands}
 use Rattle.lines.specs.Lines.{Line, numbers-of}
 use Rattle.text.specs.Text.{refusal, fine, gap-word, Entry, entry, first-of, second-of, fault-at, kind, exactly, gap-content, gap-kind, floor-in}
 use Rattle.text.specs.Outcome.{refusal-of, is-accepted}
-use Rattle.text.specs.Kinds.{Kind-read, Gap-read}
+use Rattle.text.specs.Kinds.{Kind-read}
+use Rattle.kinds.specs.Readers.{Gap-read}
 use Rattle.text.specs.declared.KindRead.{KindRead}
 use Rattle.text.specs.declared.Outcome.{Outcome}
 use Rattle.text.proofs.Refusals.{when-fine, refused-number}
 use Rattle.text.proofs.Layouts.{layout-refused, layout-then, number-kept}
 
 -- THE LINE
 module _ (k b n : ℕ) (l : Line) (r : KindRead) (vs : List ℕ) (m : Kind-read gap-word (λ n. exactly 2 n) n l r vs) where

@@ -1,9 +1,9 @@
 -- found_outcome meets its contract. Assumes nothing.
 use native.Mathlib.Omega.{arith}
-use Rattle.text.proofs.Nets.{place-overhang, place-crossing, told-crowd, told-overhang, told-crossing}
+use Rattle.kinds.proofs.Nets.{place-overhang, place-crossing, told-crowd, told-overhang, told-crossing}
 use borrow.Author.Needs.{needs}
-use Rattle.text.proofs.found_outcome.Statement.{statement}
-use Rattle.text.proofs.found_outcome.Tie as tie
+use Rattle.kinds.proofs.found_outcome.Statement.{statement}
+use Rattle.kinds.proofs.found_outcome.Tie as tie
 
 enum-told : tie.Need-enum-told
 enum-told c = search needs

@@ -2,11 +2,11 @@
 use mathlib.Core.Path.{sym, _∙_}
 use borrow.Author.Tests.{not-true, not-false}
 use Rattle.lines.specs.Lines.{line}
 use Rattle.text.specs.Text.{gap-word}
-use Rattle.text.proofs.Gaps.{gap-ill, gap-there}
+use Rattle.kinds.proofs.Gaps.{gap-ill, gap-there}
 use borrow.Author.Needs.{needs}
-use Rattle.text.proofs.read_gap.Statement.{statement}
-use Rattle.text.proofs.read_gap.Tie as tie
+use Rattle.kinds.proofs.read_gap.Statement.{statement}
+use Rattle.kinds.proofs.read_gap.Tie as tie
 
 slice-aggregate-read-kind : tie.Need-slice-aggregate-read-kind
 slice-aggregate-read-kind c = search needs

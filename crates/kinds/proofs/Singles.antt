@@ -13,17 +13,18 @@ use Rattle.stack.specs.declared.Strip.{Strip}
 use Rattle.stack.specs.declared.StripMade.the-variants.{Made, Length}
 use Rattle.stack.specs.declared.StackFound.the-variants.{Sized, Oversized}
 use Rattle.stack.specs.declared.StackMade.{StackMade}
 use Rattle.text.specs.Text.{refusal, stack-word, part-word, entry, first-of, fault-at, kind, exactly, stack-content, part-content, stack-kind, part-kind, check, supplied, line-check, k-of, head-refusal}
 use Rattle.text.specs.Outcome.{refusal-of, is-accepted, refused}
-use Rattle.text.specs.Kinds.{Kind-read, kind-refusal, Head-content, Head-read, Part-content, Part-read}
+use Rattle.text.specs.Kinds.{Kind-read, kind-refusal}
+use Rattle.kinds.specs.Readers.{Head-content, Head-read, Part-content, Part-read}
 use Rattle.text.specs.declared.Refusal.the-variants as why
 use Rattle.text.specs.declared.Outcome.{Outcome}
 use Rattle.text.specs.declared.Outcome.the-variants.{Accepted}
 use Rattle.text.specs.declared.KindRead.{KindRead}
-use Rattle.text.specs.declared.Reading.{Reading}
-use Rattle.text.specs.declared.PartRead.{PartRead}
+use Rattle.kinds.specs.declared.Reading.{Reading}
+use Rattle.kinds.specs.declared.PartRead.{PartRead}
 use Rattle.text.proofs.Refusals.{not-fine, refused-number}
 use Rattle.text.proofs.Layouts.{layout-refused, layout-then, number-kept}
 
 -- which of the two the test chose
 sized-says : (k : ℕ) → stack-found k ≡ Sized → (leb 1 k && leb k 8) ≡ true

@@ -1,12 +1,12 @@
--- read_part meets its contract. Assumes nothing.
+-- read_head meets its contract. Assumes nothing.
 use mathlib.Core.Path.{sym, _∙_}
 use borrow.Author.Tests.{not-true, not-false}
 use Rattle.lines.specs.Lines.{line}
-use Rattle.text.specs.Text.{part-word}
-use Rattle.text.proofs.Singles.{part-ill, part-there}
+use Rattle.text.specs.Text.{stack-word}
+use Rattle.kinds.proofs.Singles.{head-ill, head-there}
 use borrow.Author.Needs.{needs}
-use Rattle.text.proofs.read_part.Statement.{statement}
-use Rattle.text.proofs.read_part.Tie as tie
+use Rattle.kinds.proofs.read_head.Statement.{statement}
+use Rattle.kinds.proofs.read_head.Tie as tie
 
 slice-aggregate-read-kind : tie.Need-slice-aggregate-read-kind
 slice-aggregate-read-kind c = search needs
@@ -21,30 +21,30 @@ refused-requires : tie.Need-refused-requires
 refused-requires c κs = search needs
 
 returns : tie.Need-returns
-unfolding part-word
+unfolding stack-word
 returns c =
     let start = c .before .before .before .before .before .before .before in
     let read = c .before .before .before .read-kind in
     let accepted = c .before .before .is-accepted in
-    part-ill (start .args .n) (line (start .args .bytes .now) (start .args .ended)) (read .result) _ (read .ensures) (c .refused .result) (sym (accepted .ensures) ∙ not-true _ (c .before .if1 .taken)) (c .refused .ensures)
+    head-ill (line (start .args .bytes .now) (start .args .ended)) (read .result) _ (read .ensures) (c .refused .result) (sym (accepted .ensures) ∙ not-true _ (c .before .if1 .taken)) (c .refused .ensures .0)
 
-array-read-part-content : tie.Need-array-read-part-content
-array-read-part-content c = search needs
+array-read-head-content : tie.Need-array-read-head-content
+array-read-head-content c = search needs
 
-part-content-requires : tie.Need-part-content-requires
-part-content-requires c κs = search needs
+head-content-requires : tie.Need-head-content-requires
+head-content-requires c κs = search needs
 
 returns-2 : tie.Need-returns-2
-unfolding part-word
+unfolding stack-word
 returns-2 c =
     let start = c .before .before .before .before .before .before .before in
     let read = c .before .before .before .read-kind in
     let accepted = c .before .before .is-accepted in
-    let content = c .part-content in
-    part-there (start .args .n) (line (start .args .bytes .now) (start .args .ended)) (read .result) _ (read .ensures) (content .result) (sym (accepted .ensures) ∙ not-false _ (c .before .if1 .left)) (content .ensures)
+    let content = c .head-content in
+    head-there (line (start .args .bytes .now) (start .args .ended)) (read .result) _ (read .ensures) (content .result) (sym (accepted .ensures) ∙ not-false _ (c .before .if1 .left)) (content .ensures)
 
-pub read-part-spec : {M : Type 1} → statement M
-read-part-spec =
+pub read-head-spec : {M : Type 1} → statement M
+read-head-spec =
     tie.close
     (tie.spec
     slice-aggregate-read-kind
@@ -52,6 +52,6 @@ read-part-spec =
     is-accepted-requires
     refused-requires
     returns
-    array-read-part-content
-    part-content-requires
+    array-read-head-content
+    head-content-requires
     returns-2)

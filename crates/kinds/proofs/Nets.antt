@@ -22,14 +22,15 @@ use Rattle.stack.specs.declared.Terminals.{Terminals}
 use Rattle.stack.specs.declared.TerminalsFound.{TerminalsFound}
 use Rattle.stack.specs.declared.TerminalsFound.the-variants.{Good, Crowd, Overhang, Crossing}
 use Rattle.stack.specs.declared.TerminalsMade.{TerminalsMade}
 use Rattle.text.specs.Text.{Refusal, refusal, nets-word, entry, fault-at, kind, in-pairs, terminals-refusal, nets-content, nets-kind, pairs-of}
 use Rattle.text.specs.Outcome.{refusal-of, is-accepted, refused}
-use Rattle.text.specs.Kinds.{Kind-read, kind-refusal, place, found-refusal, Nets-read}
+use Rattle.text.specs.Kinds.{Kind-read, kind-refusal}
+use Rattle.kinds.specs.Readers.{place, found-refusal, Nets-read}
 use Rattle.text.specs.declared.Refusal.the-variants as why
 use Rattle.text.specs.declared.KindRead.{KindRead}
 use Rattle.text.specs.declared.Outcome.{Outcome}
 use Rattle.text.proofs.Refusals.{refused-number}
 use Rattle.text.proofs.Layouts.{layout-refused, layout-then}
 
 -- THE PLACE of a fault is below 64
 module _ (c : List Pair) (lo hi p q : ℕ) where

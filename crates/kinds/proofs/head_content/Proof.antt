@@ -1,8 +1,8 @@
 -- head_content meets its contract. Assumes nothing.
-use Rattle.text.proofs.Singles.{content-sized, content-oversized}
+use Rattle.kinds.proofs.Singles.{content-sized, content-oversized}
 use borrow.Author.Needs.{needs}
-use Rattle.text.proofs.head_content.Statement.{statement}
-use Rattle.text.proofs.head_content.Tie as tie
+use Rattle.kinds.proofs.head_content.Statement.{statement}
+use Rattle.kinds.proofs.head_content.Tie as tie
 
 new-requires : tie.Need-new-requires
 new-requires c κs = search needs

@@ -1,9 +1,9 @@
 -- gap_content meets its contract: its tests in their order. Assumes nothing.
 use borrow.Author.Tests.{le-leb, lt-leb, lt-ltb, le-ltb}
 use Rattle.text.specs.Text.{entry, first-of, second-of, fault-at, gap-content}
 use borrow.Author.Needs.{needs}
-use Rattle.text.proofs.gap_content.Statement.{statement}
-use Rattle.text.proofs.gap_content.Tie as tie
+use Rattle.kinds.proofs.gap_content.Statement.{statement}
+use Rattle.kinds.proofs.gap_content.Tie as tie
 
 refused-requires : tie.Need-refused-requires
 refused-requires c κs = search needs

@@ -1,9 +1,9 @@
 -- part_content meets its contract. Assumes nothing.
 use mathlib.Core.Path.{sym, _∙_}
-use Rattle.text.proofs.Singles.{content-made, content-length}
+use Rattle.kinds.proofs.Singles.{content-made, content-length}
 use borrow.Author.Needs.{needs}
-use Rattle.text.proofs.part_content.Statement.{statement}
-use Rattle.text.proofs.part_content.Tie as tie
+use Rattle.kinds.proofs.part_content.Statement.{statement}
+use Rattle.kinds.proofs.part_content.Tie as tie
 
 new-requires : tie.Need-new-requires
 new-requires c κs = search needs

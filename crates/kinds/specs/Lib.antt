@@ -1,0 +1,2 @@
+-- What the reader of each kind of line answers.
+pub mod Readers

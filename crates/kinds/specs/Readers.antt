@@ -1,0 +1,61 @@
+-- What the reader of each kind of line answers. Assumes nothing: these are definitions.
+use mathlib.Core.Path.{_≡_}
+use mathlib.Core.List.{[], _∷_}
+use Prim.Native.Nat.{ℕ, _+_}
+use lib.ListN.{getD}
+use Rattle.lines.specs.Lines.{Line, numbers-of}
+use Rattle.stack.specs.Value.{channel-of, stack-of}
+use Rattle.stack.specs.Made.{bare}
+use Rattle.stack.specs.declared.TerminalsFound.{TerminalsFound}
+use Rattle.stack.specs.declared.TerminalsFound.the-variants.{Good, Crowd, Overhang, Crossing}
+use Rattle.text.specs.Text.{Refusal, refusal, fine, entry, stack-content, part-content, part-kind, nets-kind, gap-kind, k-of, head-refusal, pairs-of}
+use Rattle.text.specs.Outcome.{refusal-of}
+use Rattle.text.specs.Kinds.{kind-refusal}
+use Rattle.kinds.specs.declared.Reading.{Reading}
+use Rattle.kinds.specs.declared.PartRead.{PartRead}
+use Rattle.kinds.specs.declared.NetsRead.{NetsRead}
+use Rattle.kinds.specs.declared.GapRead.{GapRead}
+
+-- STACK: k channels without pairs
+pub record Head-content (k : ℕ) (r : Reading) : Type 0 where
+  pub outcome : refusal-of (r .outcome) ≡ stack-content (entry 1 0 (k ∷ []))
+  pub count : refusal-of (r .outcome) .number ≡ 0 → r .stack .count ≡ k
+  pub bare : refusal-of (r .outcome) .number ≡ 0 → stack-of (r .stack) ≡ bare k
+
+pub record Head-read (l : Line) (r : Reading) : Type 0 where
+  pub outcome : refusal-of (r .outcome) ≡ head-refusal (l ∷ [])
+  pub count : head-refusal (l ∷ []) .number ≡ 0 → r .stack .count ≡ k-of (l ∷ [])
+  pub bare : head-refusal (l ∷ []) .number ≡ 0 → stack-of (r .stack) ≡ bare (k-of (l ∷ []))
+
+-- PART at line n: its strip
+pub record Part-content (length n : ℕ) (r : PartRead) : Type 0 where
+  pub outcome : refusal-of (r .outcome) ≡ part-content (entry n 0 (length ∷ []))
+  pub strip : refusal-of (r .outcome) .number ≡ 0 → r .strip .length .0 ≡ length
+
+pub record Part-read (n : ℕ) (l : Line) (r : PartRead) : Type 0 where
+  pub outcome : refusal-of (r .outcome) ≡ kind-refusal part-kind n l
+  pub strip : refusal-of (r .outcome) .number ≡ 0 → r .strip .length .0 ≡ getD (numbers-of l) 0 0
+
+-- where a fault of terminals is: place i in p(0), q(0), p(1), q(1), .. is field i + 2
+abbrev pub place : TerminalsFound → ℕ
+place Good = 0
+place Crowd = 0
+place (Overhang i) = i
+place (Crossing i) = i
+
+abbrev pub found-refusal : (n : ℕ) → TerminalsFound → Refusal
+found-refusal n Good = fine
+found-refusal n Crowd = refusal 3 n 66
+found-refusal n (Overhang i) = refusal 5 n (i + 2)
+found-refusal n (Crossing i) = refusal 6 n (i + 2)
+
+-- NETS at line n between strips of these lengths: the channel's pairs
+pub record Nets-read (lower upper n : ℕ) (l : Line) (r : NetsRead) : Type 0 where
+  pub outcome : refusal-of (r .outcome) ≡ kind-refusal (nets-kind lower upper) n l
+  pub pairs : refusal-of (r .outcome) .number ≡ 0 → channel-of (r .terminals) ≡ pairs-of (numbers-of l)
+
+-- GAP at line n in a stack of k channels, behind a GAP of a channel: its channel and floor
+pub record Gap-read (k before n : ℕ) (l : Line) (r : GapRead) : Type 0 where
+  pub outcome : refusal-of (r .outcome) ≡ kind-refusal (gap-kind k before) n l
+  pub channel : refusal-of (r .outcome) .number ≡ 0 → r .channel ≡ getD (numbers-of l) 0 0
+  pub floor : refusal-of (r .outcome) .number ≡ 0 → r .floor ≡ getD (numbers-of l) 1 0
