@@ -1,4 +1,4 @@
--- The laws of what the readers of each kind of line answer, and of lines that are accepted.
+-- The laws of what the readers of each kind of line answer.
 pub mod Singles
 pub mod Nets
 pub mod Gaps

@@ -1,4 +1,5 @@
 -- The laws of readings that proofs of this crate and of the layers above cite.
+pub mod Floors
 pub mod Within
 pub mod Stages
 pub mod Places

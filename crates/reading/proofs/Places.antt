@@ -34,7 +34,7 @@ use Rattle.kinds.specs.declared.GapRead.{GapRead}
 use Rattle.text.proofs.Refusals.{or-else-fine, refused-number, accepted-fine, number-fine, or-else-none}
 use Rattle.text.proofs.Layouts.{layout-ended}
 use Rattle.reading.proofs.Within.{head-says}
-use Rattle.kinds.proofs.Gaps.{Gap-says, gap-says, floor-named, floor-unnamed}
+use Rattle.reading.proofs.Floors.{Gap-says, gap-says, floor-named, floor-unnamed}
 
 -- STACK
 module _ (bs : List ℕ) (short : length bs ≤ 8192) (e : LineEnd) (m : Line-from bs 0 e) (r : Reading)

@@ -19,7 +19,7 @@ use Rattle.text.specs.Kinds.{line-refusal}
 use Rattle.reading.specs.Driver.{upto-head, upto-parts, nets-pairs, upto-nets, floor-read, gaps-read, upto-gaps}
 use Rattle.text.proofs.Refusals.{or-else-fine, when-fine, only-fine, or-else-assoc, in-turn-append}
 use Rattle.kinds.proofs.Nets.{pairs-length}
-use Rattle.kinds.proofs.Gaps.{gap-says}
+use Rattle.reading.proofs.Floors.{gap-says}
 
 -- CONTENTS
 strip-within : (e : Entry) → part-content e .number ≡ 0 → (leb 1 (first-of e) && leb (first-of e) 1000) ≡ true

@@ -16,7 +16,7 @@ use Rattle.lines.specs.declared.LineRead.{LineRead}
 use Rattle.lines.proofs.Fields.{getD-in-places, numbers-count}
 use Rattle.numbers.proofs.Bools.{ands}
 use Rattle.text.specs.Text.{Refusal, refusal, fine, or-else, Entry, entry, Kind, kind, exactly, in-pairs, misplaced, count-refusal, number-refusal, layout}
-use Rattle.text.specs.Layout.{First-ill, Told, line-fault, count-fault, number-fault, good, Layout-told}
+use Rattle.text.specs.Layout.{First-ill, Layout-is, line-fault, count-fault, number-fault, good, Layout-told}
 use Rattle.text.specs.Outcome.{refusal-of, is-accepted}
 use Rattle.text.specs.Kinds.{fault-of, layout-found, Kind-read, kind-refusal}
 use Rattle.text.specs.declared.Counts.{Counts}
@@ -110,7 +110,7 @@ layout-told K n l = go (has-word l (K .word)) (K .fault (length fs)) (ill-formed
     fs : List (List ℕ)
     fs = number-fields l
 
-    go : (v : Bool) (f i : ℕ) → has-word l (K .word) ≡ v → K .fault (length fs) ≡ f → ill-formed 2 fs ≡ i → Told K n l (layout-found v f i n)
+    go : (v : Bool) (f i : ℕ) → has-word l (K .word) ≡ v → K .fault (length fs) ≡ f → ill-formed 2 fs ≡ i → Layout-is K n l (layout-found v f i n)
     go false f i a b c = line-fault a
     go true (suc f) i a b c = rw (count-found (suc f) i n (λ z. omega arith), ← b) (count-fault a (λ z. omega arith))
     go true zero zero a b c = rw (none-found n) (good a b (none-ill 1 fs c))

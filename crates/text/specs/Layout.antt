@@ -14,12 +14,13 @@ pub record First-ill (fs : List (List ℕ)) (j : ℕ) : Type 0 where
   pub ill : is-number (getD fs j []) ≡ false
   pub before : (i : ℕ) → i < j → is-number (getD fs i []) ≡ true
 
-pub data Told (K : Kind) (n : ℕ) (l : Line) : Refusal → Type 0 where
-  line-fault : has-word l (K .word) ≡ false → Told K n l (refusal 2 n 0)
-  count-fault : has-word l (K .word) ≡ true → (K .fault (length (number-fields l)) ≡ 0 → ⊥) → Told K n l (refusal 11 n (K .fault (length (number-fields l))))
-  number-fault : has-word l (K .word) ≡ true → K .fault (length (number-fields l)) ≡ 0 → (j : ℕ) → First-ill (number-fields l) j → Told K n l (refusal 12 n (j + 2))
+-- what a refusal of the layout of line n says of the line
+pub data Layout-is (K : Kind) (n : ℕ) (l : Line) : Refusal → Type 0 where
+  line-fault : has-word l (K .word) ≡ false → Layout-is K n l (refusal 2 n 0)
+  count-fault : has-word l (K .word) ≡ true → (K .fault (length (number-fields l)) ≡ 0 → ⊥) → Layout-is K n l (refusal 11 n (K .fault (length (number-fields l))))
+  number-fault : has-word l (K .word) ≡ true → K .fault (length (number-fields l)) ≡ 0 → (j : ℕ) → First-ill (number-fields l) j → Layout-is K n l (refusal 12 n (j + 2))
   good : has-word l (K .word) ≡ true → K .fault (length (number-fields l)) ≡ 0 → ((j : ℕ) → j < length (number-fields l) → is-number (getD (number-fields l) j []) ≡ true) →
-      Told K n l fine
+      Layout-is K n l fine
 
 unfoldable pub Layout-told : Type 0
-Layout-told = (K : Kind) (n : ℕ) (l : Line) → Told K n l (layout K n l)
+Layout-told = (K : Kind) (n : ℕ) (l : Line) → Layout-is K n l (layout K n l)

@@ -120,7 +120,7 @@ impl Counts {
 }
 
 // A fault of the layout of line n at a field.
-fn misplaced(why: Refusal, n: u32, field: usize) -> Outcome
+fn layout_fault(why: Refusal, n: u32, field: usize) -> Outcome
     requires { ⌜ field < 2 ^ 32 ⌝ }
     ensures { λ r. ⌜ r ≡ refused why n field ⌝ }
 {
@@ -133,13 +133,13 @@ fn layout_outcome(worded: bool, fault: usize, ill: usize, n: u32) -> Outcome
     ensures { λ r. ⌜ refusal-of r ≡ layout-found worded fault ill n ⌝ }
 {
     if !worded {
-        return misplaced(Refusal::Layout, n, 0);
+        return layout_fault(Refusal::Layout, n, 0);
     }
     if fault != 0 {
-        return misplaced(Refusal::Count, n, fault);
+        return layout_fault(Refusal::Count, n, fault);
     }
     if ill != 0 {
-        return misplaced(Refusal::IllFormed, n, ill);
+        return layout_fault(Refusal::IllFormed, n, ill);
     }
     Outcome::Accepted
 }

@@ -7,30 +7,30 @@ use borrow.Author.Needs.{needs}
 use Rattle.text.proofs.layout_outcome.Statement.{statement}
 use Rattle.text.proofs.layout_outcome.Tie as tie
 
-misplaced-requires : tie.Need-misplaced-requires
-misplaced-requires c κs = search needs
+layout-fault-requires : tie.Need-layout-fault-requires
+layout-fault-requires c κs = search needs
 
 returns : tie.Need-returns
 unfolding layout-found
-returns c = rw (c .misplaced .ensures, not-true (c .before .before .args .worded) (c .before .if1 .taken))
+returns c = rw (c .layout-fault .ensures, not-true (c .before .before .args .worded) (c .before .if1 .taken))
 
-misplaced-requires-2 : tie.Need-misplaced-requires-2
-misplaced-requires-2 c κs = search needs
+layout-fault-requires-2 : tie.Need-layout-fault-requires-2
+layout-fault-requires-2 c κs = search needs
 
 returns-2 : tie.Need-returns-2
 returns-2 c =
     let start = c .before .before .before in
     let found = count-found (start .args .fault) (start .args .ill) (start .args .n) (c .before .if2 .taken) in
-    rw (c .misplaced2 .ensures, not-false (start .args .worded) (c .before .before .if1 .left)) (sym found)
+    rw (c .layout-fault2 .ensures, not-false (start .args .worded) (c .before .before .if1 .left)) (sym found)
 
-misplaced-requires-3 : tie.Need-misplaced-requires-3
-misplaced-requires-3 c κs = search needs
+layout-fault-requires-3 : tie.Need-layout-fault-requires-3
+layout-fault-requires-3 c κs = search needs
 
 returns-3 : tie.Need-returns-3
 returns-3 c =
     let start = c .before .before .before .before in
     let found = ill-found (start .args .ill) (start .args .n) (c .before .if3 .taken) in
-    rw (c .misplaced3 .ensures, not-false (start .args .worded) (c .before .before .before .if1 .left), c .before .before .if2 .left) (sym found)
+    rw (c .layout-fault3 .ensures, not-false (start .args .worded) (c .before .before .before .if1 .left), c .before .before .if2 .left) (sym found)
 
 returns-4 : tie.Need-returns-4
 returns-4 c =
@@ -41,10 +41,10 @@ pub layout-outcome-spec : {M : Type 1} → statement M
 layout-outcome-spec =
     tie.close
     (tie.spec
-    misplaced-requires
+    layout-fault-requires
     returns
-    misplaced-requires-2
+    layout-fault-requires-2
     returns-2
-    misplaced-requires-3
+    layout-fault-requires-3
     returns-3
     returns-4)
