@@ -1,4 +1,5 @@
-//! Times of the proved library and of the plain program, per table, per least total, per placement for a total and per page, side by side.
+//! Times of the proved library and of the plain program, per table, per least total, per placement for a total and per page, side by side; instructions of the
+//! library for a strip that is added to a session.
 
 #[allow(dead_code)]
 #[path = "../tests/library.rs"]
@@ -13,7 +14,8 @@ use std::time::Instant;
 const USAGE: &str =
     "usage: bench report COUNTS STACK..       tables, totals and placements: times, beside the instructions in the file COUNTS
        bench pages COUNTS STACK..        the same for the page of channel 1, the total, and what the page takes besides
-       bench repeat PROGRAM JOB COUNT STACK    (proved or plain; table, total, place, place+8, placemax or page)";
+       bench sessions COUNTS STACK..     an added strip and the total, beside the text and the total: the instructions in the file COUNTS
+       bench repeat PROGRAM JOB COUNT STACK    (proved or plain; table, total, place, place+8, placemax or page; proved: session, steps or steps-1)";
 
 /// Longer than every table.
 const SPACE: usize = 24576;
@@ -23,6 +25,9 @@ const SAMPLES: usize = 31;
 const PROGRAMS: [&str; 2] = ["proved", "plain"];
 /// The placements are for the least total, for 8 more and for the greatest total that can be stated.
 const JOBS: [&str; 6] = ["table", "total", "place", "place+8", "placemax", "page"];
+/// The least total of a session after all steps; then at a spread that is narrow, where nothing is solved, after all steps and after all but the last.
+const SESSION_JOBS: [&str; 3] = ["session", "steps", "steps-1"];
+const NARROW: u32 = 0;
 
 struct Input {
     name: String,
@@ -30,6 +35,9 @@ struct Input {
     /// The longest strip: there the least total is greatest.
     spread: u32,
     least: u32,
+    /// The steps that make the stack, without floors, and where the last of them begins.
+    steps: Vec<u8>,
+    last_step: usize,
 }
 
 impl Input {
@@ -43,13 +51,32 @@ impl Input {
     }
 }
 
+/// The steps that make a stack, from its text, and where the last of them begins.
+fn steps(text: &[u8]) -> (Vec<u8>, usize) {
+    let lines = |word: &'static [u8]| text.split_inclusive(|b| *b == 10).filter(move |l| l.starts_with(word));
+    let mut parts = lines(b"PART");
+    let mut steps = [&b"BEGIN\n"[..], parts.next().expect("a strip")].concat();
+    let mut last = 0;
+    for (part, nets) in parts.zip(lines(b"NETS")) {
+        last = steps.len();
+        steps.extend([&b"ADD\n"[..], part, nets].concat());
+    }
+    (steps, last)
+}
+
 fn input(path: &str) -> Input {
     let text = std::fs::read(path).expect("a stack to read");
     let lengths = text.split(|b| *b == 10).filter_map(|l| l.strip_prefix(b"PART\t"));
     let spread = lengths.map(|l| std::str::from_utf8(l).unwrap().parse().unwrap()).max().expect("strips");
     let name = std::path::Path::new(path).file_stem().unwrap().to_string_lossy().into_owned();
     let least = solver::total(&text, spread).expect("a total");
-    Input { name, text, spread, least }
+    let (steps, last_step) = steps(&text);
+    Input { name, text, spread, least, steps, last_step }
+}
+
+/// Whether a program has a job.
+fn is_job(program: &str, job: &str) -> bool {
+    PROGRAMS.contains(&program) && JOBS.contains(&job) || program == "proved" && SESSION_JOBS.contains(&job)
 }
 
 /// Does the job so many times, into buffers that are not cleared between.
@@ -66,6 +93,15 @@ fn repeat(program: &str, job: &str, count: u64, input: &Input) {
             }
             ("proved", "total") => {
                 black_box(library::least_total(black_box(text), black_box(spread)));
+            }
+            ("proved", "session") => {
+                black_box(library::session_total(black_box(&input.steps), black_box(spread)));
+            }
+            ("proved", "steps") => {
+                black_box(library::session_total(black_box(&input.steps), black_box(NARROW)));
+            }
+            ("proved", "steps-1") => {
+                black_box(library::session_total(black_box(&input.steps[..input.last_step]), black_box(NARROW)));
             }
             ("proved", _) => {
                 let mut numbers = [0; 18];
@@ -186,12 +222,36 @@ fn report(counts: &str, paths: &[String], pages: bool) {
     }
 }
 
+/// A line for each stack, which has no floors: an added strip, the least total of the session, both, and the least total from the whole text.
+fn report_sessions(counts: &str, paths: &[String]) {
+    let counts = instructions(counts);
+    println!("{:8} {:>15} {:>15} {:>15} {:>15} {:>7}", "stack", "added strip", "total", "both", "text and total", "ratio");
+    for path in paths {
+        let input = input(path);
+        assert_eq!(library::session_total(&input.steps, input.spread), input.least as u64, "{}", input.name);
+        for steps in [&input.steps[..], &input.steps[..input.last_step]] {
+            assert_eq!(library::session_total(steps, NARROW), library::code((7, 0, 0)), "{}", input.name);
+        }
+        let of = |job: &str| counts.get(&format!("{} {} proved", input.name, job)).copied();
+        let [session, steps, before, text] = ["session", "steps", "steps-1", "total"].map(of);
+        print!("{:8}", input.name);
+        match (session, steps, before, text) {
+            (Some(session), Some(steps), Some(before), Some(text)) => {
+                let (added, total) = (steps - before, session - steps);
+                println!(" {:15.0} {:15.0} {:15.0} {:15.0} {:7.2}", added, total, added + total, text, (added + total) / text)
+            }
+            _ => println!(" {:>15} {:>15} {:>15} {:>15} {:>7}", "-", "-", "-", "-", "-"),
+        }
+    }
+}
+
 fn main() {
     let words: Vec<String> = std::env::args().skip(1).collect();
     let names: Vec<&str> = words.iter().map(|w| w.as_str()).collect();
     match names[..] {
         [command @ ("report" | "pages"), counts, _, ..] => report(counts, &words[2..], command == "pages"),
-        ["repeat", program, job, count, path] if PROGRAMS.contains(&program) && JOBS.contains(&job) && count.parse::<u64>().is_ok() => {
+        ["sessions", counts, _, ..] => report_sessions(counts, &words[2..]),
+        ["repeat", program, job, count, path] if is_job(program, job) && count.parse::<u64>().is_ok() => {
             repeat(program, job, count.parse().unwrap(), &input(path))
         }
         _ => {

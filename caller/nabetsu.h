@@ -9,7 +9,7 @@
  * A refusal is one number: its own number times 2^40, its line times 2^20 and its field, added. It is at least 2^40, and every other answer is
  * below that. Refusals of the text are 1 overlong, 2 layout (a wrong word, a missing, extra or unended line), 3 crowd, 4 length, 5 overhang, 6 crossing, 11 a wrong
  * count of fields, at the first missing or extra, and 12 an ill-formed number, at its field; every function gives these before others. 7 is narrow, 8 short space,
- * 9 broad, 10 a total that is not met. */
+ * 9 broad, 10 a total that is not met, 13 a session without a strip, or with none to take off. */
 #ifndef NABETSU_H
 #define NABETSU_H
 
@@ -44,6 +44,14 @@ uint64_t nabetsu_least_total(const uint8_t *text, size_t text_length, uint32_t s
  * refusal of the text, then 7, then 10 exactly if no legal placement in that spread has exactly that total, that is, if it is below the least total; then 8 where the
  * output has fewer than 18 places; and zeros in the whole output. */
 uint64_t nabetsu_place_total(const uint8_t *text, size_t text_length, uint32_t spread, uint32_t total, uint32_t *output, size_t output_length);
+
+/* The same two for a session, whose steps are a text: lines BEGIN and PART for a first strip; ADD, PART and NETS for a strip on top with the channel below it; OFF to take the top
+ * strip off. Each line ends in a line feed; BEGIN, ADD and OFF stand alone, PART has a length, NETS terminals, as in the text of a stack. The answer is that of the session behind the last
+ * step. Or a refusal: 1 for a text above 8,192 bytes, 2 at the first line that is no line of a step or is missing; then that of the last step, without line and with the field in its PART or NETS
+ * line: 13 where no strip is held, or the only one is taken off, 3 without field for a tenth strip, 4, 11, 3, 5, 6 (a step that is refused leaves the session as it was, a refused
+ * beginning leaves it empty); then 13 where no strip is held, 7, 10 and 8 as above. With two strips or more the answer is that of the text of the same stack; a single strip has total 0 and position 0. */
+uint64_t nabetsu_session_total(const uint8_t *steps, size_t steps_length, uint32_t spread);
+uint64_t nabetsu_session_place(const uint8_t *steps, size_t steps_length, uint32_t spread, uint32_t total, uint32_t *output, size_t output_length);
 
 /* The page of a channel, from 1, in the placement with the least total in a spread of at most 63: a line of 69 bytes for each track, the highest first, and zeros in the rest of the
  * output; answers how many bytes it has. Or a refusal: of the text, then 3 without line and field where there is no such channel, 7, 9 where the spread is above 63, then 8

@@ -1,16 +1,18 @@
 //! The independent program: documents 01 and 02 by plain formulas and by trying, sharing no code with the proved one.
-//! `channels`, `table`, `total`, `place`, `spread`, `page` and `trial` print what the proved programs must print for the same input.
+//! `channels`, `table`, `total`, `place`, `spread`, `page`, `trial` and `session` print what the proved programs must print for the same input.
 
 mod channel;
 mod page;
 mod paths;
 mod random;
 mod reader;
+mod session;
 mod solver;
 mod specimens;
 
 use random::Random;
-use reader::{Refusal, Stack};
+use reader::Refusal;
+use session::Session;
 use std::collections::BTreeMap;
 use std::io::{Read, Write};
 
@@ -21,6 +23,8 @@ const USAGE: &str = "usage: reference channels < crates/channel_test/stdin
        reference spread SPREAD < STACK
        reference page SPREAD CHANNEL < STACK
        reference trial SPREAD SEPARATION.. POSITION.. < STACK    (k separations, k + 1 positions)
+       reference steps < STACK
+       reference session SPREAD < STEPS
        reference specimens
        reference agree SEED COUNT
        reference paths";
@@ -63,31 +67,14 @@ fn table(text: &[u8]) -> String {
     text_or_refusal(reader::read(text).map(|stack| solver::table_text(&stack, &solver::rows(&stack, solver::small(&stack)))))
 }
 
-/// Whether every position is tried: where that is soon done.
-fn brute(stack: &Stack, spread: i64) -> bool {
-    solver::small(stack) && spread <= solver::widest(stack) + 3
-}
-
-/// The stack in a text, if a spread is not below its longest strip.
-fn read_for(text: &[u8], spread: i64) -> Result<Stack, Refusal> {
-    let stack = reader::read(text)?;
-    if spread < solver::longest(&stack) {
-        return Err((7, 0, 0));
-    }
-    Ok(stack)
-}
-
 /// The least total at a spread.
 fn total(text: &[u8], spread: i64) -> Result<usize, Refusal> {
-    let stack = read_for(text, spread)?;
-    Ok(solver::least_total(&stack, spread, brute(&stack, spread)))
+    solver::total_at(&reader::read(text)?, spread)
 }
 
 /// The row of the placement at a spread for a stated total.
 fn place(text: &[u8], spread: i64, total: usize) -> Result<String, Refusal> {
-    let stack = read_for(text, spread)?;
-    let placed = solver::place(&stack, spread, total, brute(&stack, spread)).ok_or((10, 0, 0))?;
-    Ok(solver::row_text(spread, &placed))
+    Ok(solver::row_text(spread, &solver::place_at(&reader::read(text)?, spread, total)?))
 }
 
 fn total_text(text: &[u8], spread: i64) -> String {
@@ -110,7 +97,7 @@ fn page(text: &[u8], spread: i64, channel: i64) -> String {
     };
     match page::refusal(&stack, spread, channel) {
         Some(r) => refusal_text(r),
-        None => page::page(&stack, &solver::answer(&stack, spread, brute(&stack, spread)), spread, channel as usize),
+        None => page::page(&stack, &solver::answer(&stack, spread, solver::brute(&stack, spread)), spread, channel as usize),
     }
 }
 
@@ -128,6 +115,30 @@ fn trial(text: &[u8], spread: i64, placement: &[u32]) -> Option<String> {
     let positions: Vec<i64> = placement[k..].iter().map(|x| *x as i64).collect();
     let legal = solver::legal(&stack, spread, &separations, &positions);
     Some(if legal { "legal\n" } else { "not legal\n" }.to_string())
+}
+
+/// The steps that make the session of a stack, without its floors.
+fn steps(text: &[u8]) -> String {
+    text_or_refusal(reader::read(text).map(|stack| session::text(&session::steps_to(&stack))))
+}
+
+/// The row of a session for a spread.
+fn session_row(session: &Session, spread: i64) -> Result<String, Refusal> {
+    let placed = session.place(spread, session.total(spread)?)?;
+    Ok(solver::row_text(spread, &placed))
+}
+
+/// For each step of a text the row for a spread or the refusal, of the step or of the spread; then the lines that are no steps.
+fn session(text: &[u8], spread: i64) -> (String, Vec<usize>) {
+    let mut session = Session::default();
+    let (mut printed, mut passed_over) = (String::new(), Vec::new());
+    for step in session::steps(text) {
+        match step {
+            Ok(step) => printed += &text_or_refusal(session.take(&step).and_then(|_| session_row(&session, spread))),
+            Err(line) => passed_over.push(line),
+        }
+    }
+    (printed, passed_over)
 }
 
 /// What `total` prints where `spread` prints this line: the row's total, or the refusal.
@@ -168,6 +179,16 @@ fn check_specimens() -> bool {
     for (name, text, at, separations, positions, due) in specimens::TRIALS {
         let found = trial(specimens::tabbed(text).as_bytes(), at as i64, &[separations, positions].concat());
         check(name, found.unwrap(), if due { "legal\n" } else { "not legal\n" }.to_string());
+    }
+    for (name, text, at, due) in specimens::SESSIONS {
+        let text = specimens::tabbed(text);
+        check(name, session(text.as_bytes(), at as i64).0, specimens::tabbed(due));
+        let prefixes = session::prefixes(text.as_bytes());
+        for (prefix, due) in prefixes.iter().zip(due.split_inclusive('\n')) {
+            let row = session::after(prefix.as_bytes()).and_then(|session| session_row(&session, at as i64));
+            check(name, text_or_refusal(row), specimens::tabbed(due));
+        }
+        check(name, prefixes[prefixes.len() - 1].clone(), text);
     }
     let full = specimens::tabbed(&specimens::pairs(32));
     check("32 pairs", table(full.as_bytes()), "TABLE\t1\nROW\t40\t0\t0\t0\t0\n".to_string());
@@ -243,6 +264,12 @@ fn run(words: &[String]) -> Option<(String, bool)> {
         ("trial", 4..) => {
             let given = numbers(rest)?;
             Some((trial(&read_input(), given[0] as i64, &given[1..])?, true))
+        }
+        ("steps", 0) => Some((steps(&read_input()), true)),
+        ("session", 1) => {
+            let (printed, passed_over) = session(&read_input(), numbers(rest)?[0] as i64);
+            passed_over.iter().for_each(|line| eprintln!("line {}: no step", line));
+            Some((printed, true))
         }
         ("specimens", 0) => {
             let good = check_specimens();

@@ -3,7 +3,7 @@
 //! What P1 says of the paths is looked at for every page; where it does not hold, the program ends with words.
 
 use crate::reader::{Refusal, Stack};
-use crate::solver::{longest, Answer};
+use crate::solver::{within_spread, Answer};
 
 /// Columns 0 to 63 are shown.
 const COLUMNS: usize = 64;
@@ -16,8 +16,8 @@ pub fn refusal(stack: &Stack, spread: i64, channel: i64) -> Option<Refusal> {
     if channel < 1 || channel > stack.channels.len() as i64 {
         return Some((3, 0, 0));
     }
-    if spread < longest(stack) {
-        return Some((7, 0, 0));
+    if let Err(narrow) = within_spread(stack, spread) {
+        return Some(narrow);
     }
     (spread >= COLUMNS as i64).then_some((9, 0, 0))
 }

@@ -1,7 +1,7 @@
 //! Random stacks, their texts and totals, each from a seed. Half of the stacks have floors.
 
 use crate::channel::Pair;
-use crate::reader::Stack;
+use crate::reader::{self, Stack};
 use crate::solver::free_total;
 
 /// SplitMix64.
@@ -54,7 +54,8 @@ impl Random {
         left
     }
 
-    fn channel(&mut self, lower: i64, upper: i64, most: usize) -> Vec<Pair> {
+    /// A channel between strips of these lengths, of up to so many pairs.
+    pub fn channel(&mut self, lower: i64, upper: i64, most: usize) -> Vec<Pair> {
         let most = most.min(lower as usize + 1).min(upper as usize + 1);
         let m = if self.chance(8) { 0 } else { self.between(0, most as i64) as usize };
         if m == 0 {
@@ -127,21 +128,11 @@ impl Random {
 
     /// The text of a stack; floors of 0 are left out, or now and then some of them are written.
     pub fn text(&mut self, stack: &Stack) -> Vec<u8> {
-        let mut text = format!("STACK\t{}\n", stack.channels.len());
-        for length in &stack.lengths {
-            text += &format!("PART\t{}\n", length);
-        }
-        for channel in &stack.channels {
-            text += "NETS";
-            for (p, q) in channel {
-                text += &format!("\t{}\t{}", p, q);
-            }
-            text += "\n";
-        }
+        let mut text = reader::text(stack);
         let zeros = self.chance(4);
         for (i, floor) in stack.floors.iter().enumerate() {
             if *floor > 0 || zeros && self.chance(2) {
-                text += &format!("GAP\t{}\t{}\n", i + 1, floor);
+                text += &reader::line("GAP", &[i as i64 + 1, *floor as i64]);
             }
         }
         text.into_bytes()

@@ -1,4 +1,4 @@
-//! Reading a stack's text, by document 01, "Lines and tabs" and "Sent back at the counter", and document 02, P2 and P5.
+//! A stack's text, read by document 01, "Lines and tabs" and "Sent back at the counter", and document 02, P2 and P5, and written.
 
 use crate::channel::Pair;
 
@@ -14,7 +14,15 @@ pub struct Stack {
 pub type Refusal = (u32, u32, u32);
 
 /// A line's bytes without the line feed, and whether there is one.
-type Line = (Vec<u8>, bool);
+pub type Line = (Vec<u8>, bool);
+
+/// Refused as overlong above 8,192 bytes.
+pub fn within_limit(text: &[u8]) -> Result<(), Refusal> {
+    if text.len() > 8192 {
+        return Err((1, 0, 0));
+    }
+    Ok(())
+}
 
 fn number(field: &[u8]) -> Option<i64> {
     let plain = field.iter().all(|b| b.is_ascii_digit());
@@ -42,7 +50,7 @@ fn wrong_field(present: usize, allowed: impl Iterator<Item = usize>) -> Option<u
 
 /// The numbers of line `at`, from 1, which is to begin with a word and have one of the counts of fields, the word's among them. Its layout is refused for the
 /// line as a whole, then for the count of fields, then for each number from the left.
-fn numbers(lines: &[Line], at: usize, word: &str, counts: impl Iterator<Item = usize>) -> Result<Vec<i64>, Refusal> {
+pub fn numbers(lines: &[Line], at: usize, word: &str, counts: impl Iterator<Item = usize>) -> Result<Vec<i64>, Refusal> {
     let line = at as u32;
     let (bytes, ended) = lines.get(at - 1).ok_or((2, line, 0))?;
     let fields: Vec<&[u8]> = bytes.split(|b| *b == 9).collect();
@@ -55,7 +63,7 @@ fn numbers(lines: &[Line], at: usize, word: &str, counts: impl Iterator<Item = u
     (2..).zip(&fields[1..]).map(|(n, field)| number(field).ok_or((12, line, n))).collect()
 }
 
-fn split_lines(text: &[u8]) -> Vec<Line> {
+pub fn split_lines(text: &[u8]) -> Vec<Line> {
     let mut lines = Vec::new();
     let mut current = Vec::new();
     for &b in text {
@@ -71,7 +79,16 @@ fn split_lines(text: &[u8]) -> Vec<Line> {
     lines
 }
 
-fn nets(values: &[i64], lower: i64, upper: i64, line: u32) -> Result<Vec<Pair>, Refusal> {
+/// A strip's length, in field 2 of a line.
+pub fn length(value: i64, line: u32) -> Result<i64, Refusal> {
+    if value < 1 || value > 1000 {
+        return Err((4, line, 2));
+    }
+    Ok(value)
+}
+
+/// The pairs of a channel between strips of these lengths, by its terminals, of which there is an even number: from field 2 of a line on.
+pub fn nets(values: &[i64], lower: i64, upper: i64, line: u32) -> Result<Vec<Pair>, Refusal> {
     if values.len() > 64 {
         return Err((3, line, 66));
     }
@@ -111,9 +128,7 @@ fn gaps(lines: &[Line], k: usize) -> Result<Vec<usize>, Refusal> {
 }
 
 pub fn read(text: &[u8]) -> Result<Stack, Refusal> {
-    if text.len() > 8192 {
-        return Err((1, 0, 0));
-    }
+    within_limit(text)?;
     let lines = split_lines(text);
     let head = numbers(&lines, 1, "STACK", [2].into_iter())?;
     if head[0] < 1 || head[0] > 8 {
@@ -123,10 +138,7 @@ pub fn read(text: &[u8]) -> Result<Stack, Refusal> {
     let mut stack = Stack { lengths: Vec::new(), channels: Vec::new(), floors: Vec::new() };
     for at in 2..=k + 2 {
         let part = numbers(&lines, at, "PART", [2].into_iter())?;
-        if part[0] < 1 || part[0] > 1000 {
-            return Err((4, at as u32, 2));
-        }
-        stack.lengths.push(part[0]);
+        stack.lengths.push(length(part[0], at as u32)?);
     }
     for c in 0..k {
         let at = k + 3 + c;
@@ -136,4 +148,27 @@ pub fn read(text: &[u8]) -> Result<Stack, Refusal> {
     }
     stack.floors = gaps(&lines, k)?;
     Ok(stack)
+}
+
+/// A line of a word and numbers.
+pub fn line(word: &str, numbers: &[i64]) -> String {
+    let fields: String = numbers.iter().map(|n| format!("\t{}", n)).collect();
+    format!("{}{}\n", word, fields)
+}
+
+/// A channel's terminals in the order of a `NETS` line.
+pub fn terminals(channel: &[Pair]) -> Vec<i64> {
+    channel.iter().flat_map(|(p, q)| [*p, *q]).collect()
+}
+
+/// The text of a stack without `GAP` lines.
+pub fn text(stack: &Stack) -> String {
+    let mut text = line("STACK", &[stack.channels.len() as i64]);
+    for length in &stack.lengths {
+        text += &line("PART", &[*length]);
+    }
+    for channel in &stack.channels {
+        text += &line("NETS", &terminals(channel));
+    }
+    text
 }

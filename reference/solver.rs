@@ -2,7 +2,7 @@
 //! the positions, strip 0 first.
 
 use crate::channel::{feasible, limits, Condition};
-use crate::reader::Stack;
+use crate::reader::{Refusal, Stack};
 
 /// A placement and its total.
 #[derive(Clone, Debug, PartialEq)]
@@ -97,6 +97,10 @@ const LITTLE: usize = 12;
 fn try_total(stack: &Stack, spread: i64, left: usize, chosen: &mut Vec<usize>, brute: bool) -> Option<Vec<i64>> {
     let i = chosen.len();
     if i == stack.channels.len() {
+        // Something is left where there is no channel at all: a single strip has the total 0 only.
+        if left > 0 {
+            return None;
+        }
         if brute {
             let mut placed = Vec::new();
             return place_by_trying(stack, spread, chosen, &mut placed).then_some(placed);
@@ -154,6 +158,31 @@ pub fn least_total(stack: &Stack, spread: i64, brute: bool) -> usize {
 /// The two together: the placement with the least total.
 pub fn answer(stack: &Stack, spread: i64, brute: bool) -> Answer {
     place(stack, spread, least_total(stack, spread, brute), brute).expect("a placement with the least total")
+}
+
+/// Whether every position is tried: where that is soon done.
+pub fn brute(stack: &Stack, spread: i64) -> bool {
+    small(stack) && spread <= widest(stack) + 3
+}
+
+/// Refused as narrow below the longest strip.
+pub fn within_spread(stack: &Stack, spread: i64) -> Result<(), Refusal> {
+    if spread < longest(stack) {
+        return Err((7, 0, 0));
+    }
+    Ok(())
+}
+
+/// The least total at any spread.
+pub fn total_at(stack: &Stack, spread: i64) -> Result<usize, Refusal> {
+    within_spread(stack, spread)?;
+    Ok(least_total(stack, spread, brute(stack, spread)))
+}
+
+/// The placement at any spread for a stated total.
+pub fn place_at(stack: &Stack, spread: i64, total: usize) -> Result<Answer, Refusal> {
+    within_spread(stack, spread)?;
+    place(stack, spread, total, brute(stack, spread)).ok_or((10, 0, 0))
 }
 
 /// The rows of the table: every spread up to past the sum of the lengths is tried, beyond which nothing falls.

@@ -1,5 +1,5 @@
 //! The specimens of document 01 with P4's tracks: a stack's text with what it is answered, their pages by P1 too; then with floors, by P2, and for greater
-//! totals, by P3; faults of layout by P5.
+//! totals, by P3; faults of layout by P5; sessions by P6.
 //! Tabs are written as spaces here.
 
 /// Specimen A's text, and lines behind it.
@@ -297,6 +297,92 @@ pub const PAGES: [(&str, &str, u32, u32, Page); 43] = [
     ("straight, floor 2, at 1", STRAIGHT, 1, 1, Ok(&["  2 o", "  1 |", "  0 o"])),
     ("floor 65, channel 2, at 3", FLOOR_65, 3, 2, Err((3, 5, 3))),
     ("A, floor 64, at 64", FLOOR_64, 64, 1, Err((9, 0, 0))),
+];
+
+/// The step that adds a strip of 4 with specimen A's channel.
+macro_rules! add_a {
+    () => {
+        "ADD\nPART 4\nNETS 0 2 2 4\n"
+    };
+}
+
+/// A text of steps, a spread, and for each step the row or the refusal's line.
+pub const SESSIONS: [(&str, &str, u32, &str); 8] = [
+    (
+        "A and B by steps",
+        concat!("BEGIN\nPART 4\n", add_a!(), add_a!(), "OFF\nOFF\nOFF\n"),
+        5,
+        "ROW 5 0 0\nROW 5 2 2 1 0\nROW 5 5 2 3 1 0 0\nROW 5 2 2 1 0\nROW 5 0 0\n13 0 0\n",
+    ),
+    ("C by steps", "BEGIN\nPART 3\nADD\nPART 5\nNETS\nOFF\n", 5, "ROW 5 0 0\nROW 5 0 0 0 0\nROW 5 0 0\n"),
+    ("D by steps", "BEGIN\nPART 1\nADD\nPART 1\nNETS 1 0\nOFF\n", 2, "ROW 2 0 0\nROW 2 0 0 0 1\nROW 2 0 0\n"),
+    ("a spread below the longest strip", "BEGIN\nPART 3\nADD\nPART 5\nNETS\nOFF\n", 4, "ROW 4 0 0\n7 0 0\nROW 4 0 0\n"),
+    // Only a strip at 2 has a straight channel above it, which leads to 0; from there every channel has three tracks.
+    (
+        "up to nine strips and down to one",
+        concat!(
+            "BEGIN\nPART 4\n",
+            add_a!(),
+            add_a!(),
+            add_a!(),
+            add_a!(),
+            add_a!(),
+            add_a!(),
+            add_a!(),
+            add_a!(),
+            add_a!(),
+            "OFF\nOFF\nOFF\nOFF\nOFF\nOFF\nOFF\nOFF\nOFF\n"
+        ),
+        6,
+        "ROW 6 0 0\n\
+         ROW 6 0 0 2 0\n\
+         ROW 6 3 0 3 2 0 0\n\
+         ROW 6 3 0 3 0 2 0 2 0\n\
+         ROW 6 6 0 3 0 3 2 0 2 0 0\n\
+         ROW 6 6 0 3 0 3 0 2 0 2 0 2 0\n\
+         ROW 6 9 0 3 0 3 0 3 2 0 2 0 2 0 0\n\
+         ROW 6 9 0 3 0 3 0 3 0 2 0 2 0 2 0 2 0\n\
+         ROW 6 12 0 3 0 3 0 3 0 3 2 0 2 0 2 0 2 0 0\n\
+         3 0 0\n\
+         ROW 6 9 0 3 0 3 0 3 0 2 0 2 0 2 0 2 0\n\
+         ROW 6 9 0 3 0 3 0 3 2 0 2 0 2 0 0\n\
+         ROW 6 6 0 3 0 3 0 2 0 2 0 2 0\n\
+         ROW 6 6 0 3 0 3 2 0 2 0 0\n\
+         ROW 6 3 0 3 0 2 0 2 0\n\
+         ROW 6 3 0 3 2 0 0\n\
+         ROW 6 0 0 2 0\n\
+         ROW 6 0 0\n\
+         13 0 0\n",
+    ),
+    (
+        "refused steps on an empty session",
+        "OFF\nADD\nPART 4\nNETS\nADD\nPART 0\nNETS 1\nBEGIN\nPART 1001\nOFF\nBEGIN\nPART 4\nBEGIN\nPART 0\nADD\nPART 4\nNETS\n",
+        4,
+        "13 0 0\n13 0 0\n13 0 0\n4 0 2\n13 0 0\nROW 4 0 0\n4 0 2\n13 0 0\n",
+    ),
+    (
+        "refused steps between others",
+        concat!(
+            "BEGIN\nPART 4\nADD\nPART 1001\nNETS 9\nADD\nPART 4\nNETS 9 2 2\nADD\nPART 4\nNETS 0 2 2 5\n",
+            add_a!(),
+            "ADD\nPART 4\nNETS 0 2 0 4\nADD\nPART 5\nNETS 4 5\nOFF\n",
+            add_a!()
+        ),
+        4,
+        "ROW 4 0 0\n4 0 2\n11 0 5\n5 0 5\nROW 4 3 3 0 0\n6 0 4\n7 0 0\nROW 4 3 3 0 0\nROW 4 6 3 3 0 0 0\n",
+    ),
+    (
+        "a beginning in the middle",
+        concat!("BEGIN\nPART 4\n", add_a!(), add_a!(), "BEGIN\nPART 3\nADD\nPART 5\nNETS\n", "BEGIN\nPART 4\n", add_a!()),
+        u32::MAX,
+        "ROW 4294967295 0 0\n\
+         ROW 4294967295 0 0 2 0\n\
+         ROW 4294967295 0 0 0 4 2 0\n\
+         ROW 4294967295 0 0\n\
+         ROW 4294967295 0 0 0 0\n\
+         ROW 4294967295 0 0\n\
+         ROW 4294967295 0 0 2 0\n",
+    ),
 ];
 
 /// A page's text: its lines with dots up to column 63.

@@ -39,6 +39,9 @@ pub const KINDS: [&str; 34] = [
     "GAP: several faults",
 ];
 
+/// So many of them, from the first, are for lines of any words.
+pub const OF_ANY_LINES: usize = 20;
+
 const BYTES: &[u8] = b"0123456789\t\n\r -+.,/:STACKPARTNETSGAPstackgapROWTABLE\0\x0b\x7f\x80\xff";
 const ODD_BYTES: [u8; 4] = [0, 13, 32, 255];
 const NUMBERS: [&str; 16] = ["0", "1", "2", "8", "9", "10", "31", "32", "33", "64", "65", "99", "999", "1000", "1001", "9999"];

@@ -1,5 +1,5 @@
 //! The proved library against the independent program in reference/ and the plain one in bench/, on random stacks and damaged texts; before that the condition
-//! on a channel against a search for paths. It stops at the first difference.
+//! on a channel against a search for paths, at last random sessions. It stops at the first difference.
 
 #[path = "../reference/channel.rs"]
 mod channel;
@@ -19,8 +19,11 @@ mod plain {
 }
 #[path = "../reference/random.rs"]
 mod random;
+mod random_sessions;
 #[path = "../reference/reader.rs"]
 mod reader;
+#[path = "../reference/session.rs"]
+mod session;
 #[path = "../reference/solver.rs"]
 mod solver;
 #[path = "../reference/specimens.rs"]
@@ -33,10 +36,10 @@ use std::cell::Cell;
 use std::collections::BTreeMap;
 
 const USAGE: &str =
-    "usage: tests/differential [SEED [SMALL MIDDLE DAMAGED LIMITS PAGES]]    (a seed, and how many stacks or texts of each kind)";
+    "usage: tests/differential [SEED [SMALL MIDDLE DAMAGED LIMITS PAGES SESSIONS]]    (a seed, and how many stacks, texts or sessions of each kind)";
 
-/// Small stacks, middle ones, damaged texts, stacks at the limits and stacks for pages, unless told otherwise.
-const COUNTS: [u64; 5] = [4000, 1500, 50000, 50, 2000];
+/// Small stacks, middle ones, damaged texts, stacks at the limits, stacks for pages and sessions, unless told otherwise.
+const COUNTS: [u64; 6] = [4000, 1500, 50000, 50, 2000, 800];
 
 /// What is counted and must have been met, in a run of at least the usual counts.
 const MET: [&str; 25] = [
@@ -73,11 +76,13 @@ const SPACE: usize = 32768;
 /// What was due and what was found, in words.
 type Checked = Result<(), String>;
 
+/// The refusal that a code is, if it is one.
+fn refusal_of(code: u64) -> Option<Refusal> {
+    (code >> 40 > 0).then_some(((code >> 40) as u32, (code >> 20 & 0xfffff) as u32, (code & 0xfffff) as u32))
+}
+
 fn in_words(code: u64) -> String {
-    match code >> 40 {
-        0 => code.to_string(),
-        number => format!("refusal {} at line {}, field {}", number, code >> 20 & 0xfffff, code & 0xfffff),
-    }
+    refusal_of(code).map_or(code.to_string(), |r| format!("refusal {} at line {}, field {}", r.0, r.1, r.2))
 }
 
 fn same_code(what: &str, found: u64, due: u64) -> Checked {
@@ -122,6 +127,23 @@ fn check_written(what: &str, space: usize, due: &Result<Vec<u8>, Refusal>, write
     }
     if inside[written.len()..].iter().any(|b| *b != 0) {
         return Err(format!("{} in a space of {}: no zeros behind the first {} bytes", what, space, written.len()));
+    }
+    Ok(())
+}
+
+/// One call of a function that places, with a space of so many numbers between eight on each side that must stay.
+fn check_placed(what: &str, length: usize, due: Placed, place: impl FnOnce(&mut [u32]) -> u64) -> Checked {
+    let mut space = vec![u32::MAX; length + 16];
+    let told = place(&mut space[8..8 + length]);
+    let put = if length < 18 { due.and(Err((8, 0, 0))) } else { due };
+    same_code(&format!("{} in {} numbers", what, length), told, put.map_or_else(code, |_| 0))?;
+    let mut numbers = put.unwrap_or([0; 18]).to_vec();
+    numbers.resize(length, 0);
+    if space[8..8 + length] != numbers {
+        return Err(format!("{} in {} numbers: found {:?}, due {:?}", what, length, &space[8..8 + length], numbers));
+    }
+    if space[..8].iter().chain(&space[8 + length..]).any(|v| *v != u32::MAX) {
+        return Err(format!("{} in {} numbers: numbers beside the space are changed", what, length));
     }
     Ok(())
 }
@@ -358,6 +380,14 @@ impl Run {
         Ok(())
     }
 
+    /// Eighteen, or now and then fewer or more.
+    fn length_of_numbers(&mut self) -> usize {
+        if self.random.chance(8) {
+            return self.random.below(40);
+        }
+        18
+    }
+
     /// The placement of both programs for a stated total.
     fn place(&mut self, text: &[u8], spread: u32, total: u32, due: Placed) -> Checked {
         self.count("placements");
@@ -367,22 +397,10 @@ impl Run {
             _ => (),
         }
         let what = format!("placement at spread {} for total {}", spread, total);
-        // Eighteen numbers, or now and then fewer or more, between eight on each side that must stay.
-        let length = if self.random.chance(8) { self.random.below(40) } else { 18 };
-        let mut space = vec![u32::MAX; length + 16];
-        let told = library::place_in(text, spread, total, &mut space[8..8 + length]);
-        let put = if length < 18 { due.and(Err((8, 0, 0))) } else { due };
+        let length = self.length_of_numbers();
+        check_placed(&what, length, due, |output| library::place_in(text, spread, total, output))?;
         if length < 18 && due == Err((10, 0, 0)) {
             self.count("placements, refused 10 before 8");
-        }
-        same_code(&format!("{} in {} numbers", what, length), told, put.map_or_else(code, |_| 0))?;
-        let mut numbers = put.unwrap_or([0; 18]).to_vec();
-        numbers.resize(length, 0);
-        if space[8..8 + length] != numbers {
-            return Err(format!("{} in {} numbers: found {:?}, due {:?}", what, length, &space[8..8 + length], numbers));
-        }
-        if space[..8].iter().chain(&space[8 + length..]).any(|v| *v != u32::MAX) {
-            return Err(format!("{} in {} numbers: numbers beside the space are changed", what, length));
         }
         match plain::place(text, spread, total) {
             found if found == due => Ok(()),
@@ -589,7 +607,7 @@ impl Run {
                 self.placements(stack, text, spread, 1)?;
                 continue;
             }
-            let tried = brute && spread as i64 <= solver::widest(stack) + 3;
+            let tried = solver::brute(stack, spread as i64);
             let answer = solver::answer(stack, spread as i64, tried);
             let due = padded(&answer);
             let is_row = row_spreads.contains(&spread);
@@ -886,7 +904,7 @@ fn main() {
     let (seed, counts) = match given.as_deref() {
         Some([]) => (1, COUNTS),
         Some([seed]) => (*seed, COUNTS),
-        Some([seed, a, b, c, d, e]) => (*seed, [*a, *b, *c, *d, *e]),
+        Some([seed, a, b, c, d, e, f]) => (*seed, [*a, *b, *c, *d, *e, *f]),
         _ => {
             eprintln!("{}", USAGE);
             std::process::exit(2);
@@ -906,11 +924,14 @@ fn main() {
         bases.push(specimens::tabbed(specimens::TABLES[1].1).into_bytes());
     }
     compare_damaged(&mut run, counts[2], &bases);
+    random_sessions::check_specimens(&mut run);
+    random_sessions::compare(&mut run, counts[5]);
     for (what, count) in &run.counts {
         println!("{:>9} {}", count, what);
     }
     let usual = counts.iter().zip(COUNTS).all(|(given, usual)| *given >= usual);
-    if let Some(what) = MET.iter().chain(&paths::MET).chain(&faults::MET).find(|what| usual && !run.counts.contains_key(*what)) {
+    let mut due = MET.iter().chain(&paths::MET).chain(&faults::MET).chain(&random_sessions::MET);
+    if let Some(what) = due.find(|what| usual && !run.counts.contains_key(*what)) {
         println!("never met: {}", what);
         std::process::exit(1);
     }

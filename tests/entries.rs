@@ -8,6 +8,13 @@ mod library;
 #[path = "../reference/reader.rs"]
 mod reader;
 #[allow(dead_code)]
+#[path = "../reference/session.rs"]
+mod session;
+mod sessions;
+#[allow(dead_code)]
+#[path = "../reference/solver.rs"]
+mod solver;
+#[allow(dead_code)]
 #[path = "../reference/specimens.rs"]
 mod specimens;
 
@@ -77,20 +84,24 @@ fn check_page(name: &str, text: &str, spread: u32, channel: u32, due: Result<Str
 }
 
 /// A placement in a space of so many numbers, none of them zero before: its code, and the space behind it.
-fn placed_in(text: &[u8], spread: u32, total: u32, space: usize) -> (u64, Vec<u32>) {
+fn placed_in(space: usize, place: impl Fn(&mut [u32]) -> u64) -> (u64, Vec<u32>) {
     let mut output: Vec<u32> = (0..space as u32).map(|i| u32::MAX - i).collect();
-    let told = library::place_in(text, spread, total, &mut output);
+    let told = place(&mut output);
     (told, output)
 }
 
-/// The placement for a stated total with zeros behind it in every longer space, and short space with zeros in every shorter one; or its refusal in every
-/// space. A placement is legal by a trial.
-fn check_place(name: &str, text: &[u8], spread: u32, total: u32, due: Result<[u32; 18], Refusal>) {
-    let what = format!("{} at {}, placed with {}", name, spread, total);
+/// A placement with zeros behind it in every longer space, and short space with zeros in every shorter one; or its refusal in every space.
+fn check_placed(what: &str, text: &[u8], due: Result<[u32; 18], Refusal>, place: impl Fn(&mut [u32]) -> u64) {
     let due = due.map(|numbers| numbers.to_vec());
     for space in [0, 1, 17, 18, 19, 40] {
-        same(&format!("{}, in {} numbers", what, space), text, placed_in(text, spread, total, space), in_space(&due, 0, space));
+        same(&format!("{}, in {} numbers", what, space), text, placed_in(space, &place), in_space(&due, 0, space));
     }
+}
+
+/// The placement for a stated total, or its refusal. A placement is legal by a trial.
+fn check_place(name: &str, text: &[u8], spread: u32, total: u32, due: Result<[u32; 18], Refusal>) {
+    let what = format!("{} at {}, placed with {}", name, spread, total);
+    check_placed(&what, text, due, |output| library::place_in(text, spread, total, output));
     if let Ok(numbers) = due {
         same(&format!("{}, trial", what), text, library::try_numbers(text, spread, &numbers[1..]), 1);
         same(&format!("{}, the sum", what), text, numbers[1..9].iter().sum(), total);
@@ -431,19 +442,26 @@ const ILL_FORMED: [(&str, &[u8]); 22] = [
     ("the byte behind the digits", b":"),
 ];
 
+/// A line with each of its numbers ill-formed in every way: what is wrong, the number's field, and the line.
+fn ill_formed_lines(line: &[u8]) -> Vec<(&'static str, u32, Vec<u8>)> {
+    let fields: Vec<&[u8]> = line.split(|b| *b == b'\t').collect();
+    let mut all = Vec::new();
+    for place in 1..fields.len() {
+        for (name, number) in ILL_FORMED {
+            let mut fields = fields.clone();
+            fields[place] = number;
+            all.push((name, place as u32 + 1, fields.join(&b'\t')));
+        }
+    }
+    all
+}
+
 /// Every number of B with floors ill-formed in every way.
 fn refused_numbers() -> Vec<Refused> {
     let text = floored_b();
     let mut all = Vec::new();
     for (n, line) in (1..).zip(text.split(|b| *b == b'\n')) {
-        let fields: Vec<&[u8]> = line.split(|b| *b == b'\t').collect();
-        for place in 1..fields.len() {
-            for (name, number) in ILL_FORMED {
-                let mut fields = fields.clone();
-                fields[place] = number;
-                all.push((name, put_line(&text, n, &fields.join(&b'\t')), (12, n as u32, place as u32 + 1)));
-            }
-        }
+        all.extend(ill_formed_lines(line).into_iter().map(|(name, field, line)| (name, put_line(&text, n, &line), (12, n as u32, field))));
     }
     all
 }
@@ -1058,12 +1076,16 @@ fn main() {
     check_pages();
     check_tall_pages();
     check_page_refusals();
+    let (steps, no_steps) = sessions::check();
     let [counts, numbers] = [11, 12].map(|number| refused.iter().filter(|r| r.2 .0 == number).count());
     println!(
-        "entries: {} refused texts, {} of them as 11 and {} as 12, {} tables, totals, placements, trials and pages of the specimens: no difference",
+        "entries: {} refused texts, {} of them as 11 and {} as 12, {} tables, totals, placements, trials and pages of the specimens, their sessions and {} \
+         refused texts of steps, {} of them as 2: no difference",
         refused.len(),
         counts,
         numbers,
-        accepted.len()
+        accepted.len(),
+        steps,
+        no_steps
     );
 }

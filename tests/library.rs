@@ -40,6 +40,8 @@ extern "C" {
     fn nabetsu_place_total(text: *const u8, text_len: usize, spread: u32, total: u32, output: *mut u32, output_len: usize) -> u64;
     fn nabetsu_write_page(text: *const u8, text_len: usize, spread: u32, channel: u32, output: *mut u8, output_len: usize) -> u64;
     fn nabetsu_try_placement(text: *const u8, text_len: usize, spread: u32, placement: *const u32, placement_len: usize) -> u64;
+    fn nabetsu_session_total(steps: *const u8, steps_len: usize, spread: u32) -> u64;
+    fn nabetsu_session_place(steps: *const u8, steps_len: usize, spread: u32, total: u32, output: *mut u32, output_len: usize) -> u64;
 }
 
 /// The table's length, or the refusal's code.
@@ -71,4 +73,14 @@ pub fn try_numbers(text: &[u8], spread: u32, placement: &[u32]) -> u64 {
 /// 1 for a legal placement of eight separations and nine positions, 2 for another, or the refusal's code.
 pub fn try_placement(text: &[u8], spread: u32, placement: &[u32; 17]) -> u64 {
     try_numbers(text, spread, placement)
+}
+
+/// The least total of the session after a text of steps, or the refusal's code.
+pub fn session_total(steps: &[u8], spread: u32) -> u64 {
+    unsafe { nabetsu_session_total(steps.as_ptr(), steps.len(), spread) }
+}
+
+/// The same session's placement for a stated total, as that of a stack.
+pub fn session_place_in(steps: &[u8], spread: u32, total: u32, output: &mut [u32]) -> u64 {
+    unsafe { nabetsu_session_place(steps.as_ptr(), steps.len(), spread, total, output.as_mut_ptr(), output.len()) }
 }

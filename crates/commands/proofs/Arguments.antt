@@ -11,9 +11,9 @@ use Rattle.numbers.proofs.Lists.{map-set, filled-steps}
 use Rattle.lines.specs.Lines.{all-digits, value, same-bytes}
 use Rattle.lines.specs.Numbers.{Digits-read}
 use Rattle.lines.specs.declared.DigitsRead.{DigitsRead}
-use Rattle.commands.specs.Words.{is-number, number-in, Number-read, help-word, short-help, long-help, version-option, trial-word, total-word, place-word, spread-word, page-word, is-help, if-named, either-named, command-alone, command-in}
+use Rattle.commands.specs.Words.{is-number, number-in, Number-read, help-word, short-help, long-help, version-option, trial-word, total-word, place-word, spread-word, page-word, session-word, is-help, if-named, either-named, command-alone, command-with-number, command-in}
 use Rattle.commands.specs.declared.Command.{Command}
-use Rattle.commands.specs.declared.Command.the-variants.{Table, Total, Place, Spread, Page, Trial, Help, Version, Wrong}
+use Rattle.commands.specs.declared.Command.the-variants.{Table, Total, Place, Spread, Page, Trial, Session, Help, Version, Wrong}
 
 -- NUMBERS
 none : (xs : List ℕ) → is-number xs ≡ false → Number-read xs (record { good = false; value = 0 })
@@ -112,7 +112,7 @@ module _ (w : List ℕ) (n : ℕ) where
       trial-there h = rw (ne-eqb n 0 some, ne-eqb n 1 more, sym same ∙ h)
 
       module _ (h : b ≡ false) where
-        pub two-words : n ≡ 2 → either-named w total-word Total spread-word Spread ≡ command-in w n
+        pub two-words : n ≡ 2 → command-with-number w ≡ command-in w n
         unfolding command-in
         two-words e = rw (ne-eqb n 0 some, ne-eqb n 1 more, sym same ∙ h, eq-eqb n 2 e)
 
@@ -123,6 +123,16 @@ module _ (w : List ℕ) (n : ℕ) where
         pub many-wrong : (n ≡ 2 → ⊥) → (n ≡ 3 → ⊥) → Wrong ≡ command-in w n
         unfolding command-in
         many-wrong two three = rw (ne-eqb n 0 some, ne-eqb n 1 more, sym same ∙ h, ne-eqb n 2 two, ne-eqb n 3 three)
+
+-- a word and a number
+module _ (w : List ℕ) (b : Bool) (same : b ≡ same-bytes w session-word) where
+  pub session-named : b ≡ true → Session ≡ command-with-number w
+  unfolding command-with-number
+  session-named h = rw (sym same ∙ h)
+
+  pub number-named : b ≡ false → either-named w total-word Total spread-word Spread ≡ command-with-number w
+  unfolding command-with-number
+  number-named h = rw (sym same ∙ h)
 
 -- a trial has words
 pub trial-words : (w : List ℕ) (n : ℕ) → Trial ≡ command-in w n → 0 < n

@@ -29,12 +29,14 @@ use Rattle.page.specs.Page.{channel-page}
 use Rattle.complaint.specs.Complaint.{complaint}
 use Rattle.nabetsu.specs.Pages.{page-refusal, Paged, Page-says}
 use Rattle.reply.specs.Told.{table-told}
-use Rattle.nabetsu.specs.Entry.{spread-refusal, total-told, Totalled, Total-says, placed-is, Placed-for, placed, unmet, Placed-or, Placement-says, Fits, Tabled, Table-says, Trial-says}
-use Rattle.nabetsu.specs.Best.{Answered, Spread-says}
+use Rattle.spread.specs.Answers.{spread-refusal, total-told, Totalled, Total-says, placed-is, Placed-for, placed, unmet, Placed, Placement-or, Placement-says}
+use Rattle.nabetsu.specs.Entry.{Fits, Tabled, Table-says, Trial-says}
+use Rattle.spread.specs.Best.{Answered}
+use Rattle.nabetsu.specs.Best.{Spread-says}
 use Rattle.nabetsu.specs.Promise.{Both-together}
 use Rattle.nabetsu.proofs.Promises.{both-together}
 use Rattle.reply.specs.declared.PlacementAnswer.{PlacementAnswer}
-use Rattle.nabetsu.specs.declared.TotalAnswer.{TotalAnswer}
+use Rattle.spread.specs.declared.TotalAnswer.{TotalAnswer}
 use Rattle.reply.specs.declared.TableAnswer.{TableAnswer}
 use Rattle.nabetsu.specs.declared.TrialAnswer.{TrialAnswer}
 use Rattle.commands.specs.Output.{Printed, unless-refused, status-of, Replied, channels, Table-printed, Total-printed, Placement-printed, Spread-printed, Page-printed, separations-in, positions-in, verdict-text, trial-text, trial-status}
@@ -79,7 +81,7 @@ same-words {f} g a b p = record {
 
 -- A REFUSAL
 module _ (f : Refusal) (t out : List ℕ) (r : Reply) where
-  accepted-replied : f .number ≡ 0 → Printed f t 0 out r → Replied f t out r
+  pub accepted-replied : f .number ≡ 0 → Printed f t 0 out r → Replied f t out r
   unfolding unless-refused status-of
   accepted-replied h p = rw (eq-eqb (f .number) 0 h) p
 
@@ -92,7 +94,7 @@ module _ (f : Refusal) (t out : List ℕ) (r : Reply) where
   refused-replied h p = rw (ne-eqb (f .number) 0 h) p
 
   -- whatever the text was
-  refused-any : (u : List ℕ) → (f .number ≡ 0 → ⊥) → Replied f u out r → Replied f t out r
+  pub refused-any : (u : List ℕ) → (f .number ≡ 0 → ⊥) → Replied f u out r → Replied f t out r
   unfolding unless-refused
   refused-any u h p =
       let same : unless-refused f u ≡ unless-refused f t = rw (ne-eqb (f .number) 0 h) in
@@ -109,7 +111,7 @@ outcome-refused t o w e same h p =
     refused-replied (refusal-of o) t _ _ (rw e (refused-number (Refused w) refl)) (rw e (put-printed 1 (Refused w) h (rw same at p)))
 
 -- no outcome is accepted and refused
-accepted-number : (o : Outcome) → is-accepted o ≡ true → refusal-of o .number ≡ 0
+pub accepted-number : (o : Outcome) → is-accepted o ≡ true → refusal-of o .number ≡ 0
 unfolding fine refusal
 accepted-number o a = ap (λ (f : Refusal). f .number) (accepted-fine o a)
 
@@ -225,6 +227,30 @@ module _ (bs : List ℕ) (s : ℕ) (a : TotalAnswer) (says : Total-says bs s a) 
   total-accepted h p =
       record { answer = a; says = says; printed = rw (← total-outcome) (accepted-replied (refusal-of (a .outcome)) _ out r (accepted-number (a .outcome) h) p) }
 
+-- A ROW: where nothing is refused, the total is its separations' sum
+pub record Placed-row (f : Refusal) (k : Stack) (v : ℕ) (a : PlacementAnswer) : Type 0 where
+  pub none-refused : f .number ≡ 0
+  pub added : v ≡ sum (take (length (k .channels)) (tracks-of (a .separations)))
+
+module _ (f : Refusal) (k : Stack) (s v : ℕ) (a : PlacementAnswer) (accepted : is-accepted (a .outcome) ≡ true) where
+  number-zero : (g : Refusal) → refusal-of (a .outcome) ≡ g → g .number ≡ 0
+  number-zero g e = sym (ap (λ (x : Refusal). x .number) e) ∙ accepted-number (a .outcome) accepted
+
+  placed-sum : Placed-for k s v a → v ≡ sum (take (length (k .channels)) (tracks-of (a .separations)))
+  unfolding placed-is padded refusal
+  placed-sum (placed ts xs t p) =
+      let l : length ts ≡ length (k .channels) = legal-lengths k s ts xs (t .is-legal) .0 in
+      sym (t .exact) ∙ rw (p .2, take-at ts (replicate (8 - length ts) 0) (length (k .channels)) l)
+  placed-sum (unmet n p) = absurd (omega (arith, number-zero (refusal 10 0 0) (p .0)))
+
+  pub placed-row : Placement-or f k s v a → Placed-row f k v a
+  unfolding Placed placed-is
+  placed-row p = go (f .number) refl p
+    where
+      go : (m : ℕ) → f .number ≡ m → Placed m f k s v a → Placed-row f k v a
+      go zero e t = record { none-refused = e; added = placed-sum t }
+      go (suc m) e t = absurd (omega (arith, number-zero f (t .0)))
+
 -- THE PLACEMENT FOR A TOTAL
 module _ (bs : List ℕ) (s v : ℕ) (a : PlacementAnswer) (says : Placement-says bs s v a) where
   pub placement-refused : (out : List ℕ) (r : Reply) → is-accepted (a .outcome) ≡ false → Replied (refusal-of (a .outcome)) [] out r → Placement-printed bs s v out r
@@ -232,34 +258,16 @@ module _ (bs : List ℕ) (s v : ℕ) (a : PlacementAnswer) (says : Placement-say
       record { answer = a; says = says; printed = refused-any (refusal-of (a .outcome)) _ out r [] (refused-number (a .outcome) h) p }
 
   module _ (g : Reading) (d : Stack-read bs g) (accepted : is-accepted (a .outcome) ≡ true) where
-    -- nothing is refused
-    abbrev In-row : Type 0
-    In-row = (text-refusal bs .number ≡ 0) × (v ≡ sum (take (channels bs) (tracks-of (a .separations))))
-
-    number-zero : (f : Refusal) → refusal-of (a .outcome) ≡ f → f .number ≡ 0
-    number-zero f e = sym (ap (λ (x : Refusal). x .number) e) ∙ accepted-number (a .outcome) accepted
-
-    placed-row : text-refusal bs .number ≡ 0 → Placed-for (stack-in bs) s v a → In-row
-    unfolding placed-is padded refusal
-    placed-row z (placed ts xs t p) =
-        let l : length ts ≡ channels bs = legal-lengths (stack-in bs) s ts xs (t .is-legal) .0 in
-        (z, sym (t .exact) ∙ rw (p .2, take-at ts (replicate (8 - length ts) 0) (channels bs) l))
-    placed-row z (unmet n p) = absurd (omega (arith, number-zero (refusal 10 0 0) (p .0)))
-
-    by-placement : (m : ℕ) → spread-refusal bs s .number ≡ m → Placed-or m (spread-refusal bs s) (stack-in bs) s v a → In-row
-    unfolding Placed-or placed-is spread-refusal
-    by-placement zero e t = placed-row (or-else-fine (text-refusal bs) _ e .0) t
-    by-placement (suc m) e t = absurd (omega (arith, number-zero (spread-refusal bs s) (t .0)))
-
-    in-row : In-row
+    in-row : Placed-row (spread-refusal bs s) (stack-in bs) v a
     unfolding Placement-says
-    in-row = by-placement (spread-refusal bs s .number) refl says
+    in-row = placed-row (spread-refusal bs s) (stack-in bs) s v a accepted says
 
     count : g .stack .count ≡ channels bs
-    count = count-is bs g d (in-row .0)
+    unfolding spread-refusal
+    count = count-is bs g d (or-else-fine (text-refusal bs) _ (in-row .none-refused) .0)
 
     pub row-asked : Row-asks (g .stack .count) v (a .separations)
-    row-asked = record { channels = few-channels (g .stack) (d .within); added = rw count (in-row .1) }
+    row-asked = record { channels = few-channels (g .stack) (d .within); added = rw count (in-row .added) }
 
     pub placement-accepted : (out : List ℕ) (r : Reply) →
         Printed (refusal-of (a .outcome)) (row-text (row-of (g .stack .count) s (a .separations) (a .positions))) 0 out r → Placement-printed bs s v out r
@@ -267,19 +275,19 @@ module _ (bs : List ℕ) (s v : ℕ) (a : PlacementAnswer) (says : Placement-say
         record { answer = a; says = says; printed = accepted-replied (refusal-of (a .outcome)) _ out r (accepted-number (a .outcome) accepted) (rw count at p) }
 
 -- ONE SPREAD: both together
+pub answered-outcome : (m : ℕ) (f : Refusal) (k : Stack) (s : ℕ) (a : PlacementAnswer) → Answered m f k s a → refusal-of (a .outcome) ≡ f
+unfolding Answered placed-is
+answered-outcome zero f k s a t = t .3 .0
+answered-outcome (suc m) f k s a t = t .0
+
 module _ (bs : List ℕ) (s : ℕ) (t : TotalAnswer) (says : Total-says bs s t) (out : List ℕ) (r : Reply) (p : Placement-printed bs s (t .total .0) out r) where
   both : Spread-says bs s (p .answer)
   unfolding Both-together
   both = both-together bs s t (p .answer) says (p .says)
 
-  outcome-from : (m : ℕ) → Answered m (spread-refusal bs s) (stack-in bs) s (p .answer) → refusal-of (p .answer .outcome) ≡ spread-refusal bs s
-  unfolding Answered placed-is
-  outcome-from zero t = t .3 .0
-  outcome-from (suc m) t = t .0
-
   outcome-is : refusal-of (p .answer .outcome) ≡ spread-refusal bs s
   unfolding Spread-says
-  outcome-is = outcome-from (spread-refusal bs s .number) both
+  outcome-is = answered-outcome (spread-refusal bs s .number) (spread-refusal bs s) (stack-in bs) s (p .answer) both
 
   pub spread-printed : Spread-printed bs s out r
   spread-printed = record { answer = p .answer; says = both; printed = rw (← outcome-is) (p .printed) }

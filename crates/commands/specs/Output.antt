@@ -7,19 +7,21 @@ use Prim.Native.Nat.{ℕ, _+_, _*_, _-_, _≤_}
 use lib.Dec.{eqb}
 use lib.ListN.{length, getD, take}
 use Rattle.numbers.specs.Lists.{filled}
-use Rattle.stack.specs.Stack.{Row, Rows-are, Answer}
-use Rattle.text.specs.Text.{Refusal, text-refusal, stack-in}
+use Rattle.stack.specs.Stack.{Stack, Row, Rows-are, Answer}
+use Rattle.text.specs.Text.{Refusal, or-else, text-refusal, stack-in}
 use Rattle.text.specs.Outcome.{refusal-of}
 use Rattle.writing.specs.TableText.{row-text, table-text, total-text, refusal-text}
 use Rattle.writing.specs.Output.{row-of}
 use Rattle.trial.specs.Legal.{is-legal}
 use Rattle.page.specs.Page.{channel-page}
 use Rattle.complaint.specs.Complaint.{complaint}
-use Rattle.nabetsu.specs.Entry.{spread-refusal, Total-says, Placement-says}
+use Rattle.spread.specs.Answers.{spread-refusal, Total-says, Placement-says}
+use Rattle.spread.specs.Best.{Answered-or}
+use Rattle.session.specs.Session.{session-refusal}
 use Rattle.nabetsu.specs.Best.{Spread-says}
 use Rattle.nabetsu.specs.Pages.{page-refusal}
 use Rattle.reply.specs.declared.PlacementAnswer.{PlacementAnswer}
-use Rattle.nabetsu.specs.declared.TotalAnswer.{TotalAnswer}
+use Rattle.spread.specs.declared.TotalAnswer.{TotalAnswer}
 use Rattle.commands.specs.declared.Reply.{Reply}
 
 -- a text is the first bytes of an output, a status goes with it, and the words for what is refused, none where nothing is
@@ -68,6 +70,12 @@ pub record Spread-printed (bs : List ℕ) (s : ℕ) (output : List ℕ) (r : Rep
   pub answer : PlacementAnswer
   pub says : Spread-says bs s answer
   pub printed : Replied (spread-refusal bs s) (row-text (row-of (channels bs) s (answer .separations) (answer .positions))) output r
+
+-- A SESSION'S STEP: its refusal, then 13 and 7 for the spread, else the row of both together for the stack that is held then
+pub record Step-printed (f : Refusal) (k : Stack) (s : ℕ) (output : List ℕ) (r : Reply) : Type 0 where
+  pub answer : PlacementAnswer
+  pub says : Answered-or (or-else f (session-refusal k s)) k s answer
+  pub printed : Replied (or-else f (session-refusal k s)) (row-text (row-of (length (k .channels)) s (answer .separations) (answer .positions))) output r
 
 -- A PAGE: the refusal of the text, then 3, 7 and 9, else the page of the answer's channel; the space is enough for every page too
 pub record Page-printed (bs : List ℕ) (s channel : ℕ) (output : List ℕ) (r : Reply) : Type 0 where

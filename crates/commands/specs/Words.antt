@@ -8,7 +8,7 @@ use lib.ListN.{length}
 use Rattle.lines.specs.Lines.{all-digits, value, same-bytes}
 use Rattle.commands.specs.declared.Number.{Number}
 use Rattle.commands.specs.declared.Command.{Command}
-use Rattle.commands.specs.declared.Command.the-variants.{Table, Total, Place, Spread, Page, Trial, Help, Version, Wrong}
+use Rattle.commands.specs.declared.Command.the-variants.{Table, Total, Place, Spread, Page, Trial, Session, Help, Version, Wrong}
 
 -- a NUMBER: 1 to 10 decimal digits, at most 4294967295
 unfoldable pub is-number : List ℕ → Bool
@@ -22,7 +22,7 @@ pub record Number-read (xs : List ℕ) (r : Number) : Type 0 where
   pub good : r .good ≡ is-number xs
   pub value : r .value ≡ number-in xs
 
--- the words help, trial, total, place, spread and page, and the options -h, --help and --version
+-- the words help, trial, total, place, spread, page and session, and the options -h, --help and --version
 unfoldable pub help-word : List ℕ
 help-word = 104 ∷ 101 ∷ 108 ∷ 112 ∷ []
 
@@ -40,6 +40,9 @@ spread-word = 115 ∷ 112 ∷ 114 ∷ 101 ∷ 97 ∷ 100 ∷ []
 
 unfoldable pub page-word : List ℕ
 page-word = 112 ∷ 97 ∷ 103 ∷ 101 ∷ []
+
+unfoldable pub session-word : List ℕ
+session-word = 115 ∷ 101 ∷ 115 ∷ 115 ∷ 105 ∷ 111 ∷ 110 ∷ []
 
 unfoldable pub short-help : List ℕ
 short-help = 45 ∷ 104 ∷ []
@@ -65,11 +68,15 @@ either-named w name c other-name d = cond (same-bytes w name) c (if-named w othe
 unfoldable pub command-alone : List ℕ → Command
 command-alone w = cond (is-help w) Help (if-named w version-option Version)
 
--- a COMMAND of so many words, of which w is the first: none is the table; total and spread have one number, place and page two, trial some
+-- a COMMAND of a word and a number
+unfoldable pub command-with-number : List ℕ → Command
+command-with-number w = cond (same-bytes w session-word) Session (either-named w total-word Total spread-word Spread)
+
+-- a COMMAND of so many words, of which w is the first: none is the table; total, spread and session have one number, place and page two, trial some
 unfoldable pub command-in : List ℕ → (words : ℕ) → Command
 command-in w n =
     cond (eqb n 0) Table
     (cond (eqb n 1) (command-alone w)
     (cond (same-bytes w trial-word) Trial
-    (cond (eqb n 2) (either-named w total-word Total spread-word Spread)
+    (cond (eqb n 2) (command-with-number w)
     (cond (eqb n 3) (either-named w place-word Place page-word Page) Wrong))))

@@ -6,8 +6,10 @@ ghost use lib.ListN.{length, take};
 ghost use Rattle.stack.specs.Value.{tracks-of, columns-of};
 ghost use Rattle.text.specs.Text.{text-refusal};
 ghost use Rattle.text.specs.Outcome.{refusal-of};
+ghost use Rattle.session.specs.Session.{Made};
+ghost use Rattle.session.specs.Value.{held-of};
 ghost use Rattle.writing.specs.Output.{Line-put};
-ghost use Rattle.commands.specs.Words.{Number-read, is-help, if-named, either-named, command-alone, command-in};
+ghost use Rattle.commands.specs.Words.{Number-read, is-help, if-named, either-named, command-alone, command-with-number, command-in};
 ghost use Rattle.commands.specs.Output.{
   Printed,
   Replied,
@@ -15,6 +17,7 @@ ghost use Rattle.commands.specs.Output.{
   Total-printed,
   Placement-printed,
   Spread-printed,
+  Step-printed,
   Page-printed,
   separations-in,
   positions-in,
@@ -31,6 +34,7 @@ use nabetsu::try_placement;
 use nabetsu::write_page;
 use nabetsu::write_table;
 use reading::read_stack;
+use session::Session;
 use stack::Columns;
 use stack::Stack;
 use stack::Tracks;
@@ -94,6 +98,7 @@ pub enum Command {
     Spread,
     Page,
     Trial,
+    Session,
     Help,
     Version,
     Wrong,
@@ -148,6 +153,16 @@ fn read_alone(word: &[u8]) -> Command
     if_named(word, b"--version", Command::Version)
 }
 
+// The command of a word and a number.
+fn read_with_number(word: &[u8]) -> Command
+    ensures { λ r. ⌜ r ≡ command-with-number (now (word .entry)) ⌝ }
+{
+    if is_word(word, b"session") {
+        return Command::Session;
+    }
+    either_named(word, b"total", Command::Total, b"spread", Command::Spread)
+}
+
 // The command of so many words, of which this is the first.
 pub fn read_command(word: &[u8], words: usize) -> Command
     ensures { λ r. ⌜ r ≡ command-in (now (word .entry)) words ⌝ }
@@ -162,7 +177,7 @@ pub fn read_command(word: &[u8], words: usize) -> Command
         return Command::Trial;
     }
     if words == 2 {
-        return either_named(word, b"total", Command::Total, b"spread", Command::Spread);
+        return read_with_number(word);
     }
     if words == 3 {
         return either_named(word, b"place", Command::Place, b"page", Command::Page);
@@ -261,6 +276,37 @@ pub fn put_spread(text: &[u8], spread: u32, output: &mut [u8; TABLE_BYTES]) -> R
     let least = least_total(text, spread);
     let total = least.total;
     put_place(text, spread, total.0, output)
+}
+
+// All that is printed of a step of a session: the row of the placement for its least total in one spread, or the step's refusal or the spread's.
+pub fn put_step(
+    outcome: Outcome,
+    session: Session,
+    spread: u32,
+    output: &mut [u8; TABLE_BYTES],
+) -> Reply
+    requires { ⌜ Made (held-of session) ⌝ }
+    ensures { λ r. ⌜ Step-printed (refusal-of outcome) (held-of session) spread (now (output .exit)) r ⌝ }
+{
+    let strips = session.count;
+    if !outcome.is_accepted() {
+        return put_outcome(outcome, 0, output);
+    }
+    let least = session.least_total(spread);
+    let total = least.total;
+    let answer = session.place_total(spread, total);
+    let told = answer.outcome;
+    if !told.is_accepted() {
+        return put_outcome(told, 0, output);
+    }
+    let separations = answer.separations;
+    let positions = answer.positions;
+    let length = put_row(output, strips - 1, spread, total.0, separations, positions);
+    Reply {
+        length,
+        status: ANSWERED,
+        outcome: told,
+    }
 }
 
 // All that is printed of a channel in the answer for one spread: its page, or the refusal's line.

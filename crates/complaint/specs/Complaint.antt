@@ -27,7 +27,8 @@ meaning n =
     (cond (eqb n 9) "spread above 63, too broad for a page (9, broad)"
     (cond (eqb n 10) "no legal placement in this spread has that total (10, unmet)"
     (cond (eqb n 11) "wrong count of fields, here the first missing or extra (11, count)"
-    (cond (eqb n 12) "ill-formed number (12, number)" "")))))))))))
+    (cond (eqb n 12) "ill-formed number (12, number)"
+    (cond (eqb n 13) "session without a strip, or with none to take off (13, empty)" ""))))))))))))
 
 -- a word and a number
 unfoldable pub named : (word : String) → (v : ℕ) → List ℕ
@@ -43,3 +44,7 @@ place l f =
 unfoldable pub complaint : Refusal → List ℕ
 complaint r =
     cond (eqb (r .number) 0) []ᴸ (bytes "stacktable: " ++ place (r .line) (r .field) ++ bytes (meaning (r .number)) ++ (10 ∷ᴸ []ᴸ))
+
+-- the line that tells where the program's input is no step of a session
+unfoldable pub no-step : (line : ℕ) → List ℕ
+no-step l = named "stacktable: line " l ++ (bytes ": no step" ++ (10 ∷ᴸ []ᴸ))

@@ -6,7 +6,7 @@ ghost use lib.ListN.{length};
 ghost use Rattle.text.specs.Outcome.{number-of, refusal-of};
 ghost use Rattle.writing.specs.TableText.{digits};
 ghost use Rattle.writing.specs.Room.{Prepended, Space, Line-made};
-ghost use Rattle.complaint.specs.Complaint.{bytes, meaning, place, complaint};
+ghost use Rattle.complaint.specs.Complaint.{bytes, meaning, place, complaint, no-step};
 use text::Outcome;
 use text::Refusal;
 use writing::byte_before;
@@ -44,6 +44,8 @@ const COUNT: [u8; 66] = *b"wrong count of fields, here the first missing or extr
 
 const ILL_FORMED: [u8; 30] = *b"ill-formed number (12, number)";
 
+const EMPTY: [u8; 61] = *b"session without a strip, or with none to take off (13, empty)";
+
 // A refusal's meaning in front of a place.
 fn meaning_before(room: &mut [u8], end: usize, why: Refusal) -> usize
     requires { ⌜ Space 71 (now room) end ⌝ }
@@ -62,6 +64,7 @@ fn meaning_before(room: &mut [u8], end: usize, why: Refusal) -> usize
         Refusal::Unmet => word_before(room, end, &UNMET),
         Refusal::Count => word_before(room, end, &COUNT),
         Refusal::IllFormed => word_before(room, end, &ILL_FORMED),
+        Refusal::Empty => word_before(room, end, &EMPTY),
     }
 }
 
@@ -109,4 +112,14 @@ pub fn complaint_before(room: &mut [u8], outcome: Outcome) -> usize
             word_before(room, placed, b"stacktable: ")
         }
     }
+}
+
+// The line that tells where the program's input is no step of a session, at the end of a room of the longest line's bytes.
+pub fn no_step_before(room: &mut [u8], line: u32) -> usize
+    requires { ⌜ length (now room) ≡ 120 ⌝ }
+    ensures { λ r. ⌜ Line-made (no-step line) (now (room .exit)) r ⌝ }
+{
+    let end = byte_before(room, COMPLAINT_BYTES, LINE_FEED);
+    let at = word_before(room, end, b": no step");
+    named_before(room, at, b"stacktable: line ", line)
 }

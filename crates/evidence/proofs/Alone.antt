@@ -1,5 +1,6 @@
 -- The statements of Alone.antt, proved: there is but one least total in a spread, one placement for a total, one answer and one list of rows, and everything else
--- in a promise is an equation. The trial's verdict is the test legal, which by the routing theorem is drawable. Assumes nothing.
+-- in a promise is an equation. What is promised of a session is promised of its stack's text. The trial's verdict is the test legal, which by the routing theorem
+-- is drawable. Assumes nothing.
 use mathlib.Core.Path.{_≡_, sym, ap, _∙_}
 use mathlib.Core.Bool.{Bool, true, false}
 use mathlib.Core.List.{List, [], _∷_, _++_}
@@ -14,19 +15,25 @@ use Rattle.stack.specs.Limits.{all-rising}
 use Rattle.stack.proofs.Within.{within-rising}
 use Rattle.routing.proofs.Drawable.{drawable-legal, legal-drawable}
 use Rattle.text.specs.Text.{Refusal, refusal, fine, stack-in}
+use Rattle.text.specs.Outcome.{refusal-of}
 use Rattle.reading.proofs.Within.{accepted-within}
 use Rattle.answer.proofs.Alone.{total-alone, placement-alone, placement-met, answer-alone}
 use Rattle.rows.proofs.Rows.{rows-alone}
 use Rattle.writing.specs.TableText.{table-text}
 use Rattle.trial.specs.Legal.{is-legal}
 use Rattle.reply.specs.Told.{zeros, table-told}
-use Rattle.nabetsu.specs.Entry.{total-told, Totalled, Total-says, placed-is, Placed-for, placed, unmet, Placed-or, Placement-says, numbers, numbers-in, Numbers-put, Fits, Tabled, Table-says, Trial-says}
+use Rattle.spread.specs.Answers.{total-told, Totalled, Total-says, placed-is, Placed-for, placed, unmet, Placed, Placement-says}
+use Rattle.stack_text.specs.StackText.{stack-text}
+use Rattle.session.specs.Promise.{Session-as-text}
+use Rattle.session.proofs.Promises.{session-as-text}
+use Rattle.replay.specs.Replay.{replayed, Steps-total-says, Steps-placement-says}
+use Rattle.nabetsu.specs.Entry.{code, numbers, numbers-in, Numbers-put, Fits, Tabled, Table-says, Trial-says}
 use Rattle.reply.specs.declared.PlacementAnswer.{PlacementAnswer}
 use Rattle.reply.specs.declared.TableAnswer.{TableAnswer}
-use Rattle.nabetsu.specs.declared.TotalAnswer.{TotalAnswer}
+use Rattle.spread.specs.declared.TotalAnswer.{TotalAnswer}
 use Rattle.page.specs.Page.{channel-page}
 use Rattle.nabetsu.specs.Pages.{Paged, Page-says}
-use Rattle.evidence.specs.Alone.{Same-total, Total-says-alone, Total-coded-alone, Same-placement, Placement-says-alone, Placement-coded-alone, Same-table, Table-alone, Coded-alone, Page-alone, Page-coded-alone, Trial-alone, Placement-drawable, Trial-drawable}
+use Rattle.evidence.specs.Alone.{Same-total, Total-says-alone, Total-coded-alone, Same-placement, Placement-says-alone, Placement-coded-alone, Steps-total-says-alone, Steps-total-coded-alone, Steps-placement-says-alone, Steps-placement-coded-alone, Session-same, Same-table, Table-alone, Coded-alone, Page-alone, Page-coded-alone, Trial-alone, Placement-drawable, Trial-drawable}
 
 -- THE LEAST TOTAL
 total-told-alone : (f : Refusal) (v : ℕ) (r q : TotalAnswer) → total-told f v r → total-told f v q → Same-total r q
@@ -42,11 +49,13 @@ pub total-says-alone : Total-says-alone
 unfolding Total-says-alone Total-says
 total-says-alone bs s r q a b = totalled-alone _ _ (stack-in bs) s r q a b
 
+code-alone : (a c : TotalAnswer) (r q : ℕ) → Same-total a c → r ≡ code (refusal-of (a .outcome)) (a .total .0) → q ≡ code (refusal-of (c .outcome)) (c .total .0) → r ≡ q
+code-alone a c r q e d f = d ∙ (rw (e .refusals, e .totals) (sym f))
+
 pub total-coded-alone : Total-coded-alone
 unfolding Total-coded-alone Total-says-alone
 total-coded-alone bs s r q a b =
-    let same = total-says-alone bs s (a .answer) (b .answer) (a .says) (b .says) in
-    a .coded ∙ (rw (same .refusals, same .totals) (sym (b .coded)))
+    code-alone (a .answer) (b .answer) r q (total-says-alone bs s (a .answer) (b .answer) (a .says) (b .says)) (a .coded) (b .coded)
 
 -- THE PLACEMENT FOR A TOTAL
 placed-alone : (f : Refusal) (v : ℕ) (ts xs : List ℕ) (r q : PlacementAnswer) → placed-is f v ts xs r → placed-is f v ts xs q → Same-placement r q
@@ -62,8 +71,8 @@ placed-for-alone k s v r q (placed ts xs a c) (unmet n d) = absurd (n (placement
 placed-for-alone k s v r q (unmet n c) (placed us ys b d) = absurd (n (placement-met k s v us ys b))
 placed-for-alone k s v r q (unmet n c) (unmet m d) = placed-alone (refusal 10 0 0) 0 [] [] r q c d
 
-placed-or-alone : (n : ℕ) (f : Refusal) (k : Stack) (s v : ℕ) (r q : PlacementAnswer) → Placed-or n f k s v r → Placed-or n f k s v q → Same-placement r q
-unfolding Placed-or
+placed-or-alone : (n : ℕ) (f : Refusal) (k : Stack) (s v : ℕ) (r q : PlacementAnswer) → Placed n f k s v r → Placed n f k s v q → Same-placement r q
+unfolding Placed
 placed-or-alone zero f k s v r q a b = placed-for-alone k s v r q a b
 placed-or-alone (suc n) f k s v r q a b = placed-alone f 0 [] [] r q a b
 
@@ -86,11 +95,42 @@ unfolding Numbers-put
 put-alone true a c r q o p x y l e d f = (d .0 ∙ rw (e .refusals) (sym (f .0)), d .1 ∙ (numbers-alone (length o) a c e ∙ rw l (sym (f .1))))
 put-alone false a c r q o p x y l e d f = (d .0 ∙ rw (e .refusals) (sym (f .0)), d .1 ∙ sym (f .1 ∙ zeros-alone o p l))
 
+room-put-alone : (a c : PlacementAnswer) (r q : ℕ) (o p x y : List ℕ) → length o ≡ length p → Same-placement a c → Numbers-put (leb 18 (length o)) a r o x →
+    Numbers-put (leb 18 (length p)) c q p y → (r ≡ q) × (x ≡ y)
+room-put-alone a c r q o p x y l e d f = put-alone (leb 18 (length p)) a c r q o p x y l e (rw l at d) f
+
 pub placement-coded-alone : Placement-coded-alone
 unfolding Placement-coded-alone Placement-says-alone
 placement-coded-alone bs s v r q o p x y l a b =
-    let same = placement-says-alone bs s v (a .answer) (b .answer) (a .says) (b .says) in
-    put-alone (leb 18 (length p)) (a .answer) (b .answer) r q o p x y l same (rw l at (a .put)) (b .put)
+    room-put-alone (a .answer) (b .answer) r q o p x y l (placement-says-alone bs s v (a .answer) (b .answer) (a .says) (b .says)) (a .put) (b .put)
+
+-- OF STEPS
+pub steps-total-says-alone : Steps-total-says-alone
+unfolding Steps-total-says-alone Steps-total-says
+steps-total-says-alone bs s r q a b = totalled-alone _ _ (replayed bs .held) s r q a b
+
+pub steps-total-coded-alone : Steps-total-coded-alone
+unfolding Steps-total-coded-alone Steps-total-says-alone
+steps-total-coded-alone bs s r q a b =
+    code-alone (a .answer) (b .answer) r q (steps-total-says-alone bs s (a .answer) (b .answer) (a .says) (b .says)) (a .coded) (b .coded)
+
+pub steps-placement-says-alone : Steps-placement-says-alone
+unfolding Steps-placement-says-alone Steps-placement-says
+steps-placement-says-alone bs s v r q a b = placed-or-alone _ _ (replayed bs .held) s v r q a b
+
+pub steps-placement-coded-alone : Steps-placement-coded-alone
+unfolding Steps-placement-coded-alone Steps-placement-says-alone
+steps-placement-coded-alone bs s v r q o p x y l a b =
+    room-put-alone (a .answer) (b .answer) r q o p x y l (steps-placement-says-alone bs s v (a .answer) (b .answer) (a .says) (b .says)) (a .put) (b .put)
+
+-- OF A SESSION AND OF ITS TEXT
+pub session-same : Session-same
+unfolding Session-same Session-as-text Total-says-alone Placement-says-alone
+session-same k m n s =
+    let t = session-as-text k m n in (
+      (λ r q a b. total-says-alone (stack-text k) s r q (t .totals s r .0 a) b),
+      (λ v r q a b. placement-says-alone (stack-text k) s v r q (t .placements s v r .0 a) b),
+    )
 
 -- THE TABLE
 told-alone : (f : Refusal) (w : ℕ) (r q : TableAnswer) (x y z : List ℕ) → table-told f w r → table-told f w q → x ≡ z → y ≡ z → Same-table r q x y

@@ -1,5 +1,5 @@
 -- Names for all the definitions that a computation runs through: to unfold reading is to unfold every definition that reads a text, to unfold replying every
--- definition that makes a reply of it, and to unfold showing every one that makes a page. Assumes nothing.
+-- definition that makes a reply of it, to unfold showing every one that makes a page, and to unfold replaying every one that takes steps. Assumes nothing.
 use mathlib.Core.Bool.{Bool}
 use mathlib.Core.List.{List}
 use Prim.Native.Nat.{ℕ}
@@ -21,9 +21,12 @@ use Rattle.routing.specs.Paths as paths
 use Rattle.routing.specs.Wiring as wiring
 use Rattle.page.specs.Page as page
 use Rattle.reply.specs.Refusals.{narrow-refusal, channel-refusal, broad-refusal, asked-refusal}
-use Rattle.nabetsu.specs.Entry.{spread-refusal}
+use Rattle.spread.specs.Answers.{spread-refusal}
+use Rattle.steps.specs.Steps as step-lines
+use Rattle.session.specs.Session as session
+use Rattle.replay.specs.Replay as replay
 use Rattle.nabetsu.specs.Pages.{page-refusal}
-use Rattle.evidence.specs.Replies.{Total-reply, total-is, total-for, total-reply, Placement-reply, placement, if-met, placement-for, placement-reply, Table-reply, writes, refuses, if-fits, table-for, table-reply, page-for, page-reply}
+use Rattle.evidence.specs.Replies.{Total-reply, total-is, total-for, total-reply, steps-total-reply, Placement-reply, placement, is-met, if-met, placement-for, placement-reply, steps-placement-reply, Table-reply, writes, refuses, if-fits, table-for, table-reply, page-for, page-reply}
 use Rattle.evidence.specs.Specimens.{byte-shown, line-shown, text-shown, dotted, page-shown}
 
 unfoldable pub reading : List String → Stack
@@ -46,7 +49,7 @@ unfolding stacks.p-at stacks.q-at stacks.every stacks.left-good stacks.right-goo
     solve.window solve.channel-limits solve.stack-levels solve.bottom solve.levels-of solve.total-with solve.separations-with solve.positions-with
     solve.answer-total solve.separations-for solve.positions-for walk.row-at walk.rows-walk walk.widest walk.rows-of
     table-texts.digits-from table-texts.digits table-texts.tabbed table-texts.row-text table-texts.rows-text table-texts.table-text
-    padded narrow-refusal spread-refusal all-zero is-legal total-is total-for total-reply placement if-met placement-for placement-reply writes refuses if-fits table-for table-reply
+    padded narrow-refusal spread-refusal all-zero is-legal total-is total-for total-reply placement is-met if-met placement-for placement-reply writes refuses if-fits table-for table-reply
 replying bs s v n ts xs = (total-reply bs s, placement-reply bs s v, table-reply bs n, is-legal (texts.stack-in bs) s (padded 8 ts) (padded 9 xs))
 
 unfoldable pub showing : List ℕ → (s channel space : ℕ) → List String → Table-reply × List ℕ
@@ -56,3 +59,9 @@ unfolding dotted page-shown tabulate paths.point paths.next paths.same-column pa
     page.arm-up page.arm-down page.how-many page.arms-character page.character page.in-three page.line-of page.track-line page.page-text
     page.channel-paths page.channel-page channel-refusal broad-refusal asked-refusal page-refusal page-for page-reply
 showing bs s c n p = (page-reply bs s c n, page-shown p)
+
+unfoldable pub replaying : List ℕ → (s v : ℕ) → Total-reply × Placement-reply
+unfolding step-lines.begin-word step-lines.add-word step-lines.off-word step-lines.list-kind step-lines.is-line step-lines.word-line step-lines.length-in step-lines.step-line
+    session.nothing session.room-refusal session.top-length session.length-refusal session.nets-refusal session.step-refusal session.taken session.left session.after session.session-refusal
+    replay.state replay.start replay.stepped replay.told replay.line-taken replay.replay replay.replayed replay.steps-refusal steps-total-reply steps-placement-reply
+replaying bs s v = (steps-total-reply bs s, steps-placement-reply bs s v)

@@ -1,20 +1,23 @@
 -- A result is promised exactly if it is the reply that the executable definitions of Replies.antt give: they are the least total, a placement for a total, an answer
--- and rows, and there is but one of each. Assumes nothing.
+-- and rows, and there is but one of each; of a session's single strip too. Assumes nothing.
 use mathlib.Core.Path.{_≡_, refl}
 use mathlib.Core.Bool.{Bool, true, false}
 use mathlib.Core.List.{List, [], _∷_}
 use mathlib.Core.Logic.{_↔_}
 use Prim.Native.Nat.{ℕ, zero, suc, _-_, _≤_}
 use native.Mathlib.Omega.{arith}
-use lib.Dec.{leb}
+use lib.Dec.{leb, ltb, eqb}
 use lib.ListN.{length}
-use borrow.Author.Tests.{eqb-true, leb-true, leb-false}
+use borrow.Author.Tests.{eqb-true, eqb-false, ne-eqb, leb-true, leb-false, lt-ltb, le-ltb}
 use Rattle.numbers.proofs.Bools.{ands, impossible}
-use Rattle.stack.specs.Stack.{Stack, Total-met, Least-total, Placement, Answer, longest}
+use Rattle.stack.specs.Stack.{Stack, stack, Total-met, Least-total, Placement, Answer, longest}
 use Rattle.stack.specs.Limits.{within-limits}
 use Rattle.lines.specs.Lines.{same-bytes}
-use Rattle.text.specs.Text.{Refusal, refusal, fine, text-refusal, stack-in}
+use Rattle.spans.specs.Solver as solver
+use Rattle.text.specs.Text.{Refusal, refusal, fine, or-else, text-refusal, stack-in}
+use Rattle.text.proofs.Refusals.{or-else-fine, when-fine, not-fine}
 use Rattle.reading.proofs.Within.{accepted-within}
+use Rattle.answer.specs.Solve as solve
 use Rattle.answer.specs.Solve.{answer-total, separations-for, positions-for, answer-separations, answer-positions}
 use Rattle.answer.proofs.Alone.{total-alone, placement-alone, placement-met, answer-alone}
 use Rattle.answer.proofs.Answers.{least-there, placement-there, met-from-least}
@@ -23,14 +26,23 @@ use Rattle.rows.proofs.Rows.{rows-are, rows-alone}
 use Rattle.writing.specs.TableText.{table-text}
 use Rattle.page.specs.Page.{channel-page}
 use Rattle.reply.specs.Told.{zeros, table-told}
-use Rattle.nabetsu.specs.Entry.{spread-refusal, total-told, Totalled, Total-says, placed-is, Placed-for, placed, unmet, Placed-or, Placement-says, Fits, Tabled, Table-says}
+use Rattle.spread.specs.Answers.{spread-refusal, total-told, Totalled, Total-says, placed-is, Placed-for, placed, unmet, Placed, Placement-says}
+use Rattle.spread.specs.Single.{one-strip}
+use Rattle.spread.proofs.Spreads.{fine-wide}
+use Rattle.spread.proofs.Single.{only-zero, least-zero, placement-zero}
+use Rattle.session.specs.Session.{nothing, session-refusal}
+use Rattle.session.specs.Promise.{Held, empty, single, stacked, Made-held}
+use Rattle.session.proofs.Promises.{made-held}
+use Rattle.replay.specs.Replay.{replayed, steps-refusal, Steps-total-says, Steps-placement-says, Replayed-made}
+use Rattle.replay.proofs.Made.{replayed-made}
+use Rattle.nabetsu.specs.Entry.{Fits, Tabled, Table-says}
 use Rattle.nabetsu.specs.Pages.{page-refusal, Paged, Page-says}
 use Rattle.nabetsu.proofs.Pages.{page-answered}
 use Rattle.nabetsu.proofs.Spreads.{spread-within, spread-wide}
 use Rattle.reply.specs.declared.PlacementAnswer.{PlacementAnswer}
 use Rattle.reply.specs.declared.TableAnswer.{TableAnswer}
-use Rattle.nabetsu.specs.declared.TotalAnswer.{TotalAnswer}
-use Rattle.evidence.specs.Replies.{same-refusal, Total-reply, total-is, same-total, total-for, total-reply, Placement-reply, placement, same-placement, if-met, placement-for, placement-reply, Table-reply, writes, refuses, same-table, if-fits, table-for, table-reply, page-for, page-reply}
+use Rattle.spread.specs.declared.TotalAnswer.{TotalAnswer}
+use Rattle.evidence.specs.Replies.{same-refusal, Total-reply, total-is, same-total, total-for, total-reply, steps-total-reply, Placement-reply, placement, same-placement, is-met, if-met, placement-for, placement-reply, steps-placement-reply, Table-reply, writes, refuses, same-table, if-fits, table-for, table-reply, page-for, page-reply}
 
 -- WHAT TESTS THE SAME IS THE SAME
 bytes-equal : (a b : List ℕ) → same-bytes a b ≡ true → a ≡ b
@@ -76,6 +88,58 @@ tables-equal a b e =
     same : {f g : Refusal} {v w : ℕ} {x y : List ℕ} → f ≡ g → v ≡ w → x ≡ y → table-is f v x ≡ table-is g w y
     same p q r = rw (p, q, r)
 
+-- WHERE NOTHING IS REFUSED of a spread the definitions are the least total and its placements
+record Solved (k : Stack) (s : ℕ) : Type 0 where
+  pub least : Least-total k s (answer-total k s)
+  pub there : (v : ℕ) → is-met k s v ≡ true → Placement k s v (separations-for k s v) (positions-for k s v)
+  pub no-other : (v : ℕ) → is-met k s v ≡ false → Total-met k s v → ⊥
+
+-- of a stack
+stack-solved : (k : Stack) (s : ℕ) → within-limits k ≡ true → longest (k .strips) ≤ s → Solved k s
+unfolding is-met within-limits
+stack-solved k s w h =
+    let some : eqb (length (k .channels)) 0 ≡ false = ne-eqb (length (k .channels)) 0 (λ e. omega (arith, leb-true 1 (length (k .channels)) (search ands))) in
+    let l = least-there k s w h in
+    record {
+      least = l;
+      there = λ v e. placement-there k s w h v (leb-true (answer-total k s) v (rw some at e));
+      no-other = λ v e m. omega (arith, leb-false (answer-total k s) v (rw some at e), met-from-least k s w (answer-total k s) v l .0 m);
+    }
+
+text-solved : (bs : List ℕ) (s : ℕ) → spread-refusal bs s .number ≡ 0 → Solved (stack-in bs) s
+text-solved bs s e = stack-solved (stack-in bs) s (spread-within bs s e) (spread-wide bs s e)
+
+-- of a single strip
+single-solved : (l s : ℕ) → longest (l ∷ []) ≤ s → Solved (one-strip l) s
+unfolding longest is-met stack solve.answer-total solve.total-with solve.separations-for solve.separations-with solve.positions-for solve.positions-with
+    solve.bottom solve.window solve.levels-of solve.stack-levels solver.least-total solver.first-total solver.first solver.back solver.most solver.separations
+    solver.positions solver.lowest solver.fixed solver.positions-on
+single-solved l s h =
+    let fits : l ≤ s = rw (le-ltb l 0 (omega arith)) at h in
+    let room : ltb 0 (suc s - l) ≡ true = lt-ltb 0 (suc s - l) (omega arith) in
+    record {
+      least = rw room (least-zero l s fits);
+      there = λ v e. rw (eqb-true v 0 e) (placement-zero l s fits);
+      no-other = λ v e m. eqb-false v 0 e (only-zero l s v m);
+    }
+
+-- of what steps leave
+session-wide : (k : Stack) (s : ℕ) → session-refusal k s .number ≡ 0 → longest (k .strips) ≤ s
+unfolding session-refusal or-else fine refusal
+session-wide k s e = fine-wide fine k s (when-fine (eqb (length (k .strips)) 0) 12 0 0 _ e .1)
+
+held-solved : (k : Stack) (s : ℕ) → Held k → session-refusal k s .number ≡ 0 → Solved k s
+unfolding session-refusal nothing stack
+held-solved k s (empty q) e = absurd (not-fine 12 0 0 (session-refusal k s) (rw q) e)
+held-solved k s (single l a b q) e = rw q (single-solved l s (rw q at (session-wide k s e)))
+held-solved k s (stacked w) e = stack-solved k s w (session-wide k s e)
+
+steps-solved : (bs : List ℕ) (s : ℕ) → steps-refusal bs s .number ≡ 0 → Solved (replayed bs .held) s
+unfolding steps-refusal Made-held Replayed-made
+steps-solved bs s e =
+    let k = replayed bs .held in
+    held-solved k s (made-held k (replayed-made bs)) (or-else-fine (replayed bs .refused) (session-refusal k s) e .1)
+
 -- THE LEAST TOTAL
 abbrev pub totalled : Total-reply → TotalAnswer → Type 0
 totalled y r = total-told (y .refused) (y .total) r
@@ -86,16 +150,20 @@ module _ (f : Refusal) (k : Stack) (s : ℕ) (r : TotalAnswer) where
   unfolding Totalled
   least-told v l = ((λ a. rw (total-alone k s (a .0) v (a .1) l) at (a .2)), (λ t. (v, l, t)))
 
-  totalled-replied : (n : ℕ) → (n ≡ 0 → Least-total k s (answer-total k s)) → Totalled n f k s r ↔ totalled (total-for n f k s) r
+  totalled-replied : (n : ℕ) → (n ≡ 0 → Solved k s) → Totalled n f k s r ↔ totalled (total-for n f k s) r
   unfolding Totalled total-for total-is
-  totalled-replied zero there = least-told (answer-total k s) (there refl)
-  totalled-replied (suc n) there = ((λ a. a), (λ t. t))
+  totalled-replied zero e = least-told (answer-total k s) (e refl .least)
+  totalled-replied (suc n) e = ((λ a. a), (λ t. t))
 
 pub total-replied : (bs : List ℕ) (s : ℕ) (r : TotalAnswer) → Total-says bs s r ↔ totalled (total-reply bs s) r
 unfolding Total-says total-reply
 total-replied bs s r =
-    let f = spread-refusal bs s in
-    totalled-replied f (stack-in bs) s r (f .number) (λ e. least-there (stack-in bs) s (spread-within bs s e) (spread-wide bs s e))
+    let f = spread-refusal bs s in totalled-replied f (stack-in bs) s r (f .number) (text-solved bs s)
+
+pub steps-total-replied : (bs : List ℕ) (s : ℕ) (r : TotalAnswer) → Steps-total-says bs s r ↔ totalled (steps-total-reply bs s) r
+unfolding Steps-total-says steps-total-reply
+steps-total-replied bs s r =
+    let f = steps-refusal bs s in totalled-replied f (replayed bs .held) s r (f .number) (steps-solved bs s)
 
 -- THE PLACEMENT FOR A TOTAL
 abbrev pub replied : Placement-reply → PlacementAnswer → Type 0
@@ -117,26 +185,25 @@ module _ (k : Stack) (s v : ℕ) (r : PlacementAnswer) where
   unmet-told u (placed ts xs a q) = absurd (u (placement-met k s v ts xs a))
   unmet-told u (unmet n q) = q
 
-  module _ (w : within-limits k ≡ true) (h : longest (k .strips) ≤ s) where
-    placed-for-replied : (b : Bool) → leb (answer-total k s) v ≡ b → Placed-for k s v r ↔ replied (if-met b k s v) r
-    unfolding if-met placement
-    placed-for-replied true e =
-        placement-told (separations-for k s v) (positions-for k s v) (placement-there k s w h v (leb-true (answer-total k s) v e))
-    placed-for-replied false e =
-        let m = met-from-least k s w (answer-total k s) v (least-there k s w h) in
-        let u : Total-met k s v → ⊥ = λ t. omega (arith, leb-false (answer-total k s) v e, m .0 t) in
-        (unmet-told u, (λ q. unmet u q))
+  placed-for-replied : Solved k s → (b : Bool) → is-met k s v ≡ b → Placed-for k s v r ↔ replied (if-met b k s v) r
+  unfolding if-met placement
+  placed-for-replied a true e = placement-told (separations-for k s v) (positions-for k s v) (a .there v e)
+  placed-for-replied a false e = (unmet-told (a .no-other v e), (λ q. unmet (a .no-other v e) q))
 
-  placed-or-replied : (n : ℕ) (f : Refusal) → (n ≡ 0 → within-limits k ≡ true) → (n ≡ 0 → longest (k .strips) ≤ s) → Placed-or n f k s v r ↔ replied (placement-for n f k s v) r
-  unfolding Placed-or placement-for placement
-  placed-or-replied zero f w h = placed-for-replied (w refl) (h refl) (leb (answer-total k s) v) refl
-  placed-or-replied (suc n) f w h = ((λ a. a), (λ p. p))
+  placed-or-replied : (n : ℕ) (f : Refusal) → (n ≡ 0 → Solved k s) → Placed n f k s v r ↔ replied (placement-for n f k s v) r
+  unfolding Placed placement-for placement
+  placed-or-replied zero f e = placed-for-replied (e refl) (is-met k s v) refl
+  placed-or-replied (suc n) f e = ((λ a. a), (λ p. p))
 
 pub placement-replied : (bs : List ℕ) (s v : ℕ) (r : PlacementAnswer) → Placement-says bs s v r ↔ replied (placement-reply bs s v) r
 unfolding Placement-says placement-reply
 placement-replied bs s v r =
-    let f = spread-refusal bs s in
-    placed-or-replied (stack-in bs) s v r (f .number) f (spread-within bs s) (spread-wide bs s)
+    let f = spread-refusal bs s in placed-or-replied (stack-in bs) s v r (f .number) f (text-solved bs s)
+
+pub steps-placement-replied : (bs : List ℕ) (s v : ℕ) (r : PlacementAnswer) → Steps-placement-says bs s v r ↔ replied (steps-placement-reply bs s v) r
+unfolding Steps-placement-says steps-placement-reply
+steps-placement-replied bs s v r =
+    let f = steps-refusal bs s in placed-or-replied (replayed bs .held) s v r (f .number) f (steps-solved bs s)
 
 -- THE TABLE
 abbrev pub tabled : Table-reply → TableAnswer → (output : List ℕ) → Type 0

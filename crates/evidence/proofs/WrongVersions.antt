@@ -1,5 +1,5 @@
 -- Wrong versions break the promises, each on a specimen: what such a version returns is not the specimen's reply. Document 01, "Reviewer's checklist" and
--- "Traps in the work"; document 02, P1 to P5. Assumes nothing.
+-- "Traps in the work"; document 02, P1 to P6. Assumes nothing.
 use mathlib.Core.Path.{_≡_, refl, sym, ap, _∙_}
 use mathlib.Core.Bool.{true, false}
 use mathlib.Core.List.{List, [], _∷_, _++_}
@@ -25,15 +25,18 @@ use Rattle.text.specs.Text.{Refusal, refusal, fine, stack-word, stack-in}
 use Rattle.text.specs.Outcome.{refusal-of}
 use Rattle.reply.specs.Refusals.{narrow-refusal}
 use Rattle.reply.specs.Told.{table-told}
-use Rattle.nabetsu.specs.Entry.{spread-refusal, total-told, Totalled, Total-says, placed-is, Placed-for, placed, unmet, Placed-or, Placement-says, Table-says, Trial-says}
+use Rattle.spread.specs.Answers.{spread-refusal, total-told, Totalled, Total-says, placed-is, Placed-for, placed, unmet, Placed, Placement-says}
+use Rattle.replay.specs.Replay.{Steps-total-says}
+use Rattle.nabetsu.specs.Entry.{Table-says, Trial-says}
 use Rattle.nabetsu.specs.Best.{Total-best}
 use Rattle.nabetsu.specs.Pages.{Page-says}
-use Rattle.nabetsu.proofs.Placements.{sum-padded, placement-best}
+use Rattle.spread.proofs.Placements.{sum-padded}
+use Rattle.nabetsu.proofs.Spreads.{placement-best}
 use Rattle.reply.specs.declared.PlacementAnswer.{PlacementAnswer}
 use Rattle.reply.specs.declared.TableAnswer.{TableAnswer}
-use Rattle.nabetsu.specs.declared.TotalAnswer.{TotalAnswer}
+use Rattle.spread.specs.declared.TotalAnswer.{TotalAnswer}
 use Rattle.nabetsu.specs.declared.TrialAnswer.{TrialAnswer}
-use Rattle.evidence.specs.Specimens.{text-shown, Specimen, spread-gives, spread-refused, place-gives, place-refused, table-gives, table-refused, trial-gives, page-gives, page-shown, page-a, Holds, All-hold, text-a, table-a, text-b, text-c, table-c, text-d, table-d, text-e, text-between, text-moved, text-a-4, text-b-3-5, text-512, headed, parted, netted, specimens, Specimens-right}
+use Rattle.evidence.specs.Specimens.{text-shown, Specimen, spread-gives, spread-refused, place-gives, place-refused, table-gives, table-refused, trial-gives, page-gives, session-gives, session-refused, page-shown, page-a, Holds, All-hold, text-a, table-a, text-b, text-c, table-c, text-d, table-d, text-e, text-between, text-moved, text-a-4, text-b-3-5, text-512, with-lines, headed, parted, netted, beginning, adding, steps-one, steps-a, added, then-a, nine-strips, specimens, Specimens-right}
 use Rattle.evidence.proofs.Opened.{reading, replying, showing}
 use Rattle.evidence.proofs.Replies.{least-told, placement-told}
 use Rattle.evidence.proofs.Specimens.{specimens-right}
@@ -178,6 +181,30 @@ partner-at-100 : Holds (spread-refused (netted "NETS 0 2 2") 100 11 4 5)
 unfolding specimens Entry-holds
 partner-at-100 = specimen 160
 
+one-strip-at-4 : Holds (session-gives steps-one 4 0 [] (0 ∷ []))
+unfolding specimens Entry-holds
+one-strip-at-4 = specimen 173
+
+off-begun-at-4 : Holds (session-refused (with-lines steps-a (with-lines (beginning "PART 1001") ("OFF" ∷ []))) 4 13 0 0)
+unfolding specimens Entry-holds
+off-begun-at-4 = specimen 191
+
+third-terminal-at-4 : Holds (session-refused (added "PART 4" "NETS 0 0 5 1") 4 5 0 4)
+unfolding specimens Entry-holds
+third-terminal-at-4 = specimen 231
+
+behind-refused-at-5 : Holds (session-gives (then-a "PART 5" "NETS 5 5") 5 2 (2 ∷ []) (1 ∷ 0 ∷ []))
+unfolding specimens Entry-holds
+behind-refused-at-5 = specimen 237
+
+long-and-odd-at-4 : Holds (session-refused (added "PART 1001" "NETS 0") 4 4 0 2)
+unfolding specimens Entry-holds
+long-and-odd-at-4 = specimen 243
+
+tenth-at-1 : Holds (session-refused (adding nine-strips "PART 1001" "NETS") 1 3 0 0)
+unfolding specimens Entry-holds
+tenth-at-1 = specimen 253
+
 -- bytes that differ
 bytes-same : (a : List ℕ) → same-bytes a a ≡ true
 unfolding same-bytes
@@ -245,8 +272,8 @@ unfolding sum
 placed-sum k s v r (placed ts xs a p) = told-sum fine v ts xs r (a .exact) p
 placed-sum k s v r (unmet n p) = told-sum (refusal 10 0 0) 0 [] [] r refl p
 
-placed-or-sum : (n : ℕ) (f : Refusal) (k : Stack) (s v : ℕ) (r : PlacementAnswer) → Placed-or n f k s v r → r .total .0 ≡ sum (tracks-of (r .separations))
-unfolding Placed-or sum
+placed-or-sum : (n : ℕ) (f : Refusal) (k : Stack) (s v : ℕ) (r : PlacementAnswer) → Placed n f k s v r → r .total .0 ≡ sum (tracks-of (r .separations))
+unfolding Placed sum
 placed-or-sum zero f k s v r a = placed-sum k s v r a
 placed-or-sum (suc n) f k s v r a = told-sum f 0 [] [] r refl a
 
@@ -378,7 +405,7 @@ unfolding reading replying floors-of all-covered zeros-of
 floors-answered = floors-answer (stack-in (text-shown text-512)) 1 (accepted-within (text-shown text-512) refl) (omega arith) refl
 
 pub greatest-total : Holds (spread-gives text-512 1 512 (replicate 8 64) (replicate 9 0))
-unfolding reading replying Holds Total-says Placement-says Placed-or
+unfolding reading replying Holds Total-says Placement-says Placed
 greatest-total =
     let k = stack-in (text-shown text-512) in (
       (λ r. least-told fine k 1 r 512 (answer-total-is k 1 _ _ floors-answered)),
@@ -538,3 +565,34 @@ own-field-breaks r w a = omega (arith, field-told 11 4 5 _ (partner-at-100 .0 r 
 pub one-number-breaks : (r : TotalAnswer) → refusal-of (r .outcome) .number ≡ 2 → Total-says (text-shown (netted "NETS 0 2 2")) 100 r → ⊥
 unfolding Holds total-told
 one-number-breaks r w a = omega (arith, number-told 11 4 5 _ (partner-at-100 .0 r .0 a .0))
+
+-- SESSIONS. THE CHANNEL BEFORE THE LENGTH: an odd list, 11
+pub channel-first-breaks : (r : TotalAnswer) → refusal-of (r .outcome) .number ≡ 11 → Steps-total-says (text-shown (added "PART 1001" "NETS 0")) 4 r → ⊥
+unfolding Holds total-told
+channel-first-breaks r w a = omega (arith, number-told 4 0 2 _ (long-and-odd-at-4 .0 r .0 a .0))
+
+-- A REFUSED ADD THAT KEEPS THE STRIP: the total is then that of strips 4, 5 and 4, as where the channel is good
+pub refused-strip-kept-breaks : (r : TotalAnswer) → r .total .0 ≡ 3 → Steps-total-says (text-shown (then-a "PART 5" "NETS 5 5")) 5 r → ⊥
+unfolding Holds total-told
+refused-strip-kept-breaks r w a = omega (arith, behind-refused-at-5 .0 r .0 a .1)
+
+-- A TENTH STRIP'S NUMBERS FIRST: its length, 4
+pub tenth-numbers-first-breaks : (r : TotalAnswer) → refusal-of (r .outcome) .number ≡ 4 → Steps-total-says (text-shown (adding nine-strips "PART 1001" "NETS")) 1 r → ⊥
+unfolding Holds total-told
+tenth-numbers-first-breaks r w a = omega (arith, number-told 3 0 0 _ (tenth-at-1 .0 r .0 a .0))
+
+-- A REFUSED BEGINNING THAT KEEPS THE OLD SESSION: A, whose top strip can be taken off
+pub refused-begin-kept-breaks : (r : TotalAnswer) → refusal-of (r .outcome) .number ≡ 0 →
+    Steps-total-says (text-shown (with-lines steps-a (with-lines (beginning "PART 1001") ("OFF" ∷ [])))) 4 r → ⊥
+unfolding Holds total-told
+refused-begin-kept-breaks r w a = omega (arith, number-told 13 0 0 _ (off-begun-at-4 .0 r .0 a .0))
+
+-- A TERMINAL'S FIELD OFF BY ONE: the third terminal is in field 4
+pub field-off-by-one-breaks : (r : TotalAnswer) → refusal-of (r .outcome) .field ≡ 3 → Steps-total-says (text-shown (added "PART 4" "NETS 0 0 5 1")) 4 r → ⊥
+unfolding Holds total-told
+field-off-by-one-breaks r w a = omega (arith, field-told 5 0 4 _ (third-terminal-at-4 .0 r .0 a .0))
+
+-- ONE STRIP REFUSED as if the session were empty
+pub single-refused-breaks : (r : TotalAnswer) → refusal-of (r .outcome) .number ≡ 13 → Steps-total-says (text-shown steps-one) 4 r → ⊥
+unfolding Holds total-told
+single-refused-breaks r w a = omega (arith, number-told 0 0 0 _ (one-strip-at-4 .0 r .0 a .0))

@@ -1,11 +1,12 @@
 -- TRUSTED. What the entries answer follows from their inputs alone, refusals too: two results promised for one input are the same, and of the output as it was
--- before only its length matters. And a trial says legal exactly if the placement can be drawn. Each statement is a type; proofs/Alone.antt proves it.
--- Document 01, "Reviewer's checklist" and "When a channel can be wired". Assumes nothing: these are definitions.
+-- before only its length matters. A session answers as the text of the same stack does. And a trial says legal exactly if the placement can be drawn. Each
+-- statement is a type; proofs/Alone.antt proves it. Document 01, "Reviewer's checklist" and "When a channel can be wired"; document 02, P6. Assumes nothing: these
+-- are definitions.
 use mathlib.Core.Path.{_≡_}
 use mathlib.Core.Bool.{true}
 use mathlib.Core.List.{List}
 use mathlib.Core.Logic.{_↔_}
-use Prim.Native.Nat.{ℕ, suc}
+use Prim.Native.Nat.{ℕ, suc, _≤_}
 use lib.ListN.{length, take, drop}
 use Rattle.stack.specs.Value.{tracks-of, columns-of}
 use Rattle.stack.specs.Stack.{Stack}
@@ -13,11 +14,16 @@ use Rattle.routing.specs.Paths.{Drawable}
 use Rattle.text.specs.Text.{text-refusal, stack-in}
 use Rattle.text.specs.Outcome.{refusal-of}
 use Rattle.trial.specs.Legal.{all-zero}
-use Rattle.nabetsu.specs.Entry.{Total-says, Placement-says, Table-says, Trial-says, Total-coded, Table-coded, Placement-coded}
+use Rattle.spread.specs.Answers.{Total-says, Placement-says}
+use Rattle.stack_text.specs.StackText.{stack-text}
+use Rattle.session.specs.Session.{Made, Session-total-says, Session-placement-says}
+use Rattle.replay.specs.Replay.{Steps-total-says, Steps-placement-says}
+use Rattle.nabetsu.specs.Entry.{Table-says, Trial-says, Total-coded, Table-coded, Placement-coded}
 use Rattle.nabetsu.specs.Pages.{Page-says, Page-coded}
+use Rattle.nabetsu.specs.Sessions.{Steps-total-coded, Steps-placement-coded}
 use Rattle.reply.specs.declared.PlacementAnswer.{PlacementAnswer}
 use Rattle.reply.specs.declared.TableAnswer.{TableAnswer}
-use Rattle.nabetsu.specs.declared.TotalAnswer.{TotalAnswer}
+use Rattle.spread.specs.declared.TotalAnswer.{TotalAnswer}
 use Rattle.nabetsu.specs.declared.TrialAnswer.{TrialAnswer}
 
 -- THE LEAST TOTAL: refusal and total
@@ -46,6 +52,29 @@ Placement-says-alone = (bs : List ℕ) (s v : ℕ) (r q : PlacementAnswer) → P
 unfoldable pub Placement-coded-alone : Type 0
 Placement-coded-alone =
     (bs : List ℕ) (s v r q : ℕ) (o p x y : List ℕ) → length o ≡ length p → Placement-coded bs s v r o x → Placement-coded bs s v q p y → (r ≡ q) × (x ≡ y)
+
+-- OF STEPS, likewise
+unfoldable pub Steps-total-says-alone : Type 0
+Steps-total-says-alone = (bs : List ℕ) (s : ℕ) (r q : TotalAnswer) → Steps-total-says bs s r → Steps-total-says bs s q → Same-total r q
+
+unfoldable pub Steps-total-coded-alone : Type 0
+Steps-total-coded-alone = (bs : List ℕ) (s r q : ℕ) → Steps-total-coded bs s r → Steps-total-coded bs s q → r ≡ q
+
+unfoldable pub Steps-placement-says-alone : Type 0
+Steps-placement-says-alone =
+    (bs : List ℕ) (s v : ℕ) (r q : PlacementAnswer) → Steps-placement-says bs s v r → Steps-placement-says bs s v q → Same-placement r q
+
+unfoldable pub Steps-placement-coded-alone : Type 0
+Steps-placement-coded-alone =
+    (bs : List ℕ) (s v r q : ℕ) (o p x y : List ℕ) → length o ≡ length p → Steps-placement-coded bs s v r o x → Steps-placement-coded bs s v q p y →
+    (r ≡ q) × (x ≡ y)
+
+-- OF A SESSION that steps have made, of two strips or more, and OF THE TEXT of the same stack: one result at every spread and for every total
+unfoldable pub Session-same : Type 0
+Session-same =
+    (k : Stack) → Made k → 2 ≤ length (k .strips) → (s : ℕ) →
+    ((r q : TotalAnswer) → Session-total-says k s r → Total-says (stack-text k) s q → Same-total r q)
+    × ((v : ℕ) (r q : PlacementAnswer) → Session-placement-says k s v r → Placement-says (stack-text k) s v q → Same-placement r q)
 
 -- THE TABLE: refusal, bytes written and every byte of the output
 pub record Same-table (r q : TableAnswer) (x y : List ℕ) : Type 0 where

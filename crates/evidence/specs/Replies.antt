@@ -1,6 +1,6 @@
 -- What the entries answer, as executable definitions of their inputs. Assumes nothing: these are definitions. proofs/Replies.antt proves that a result
 -- is promised exactly if it is the reply; nobody has to believe them.
-use mathlib.Core.Bool.{Bool, true, false, _&&_}
+use mathlib.Core.Bool.{Bool, true, false, _&&_, cond}
 use mathlib.Core.List.{List, [], _++_}
 use Prim.Native.Nat.{ℕ, zero, suc, _-_}
 use lib.Dec.{leb, eqb}
@@ -12,7 +12,8 @@ use Rattle.answer.specs.Solve.{answer-total, separations-for, positions-for, an
 use Rattle.rows.specs.Walk.{rows-of}
 use Rattle.writing.specs.TableText.{table-text}
 use Rattle.page.specs.Page.{channel-page}
-use Rattle.nabetsu.specs.Entry.{spread-refusal}
+use Rattle.spread.specs.Answers.{spread-refusal}
+use Rattle.replay.specs.Replay.{replayed, steps-refusal}
 use Rattle.nabetsu.specs.Pages.{page-refusal}
 
 unfoldable pub same-refusal : (a b : Refusal) → Bool
@@ -36,6 +37,9 @@ total-for (suc n) f k s = total-is f 0
 unfoldable pub total-reply : List ℕ → (s : ℕ) → Total-reply
 total-reply bs s = total-for (spread-refusal bs s .number) (spread-refusal bs s) (stack-in bs) s
 
+unfoldable pub steps-total-reply : List ℕ → (s : ℕ) → Total-reply
+steps-total-reply bs s = total-for (steps-refusal bs s .number) (steps-refusal bs s) (replayed bs .held) s
+
 -- THE PLACEMENT FOR A TOTAL
 pub record Placement-reply : Type 0 where
   pub refused : Refusal
@@ -51,16 +55,23 @@ same-placement a b =
     same-refusal (a .refused) (b .refused)
     && (eqb (a .total) (b .total) && (same-bytes (a .separations) (b .separations) && same-bytes (a .positions) (b .positions)))
 
+-- a total is met from the least one on; without channels 0 alone is
+unfoldable pub is-met : Stack → (s v : ℕ) → Bool
+is-met k s v = cond (eqb (length (k .channels)) 0) (eqb v 0) (leb (answer-total k s) v)
+
 unfoldable pub if-met : (met : Bool) → Stack → (s v : ℕ) → Placement-reply
 if-met true k s v = placement fine v (separations-for k s v) (positions-for k s v)
 if-met false k s v = placement (refusal 10 0 0) 0 [] []
 
 unfoldable pub placement-for : (number : ℕ) → Refusal → Stack → (s v : ℕ) → Placement-reply
-placement-for zero f k s v = if-met (leb (answer-total k s) v) k s v
+placement-for zero f k s v = if-met (is-met k s v) k s v
 placement-for (suc n) f k s v = placement f 0 [] []
 
 unfoldable pub placement-reply : List ℕ → (s v : ℕ) → Placement-reply
 placement-reply bs s v = placement-for (spread-refusal bs s .number) (spread-refusal bs s) (stack-in bs) s v
+
+unfoldable pub steps-placement-reply : List ℕ → (s v : ℕ) → Placement-reply
+steps-placement-reply bs s v = placement-for (steps-refusal bs s .number) (steps-refusal bs s) (replayed bs .held) s v
 
 -- THE TABLE
 pub record Table-reply : Type 0 where

@@ -1,6 +1,6 @@
 -- TRUSTED. Document 01's specimen cards: one table of texts, questions and replies, and what each says of an entry's result. proofs/Specimens.antt proves all
--- of them. Document 01, "Specimen cards"; document 02: their pages by P1, floors by P2, stated totals by P3, all by P4's rule, refusals by P5. Assumes nothing:
--- these are definitions.
+-- of them. Document 01, "Specimen cards"; document 02: their pages by P1, floors by P2, stated totals by P3, all by P4's rule, refusals by P5, built by steps as in
+-- P6. Assumes nothing: these are definitions.
 use mathlib.Core.Path.{_≡_}
 use mathlib.Core.Bool.{Bool, true, false, cond}
 use mathlib.Core.List.{List, [], _∷_, _++_}
@@ -14,11 +14,13 @@ use Rattle.numbers.specs.Lists.{padded}
 use Rattle.text.specs.Text.{refusal}
 use Rattle.text.specs.Outcome.{refusal-of}
 use Rattle.reply.specs.Told.{table-told}
-use Rattle.nabetsu.specs.Entry.{total-told, Total-says, placed-is, Placement-says, Table-says, Trial-says}
+use Rattle.spread.specs.Answers.{total-told, Total-says, placed-is, Placement-says}
+use Rattle.replay.specs.Replay.{Steps-total-says, Steps-placement-says}
+use Rattle.nabetsu.specs.Entry.{Table-says, Trial-says}
 use Rattle.nabetsu.specs.Pages.{Page-says}
 use Rattle.reply.specs.declared.PlacementAnswer.{PlacementAnswer}
 use Rattle.reply.specs.declared.TableAnswer.{TableAnswer}
-use Rattle.nabetsu.specs.declared.TotalAnswer.{TotalAnswer}
+use Rattle.spread.specs.declared.TotalAnswer.{TotalAnswer}
 use Rattle.nabetsu.specs.declared.TrialAnswer.{TrialAnswer}
 
 -- TEXTS as document 01 prints them: a list of lines, tabs shown as spaces
@@ -43,7 +45,7 @@ page-shown [] = []
 page-shown (l ∷ ls) = dotted l 68 ++ page-shown ls
 
 -- a SPECIMEN: a text, what is asked of it, and the reply. spread-gives and spread-refused are about two questions: the least total in a spread, and the placement
--- for it, or for any total where the spread is refused
+-- for it, or for any total where the spread is refused. So are session-gives and session-refused, of a text of steps
 pub data Specimen : Type 0 where
   spread-gives : (text : List String) → (s : ℕ) → (total : ℕ) → (separations positions : List ℕ) → Specimen
   spread-refused : (text : List String) → (s : ℕ) → (number line field : ℕ) → Specimen
@@ -55,6 +57,10 @@ pub data Specimen : Type 0 where
   trial-refused : (text : List String) → (s : ℕ) → (separations positions : List ℕ) → (number line field : ℕ) → Specimen
   page-gives : (text : List String) → (s channel : ℕ) → (space : ℕ) → (page : List String) → Specimen
   page-refused : (text : List String) → (s channel : ℕ) → (space : ℕ) → (number line field : ℕ) → Specimen
+  session-gives : (steps : List String) → (s : ℕ) → (total : ℕ) → (separations positions : List ℕ) → Specimen
+  session-refused : (steps : List String) → (s : ℕ) → (number line field : ℕ) → Specimen
+  session-place-gives : (steps : List String) → (s total : ℕ) → (separations positions : List ℕ) → Specimen
+  session-place-refused : (steps : List String) → (s total : ℕ) → (number line field : ℕ) → Specimen
 
 -- what a specimen says of an entry: a result is promised exactly if it is the reply
 unfoldable pub Holds : Specimen → Type 0
@@ -82,6 +88,14 @@ Holds (page-gives t s c n p) =
     ↔ (table-told (refusal 0 0 0) (length (page-shown p)) r × (x ≡ page-shown p ++ replicate (n - length (page-shown p)) 0))
 Holds (page-refused t s c n m l f) =
     (r : TableAnswer) (o x : List ℕ) → length o ≡ n → Page-says (text-shown t) s c r o x ↔ (table-told (refusal m l f) 0 r × (x ≡ replicate n 0))
+Holds (session-gives t s v ts xs) =
+    ((r : TotalAnswer) → Steps-total-says (text-shown t) s r ↔ total-told (refusal 0 0 0) v r)
+    × ((r : PlacementAnswer) → Steps-placement-says (text-shown t) s v r ↔ placed-is (refusal 0 0 0) v ts xs r)
+Holds (session-refused t s n l f) =
+    ((r : TotalAnswer) → Steps-total-says (text-shown t) s r ↔ total-told (refusal n l f) 0 r)
+    × ((v : ℕ) (r : PlacementAnswer) → Steps-placement-says (text-shown t) s v r ↔ placed-is (refusal n l f) 0 [] [] r)
+Holds (session-place-gives t s v ts xs) = (r : PlacementAnswer) → Steps-placement-says (text-shown t) s v r ↔ placed-is (refusal 0 0 0) v ts xs r
+Holds (session-place-refused t s v n l f) = (r : PlacementAnswer) → Steps-placement-says (text-shown t) s v r ↔ placed-is (refusal n l f) 0 [] [] r
 
 unfoldable pub All-hold : List Specimen → Type 0
 All-hold [] = Unit
@@ -140,13 +154,12 @@ text-32 =
     ∷ "NETS 0 0 1 1 2 2 3 3 4 4 5 5 6 6 7 7 8 8 9 9 10 10 11 11 12 12 13 13 14 14 15 15 16 16 17 17 18 18 19 19 20 20 21 21 22 22 23 23 24 24 25 25 26 26 27 27 28 28 29 29 30 30 31 31"
     ∷ []
 
+abbrev pub nets-33 : String
+nets-33 =
+    "NETS 0 0 1 1 2 2 3 3 4 4 5 5 6 6 7 7 8 8 9 9 10 10 11 11 12 12 13 13 14 14 15 15 16 16 17 17 18 18 19 19 20 20 21 21 22 22 23 23 24 24 25 25 26 26 27 27 28 28 29 29 30 30 31 31 32 32"
+
 abbrev pub text-33 : List String
-text-33 =
-    "STACK 1"
-    ∷ "PART 40"
-    ∷ "PART 40"
-    ∷ "NETS 0 0 1 1 2 2 3 3 4 4 5 5 6 6 7 7 8 8 9 9 10 10 11 11 12 12 13 13 14 14 15 15 16 16 17 17 18 18 19 19 20 20 21 21 22 22 23 23 24 24 25 25 26 26 27 27 28 28 29 29 30 30 31 31 32 32"
-    ∷ []
+text-33 = "STACK 1" ∷ "PART 40" ∷ "PART 40" ∷ nets-33 ∷ []
 
 -- lengths 1,000 and 1,001
 abbrev pub text-1000 : List String
@@ -260,6 +273,51 @@ netted l = "STACK 1" ∷ "PART 4" ∷ "PART 4" ∷ l ∷ []
 abbrev pub text-65 : List String
 text-65 =
     netted "NETS 0 0 1 1 2 2 3 3 4 4 5 5 6 6 7 7 8 8 9 9 10 10 11 11 12 12 13 13 14 14 15 15 16 16 17 17 18 18 19 19 20 20 21 21 22 22 23 23 24 24 25 25 26 26 27 27 28 28 29 29 30 30 31 31 32"
+
+-- STEPS: one strip of length 4, and cards A, B and D from the bottom up
+abbrev pub beginning : (part : String) → List String
+beginning p = "BEGIN" ∷ p ∷ []
+
+abbrev pub adding : (steps : List String) → (part nets : String) → List String
+adding t p n = with-lines t ("ADD" ∷ p ∷ n ∷ [])
+
+abbrev pub steps-one : List String
+steps-one = beginning "PART 4"
+
+abbrev pub steps-a : List String
+steps-a = adding steps-one "PART 4" "NETS 0 2 2 4"
+
+abbrev pub steps-b : List String
+steps-b = adding steps-a "PART 4" "NETS 0 2 2 4"
+
+abbrev pub steps-d : List String
+steps-d = adding (beginning "PART 1") "PART 1" "NETS 1 0"
+
+-- an ADD on that strip, and A's ADD behind it: where the first one is refused, A
+abbrev pub added : (part nets : String) → List String
+added p n = adding steps-one p n
+
+abbrev pub then-a : (part nets : String) → List String
+then-a p n = adding (added p n) "PART 4" "NETS 0 2 2 4"
+
+-- 67 terminals
+abbrev pub nets-67 : String
+nets-67 =
+    "NETS 0 0 1 1 2 2 3 3 4 4 5 5 6 6 7 7 8 8 9 9 10 10 11 11 12 12 13 13 14 14 15 15 16 16 17 17 18 18 19 19 20 20 21 21 22 22 23 23 24 24 25 25 26 26 27 27 28 28 29 29 30 30 31 31 32 32 33"
+
+-- so many strips of length 1 without pairs
+abbrev pub three-strips : List String
+three-strips = adding (adding (beginning "PART 1") "PART 1" "NETS") "PART 1" "NETS"
+
+abbrev pub six-strips : List String
+six-strips = adding (adding (adding three-strips "PART 1" "NETS") "PART 1" "NETS") "PART 1" "NETS"
+
+abbrev pub nine-strips : List String
+nine-strips = adding (adding (adding six-strips "PART 1" "NETS") "PART 1" "NETS") "PART 1" "NETS"
+
+-- nine, a tenth that is refused, and eight taken off
+abbrev pub nine-less-eight : List String
+nine-less-eight = with-lines (adding nine-strips "PART 1" "NETS") ("OFF" ∷ "OFF" ∷ "OFF" ∷ "OFF" ∷ "OFF" ∷ "OFF" ∷ "OFF" ∷ "OFF" ∷ [])
 
 -- THE SPECIMENS
 unfoldable pub specimens : List Specimen
@@ -469,6 +527,114 @@ specimens =
     ∷ spread-refused (netted "NETS 0 2 2 x") 3 12 4 5
     ∷ page-refused (netted "NETS 0 2 2") 64 2 300 11 4 5
     ∷ page-refused (netted "NETS 0 2 2 x") 64 2 0 12 4 5
+    -- sessions: one strip; any total but 0 is 10
+    ∷ session-gives steps-one 4 0 [] (0 ∷ [])
+    ∷ session-gives steps-one 9 0 [] (0 ∷ [])
+    ∷ session-refused steps-one 3 7 0 0
+    ∷ session-place-gives steps-one 5 0 [] (0 ∷ [])
+    ∷ session-place-refused steps-one 4 1 10 0 0
+    ∷ session-gives (beginning "PART 1000") 1000 0 [] (0 ∷ [])
+    -- no step, so an empty session: every spread is 13, and every step but a beginning, before its own refusals
+    ∷ session-refused [] 0 13 0 0
+    ∷ session-refused [] 4 13 0 0
+    ∷ session-refused [] 4294967295 13 0 0
+    ∷ session-refused ("OFF" ∷ []) 4 13 0 0
+    ∷ session-refused (adding [] "PART 4" "NETS 0 2 2 4") 4 13 0 0
+    ∷ session-refused (adding [] "PART 1001" "NETS 0") 4 13 0 0
+    -- a refused beginning, and the empty session behind it, whatever was held; a good one starts afresh
+    ∷ session-refused (beginning "PART 0") 4 4 0 2
+    ∷ session-refused (beginning "PART 1001") 1001 4 0 2
+    ∷ session-refused (beginning "PART 9999") 3 4 0 2
+    ∷ session-refused (adding (beginning "PART 0") "PART 4" "NETS 0 2 2 4") 4 13 0 0
+    ∷ session-refused (with-lines (beginning "PART 0") ("OFF" ∷ [])) 4 13 0 0
+    ∷ session-refused (with-lines steps-a (beginning "PART 1001")) 4 4 0 2
+    ∷ session-refused (with-lines steps-a (with-lines (beginning "PART 1001") ("OFF" ∷ []))) 4 13 0 0
+    ∷ session-refused (with-lines steps-a (adding (beginning "PART 1001") "PART 4" "NETS 0 2 2 4")) 4 13 0 0
+    ∷ session-gives (with-lines steps-a (beginning "PART 5")) 5 0 [] (0 ∷ [])
+    ∷ session-refused (with-lines steps-a (beginning "PART 5")) 4 7 0 0
+    -- A, B and D, as of their texts
+    ∷ session-refused steps-a 3 7 0 0
+    ∷ session-gives steps-a 4 3 (3 ∷ []) (0 ∷ 0 ∷ [])
+    ∷ session-gives steps-a 5 2 (2 ∷ []) (1 ∷ 0 ∷ [])
+    ∷ session-gives steps-a 6 0 (0 ∷ []) (2 ∷ 0 ∷ [])
+    ∷ session-gives steps-a 100 0 (0 ∷ []) (2 ∷ 0 ∷ [])
+    ∷ session-place-refused steps-a 4 2 10 0 0
+    ∷ session-place-gives steps-a 4 4 (4 ∷ []) (0 ∷ 0 ∷ [])
+    ∷ session-place-gives steps-a 4 4294967295 (4294967295 ∷ []) (0 ∷ 0 ∷ [])
+    ∷ session-place-gives steps-a 5 3 (3 ∷ []) (0 ∷ 0 ∷ [])
+    ∷ session-place-gives steps-a 6 1 (1 ∷ []) (2 ∷ 0 ∷ [])
+    ∷ session-refused steps-b 3 7 0 0
+    ∷ session-gives steps-b 4 6 (3 ∷ 3 ∷ []) (0 ∷ 0 ∷ 0 ∷ [])
+    ∷ session-gives steps-b 5 5 (2 ∷ 3 ∷ []) (1 ∷ 0 ∷ 0 ∷ [])
+    ∷ session-gives steps-b 6 3 (0 ∷ 3 ∷ []) (2 ∷ 0 ∷ 0 ∷ [])
+    ∷ session-gives steps-b 7 2 (0 ∷ 2 ∷ []) (3 ∷ 1 ∷ 0 ∷ [])
+    ∷ session-gives steps-b 8 0 (0 ∷ 0 ∷ []) (4 ∷ 2 ∷ 0 ∷ [])
+    ∷ session-place-refused steps-b 6 2 10 0 0
+    ∷ session-place-gives steps-b 6 4 (0 ∷ 4 ∷ []) (2 ∷ 0 ∷ 0 ∷ [])
+    ∷ session-refused steps-d 0 7 0 0
+    ∷ session-gives steps-d 1 2 (2 ∷ []) (0 ∷ 0 ∷ [])
+    ∷ session-gives steps-d 2 0 (0 ∷ []) (0 ∷ 1 ∷ [])
+    ∷ session-gives steps-d 3 0 (0 ∷ []) (0 ∷ 1 ∷ [])
+    ∷ session-place-refused steps-d 1 1 10 0 0
+    ∷ session-place-gives steps-d 2 1 (1 ∷ []) (0 ∷ 1 ∷ [])
+    ∷ session-place-gives steps-d 2 2 (2 ∷ []) (0 ∷ 0 ∷ [])
+    -- OFF: of B it leaves A, of A one strip, which can't be taken off and stays; a step behind a refused one
+    ∷ session-gives (with-lines steps-b ("OFF" ∷ [])) 5 2 (2 ∷ []) (1 ∷ 0 ∷ [])
+    ∷ session-gives (with-lines steps-a ("OFF" ∷ [])) 4 0 [] (0 ∷ [])
+    ∷ session-refused (with-lines steps-a ("OFF" ∷ [])) 3 7 0 0
+    ∷ session-refused (with-lines steps-a ("OFF" ∷ "OFF" ∷ [])) 4 13 0 0
+    ∷ session-gives (adding (with-lines steps-a ("OFF" ∷ "OFF" ∷ [])) "PART 4" "NETS 0 2 2 4") 5 2 (2 ∷ []) (1 ∷ 0 ∷ [])
+    -- each refusal of an ADD: of its length, an odd list, 33 pairs, overhang below, above and of the second pair, crossing below and above
+    ∷ session-refused (added "PART 1001" "NETS 0 2 2 4") 4 4 0 2
+    ∷ session-refused (added "PART 0" "NETS") 4 4 0 2
+    ∷ session-refused (added "PART 4" "NETS 0") 4 11 0 3
+    ∷ session-refused (adding (beginning "PART 40") "PART 40" nets-33) 40 3 0 66
+    ∷ session-refused (added "PART 5" "NETS 5 5") 5 5 0 2
+    ∷ session-refused (added "PART 3" "NETS 4 4") 4 5 0 3
+    ∷ session-refused (added "PART 4" "NETS 0 0 5 1") 4 5 0 4
+    ∷ session-refused (added "PART 4" "NETS 2 0 2 1") 4 6 0 4
+    ∷ session-refused (added "PART 4" "NETS 0 2 1 2") 4 6 0 5
+    -- and behind each one A's ADD makes A, as without it; behind a strip of length 5 that is taken it does not
+    ∷ session-gives (then-a "PART 1001" "NETS 0 2 2 4") 5 2 (2 ∷ []) (1 ∷ 0 ∷ [])
+    ∷ session-gives (then-a "PART 4" "NETS 0") 5 2 (2 ∷ []) (1 ∷ 0 ∷ [])
+    ∷ session-gives (then-a "PART 4" nets-33) 5 2 (2 ∷ []) (1 ∷ 0 ∷ [])
+    ∷ session-gives (then-a "PART 5" "NETS 5 5") 5 2 (2 ∷ []) (1 ∷ 0 ∷ [])
+    ∷ session-gives (then-a "PART 3" "NETS 4 4") 5 2 (2 ∷ []) (1 ∷ 0 ∷ [])
+    ∷ session-gives (then-a "PART 4" "NETS 0 0 5 1") 5 2 (2 ∷ []) (1 ∷ 0 ∷ [])
+    ∷ session-gives (then-a "PART 4" "NETS 2 0 2 1") 5 2 (2 ∷ []) (1 ∷ 0 ∷ [])
+    ∷ session-gives (then-a "PART 4" "NETS 0 2 1 2") 5 2 (2 ∷ []) (1 ∷ 0 ∷ [])
+    ∷ session-gives (then-a "PART 5" "NETS") 5 3 (0 ∷ 3 ∷ []) (0 ∷ 0 ∷ 0 ∷ [])
+    -- their order: the length, an odd list, also of 67 terminals, 33 pairs, then overhang and crossing from the left (no terminal is both: what hangs over is above
+    -- the terminal before); all of them before 7
+    ∷ session-refused (added "PART 1001" "NETS 0") 4 4 0 2
+    ∷ session-refused (added "PART 1001" "NETS 5 5") 4 4 0 2
+    ∷ session-refused (added "PART 4" "NETS 5 5 5") 4 11 0 5
+    ∷ session-refused (added "PART 4" nets-67) 4 11 0 69
+    ∷ session-refused (added "PART 4" nets-33) 4 3 0 66
+    ∷ session-refused (added "PART 4" "NETS 2 2 2 5") 4 6 0 4
+    ∷ session-refused (added "PART 4" "NETS 2 2 5 2") 4 5 0 4
+    ∷ session-refused (added "PART 4" "NETS 2 0 2 1") 3 6 0 4
+    -- nine strips, the most: a tenth is 3 before its numbers count, and the nine stay, of which eight can be taken off
+    ∷ session-gives nine-strips 1 0 (replicate 8 0) (replicate 9 0)
+    ∷ session-refused (adding nine-strips "PART 1" "NETS") 1 3 0 0
+    ∷ session-refused (adding nine-strips "PART 1001" "NETS") 1 3 0 0
+    ∷ session-refused (adding nine-strips "PART 1" "NETS 0") 1 3 0 0
+    ∷ session-gives nine-less-eight 1 0 [] (0 ∷ [])
+    ∷ session-refused (with-lines nine-less-eight ("OFF" ∷ [])) 1 13 0 0
+    -- texts that are no steps, 2 at the first line that is none or is missing: a word, a field behind it, PART and NETS, an ill-formed number; what stands behind it
+    -- is not looked at, and a refused step before it does not count
+    ∷ session-refused text-a 4 2 1 0
+    ∷ session-refused (with-lines steps-one ("OPEN" ∷ [])) 4 2 3 0
+    ∷ session-refused (with-lines steps-a ("OFF 1" ∷ [])) 4 2 6 0
+    ∷ session-refused ("BEGIN 4" ∷ []) 4 2 1 0
+    ∷ session-refused ("BEGIN" ∷ []) 4 2 2 0
+    ∷ session-refused (with-lines steps-one ("ADD" ∷ "NETS" ∷ [])) 4 2 4 0
+    ∷ session-refused (with-lines steps-one ("ADD" ∷ "PART 4" ∷ [])) 4 2 5 0
+    ∷ session-refused (with-lines steps-one ("ADD" ∷ "PART 4" ∷ "OFF" ∷ [])) 4 2 5 0
+    ∷ session-refused (beginning "PART 05") 4 2 2 0
+    ∷ session-refused (added "PART 4" "NETS 0 x") 4 2 5 0
+    ∷ session-refused (with-lines steps-one ("OPEN" ∷ "OFF" ∷ [])) 4 2 3 0
+    ∷ session-refused (with-lines (beginning "PART 0") ("OPEN" ∷ [])) 4 2 3 0
     ∷ []
 
 -- every one of them holds

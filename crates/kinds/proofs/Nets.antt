@@ -12,7 +12,6 @@ use lib.Seq.{ext-getD, getD-append-seam}
 use borrow.Author.Tests.{leb-false, lt-ltb, le-ltb, ltb-true, ltb-false, eqb-true, le-leb, lt-leb, ne-eqb}
 use Rattle.numbers.proofs.Lists.{getD-tabulate}
 use Rattle.lines.specs.Lines.{Line, numbers-of}
-use Rattle.lines.specs.Numbers.{in-places}
 use Rattle.lines.proofs.Fields.{getD-in-places}
 use Rattle.stack.specs.Stack.{Pair, pair, p-at, q-at}
 use Rattle.stack.specs.Value.{channel-of}
@@ -24,8 +23,9 @@ use Rattle.stack.specs.declared.TerminalsFound.the-variants.{Good, Crowd, Overh
 use Rattle.stack.specs.declared.TerminalsMade.{TerminalsMade}
 use Rattle.text.specs.Text.{Refusal, refusal, nets-word, entry, fault-at, kind, in-pairs, terminals-refusal, nets-content, nets-kind, pairs-of}
 use Rattle.text.specs.Outcome.{refusal-of, is-accepted, refused}
-use Rattle.text.specs.Kinds.{Kind-read, kind-refusal}
-use Rattle.kinds.specs.Readers.{place, found-refusal, Nets-read}
+use Rattle.text.specs.Kinds.{Kind-read}
+use Rattle.kinds.specs.Readers.{place, found-refusal, Kept, Nets-content, Nets-read}
+use Rattle.kinds.specs.declared.NetsRead.{NetsRead}
 use Rattle.text.specs.declared.Refusal.the-variants as why
 use Rattle.text.specs.declared.KindRead.{KindRead}
 use Rattle.text.specs.declared.Outcome.{Outcome}
@@ -162,19 +162,19 @@ pairs-at (x ∷ y ∷ vs) (suc j) h =
     rw (odd, even) (pairs-at vs j (omega arith))
 
 -- the first 64 numbers hold 32 pairs
-pair-in-places : (vs : List ℕ) (j : ℕ) → length vs / 2 ≤ 32 → j < length vs / 2 →
-    getD (pairs-in (in-places 64 vs) (length vs / 2)) j (pair 0 0) ≡ getD (pairs-of vs) j (pair 0 0)
-unfolding pairs-in
-pair-in-places vs j few h =
-    let f : ℕ → Pair = λ j. pair (getD (in-places 64 vs) (2 * j) 0) (getD (in-places 64 vs) (2 * j + 1) 0) in
-    getD-tabulate (length vs / 2) j f (pair 0 0) h
-    ∙ rw (getD-in-places 64 (2 * j) vs (omega arith), getD-in-places 64 (2 * j + 1) vs (omega arith)) (sym (pairs-at vs j h))
+module _ (vs places : List ℕ) (same : (i : ℕ) → i < 64 → i < length vs → getD places i 0 ≡ getD vs i 0) (few : length vs / 2 ≤ 32) where
+  pair-in-places : (j : ℕ) → j < length vs / 2 → getD (pairs-in places (length vs / 2)) j (pair 0 0) ≡ getD (pairs-of vs) j (pair 0 0)
+  unfolding pairs-in
+  pair-in-places j h =
+      let f : ℕ → Pair = λ j. pair (getD places (2 * j) 0) (getD places (2 * j + 1) 0) in
+      getD-tabulate (length vs / 2) j f (pair 0 0) h
+      ∙ rw (same (2 * j) (omega arith) (omega arith), same (2 * j + 1) (omega arith) (omega arith)) (sym (pairs-at vs j h))
 
-pairs-in-places : (vs : List ℕ) → length vs / 2 ≤ 32 → pairs-in (in-places 64 vs) (length vs / 2) ≡ pairs-of vs
-pairs-in-places vs few =
-    let n = length vs / 2 in
-    let long = pairs-in-length (in-places 64 vs) n in
-    ext-getD (pair 0 0) (pairs-in (in-places 64 vs) n) (pairs-of vs) (long ∙ sym (pairs-length vs)) (λ j h. pair-in-places vs j few (omega arith))
+  pairs-in-places : pairs-in places (length vs / 2) ≡ pairs-of vs
+  pairs-in-places =
+      let n = length vs / 2 in
+      let long = pairs-in-length places n in
+      ext-getD (pair 0 0) (pairs-in places n) (pairs-of vs) (long ∙ sym (pairs-length vs)) (λ j h. pair-in-places j (omega arith))
 
 good-only : (i : ℕ) (f : TerminalsFound) → found-refusal i f .number ≡ 0 → f ≡ Good
 unfolding refusal
@@ -192,29 +192,45 @@ good-few lo hi xs e = go (ltb 32 (length xs)) refl e
     go false h e = ltb-false 32 (length xs) h
 
 -- crowd, then the terminals
-terminals-refused : (n lo hi : ℕ) (vs : List ℕ) → length vs % 2 ≡ 0 →
-    found-refusal n (terminals-found lo hi (pairs-in (in-places 64 vs) (length vs / 2))) ≡ nets-content lo hi (entry n 0 vs)
+terminals-refused : (n lo hi : ℕ) (vs places : List ℕ) → ((i : ℕ) → i < 64 → i < length vs → getD places i 0 ≡ getD vs i 0) → length vs % 2 ≡ 0 →
+    found-refusal n (terminals-found lo hi (pairs-in places (length vs / 2))) ≡ nets-content lo hi (entry n 0 vs)
 unfolding terminals-found nets-content entry fault-at p-at q-at pair
-terminals-refused n lo hi vs even = go (ltb 64 (length vs)) refl
+terminals-refused n lo hi vs places same even = go (ltb 64 (length vs)) refl
   where
-    long : length (pairs-in (in-places 64 vs) (length vs / 2)) ≡ length vs / 2
-    long = pairs-in-length (in-places 64 vs) (length vs / 2)
+    long : length (pairs-in places (length vs / 2)) ≡ length vs / 2
+    long = pairs-in-length places (length vs / 2)
 
     go : (v : Bool) → ltb 64 (length vs) ≡ v →
-        found-refusal n (cond (ltb 32 (length (pairs-in (in-places 64 vs) (length vs / 2)))) Crowd (pairs-found [] lo hi (pairs-in (in-places 64 vs) (length vs / 2))))
+        found-refusal n (cond (ltb 32 (length (pairs-in places (length vs / 2)))) Crowd (pairs-found [] lo hi (pairs-in places (length vs / 2))))
         ≡ cond v (refusal 3 n 66) (terminals-refusal 2 true 0 0 lo hi n vs)
     go true h = rw (long, lt-ltb 32 (length vs / 2) (omega (arith, ltb-true)))
     go false h =
         let few : length vs / 2 ≤ 32 = omega (arith, ltb-false) in
-        rw (long, le-ltb 32 (length vs / 2) few, pairs-in-places vs few) (faults-refused n [] lo hi vs (omega (arith, pairs-length vs)))
+        rw (long, le-ltb 32 (length vs / 2) few, pairs-in-places vs places same few) (faults-refused n [] lo hi vs (omega (arith, pairs-length vs)))
 
-pairs-even : (n : ℕ) → in-pairs n ≡ 0 → n % 2 ≡ 0
+pub pairs-even : (n : ℕ) → in-pairs n ≡ 0 → n % 2 ≡ 0
 unfolding in-pairs
 pairs-even n h = go (eqb (n % 2) 0) refl h
   where
     go : (v : Bool) → eqb (n % 2) 0 ≡ v → cond v 0 (n + 2) ≡ 0 → n % 2 ≡ 0
     go true e h = eqb-true (n % 2) 0 e
     go false e h = absurd (omega arith)
+
+-- THE NUMBERS that a line supplies
+module _ (lo hi n : ℕ) (vs places : List ℕ) (count : ℕ) (m : Kept vs places count) where
+  pairs-kept : (q : TerminalsMade) → Terminals-made places (count / 2) lo hi q → q .found ≡ Good → channel-of (q .terminals) ≡ pairs-of vs
+  unfolding kept
+  pairs-kept q s g =
+      let found = good-few lo hi (pairs-in places (count / 2)) (sym (s .found) ∙ g) in
+      let few : length vs / 2 ≤ 32 = omega (arith, found, pairs-in-length places (count / 2), m .count-is) in
+      s .pairs ∙ rw (g, m .count-is) (pairs-in-places vs places (m .in-place) few)
+
+  pub numbers-found : (w : Outcome) (q : TerminalsMade) → Terminals-made places (count / 2) lo hi q → refusal-of w ≡ found-refusal n (q .found) →
+      Nets-content lo hi n vs (record { outcome = w; terminals = q .terminals })
+  numbers-found w q s v = record {
+    outcome = v ∙ rw (s .found, m .count-is) (terminals-refused n lo hi vs places (m .in-place) (m .even));
+    pairs = λ z. pairs-kept q s (good-only n (q .found) (rw v at z));
+  }
 
 -- THE LINE
 module _ (lo hi n : ℕ) (l : Line) (r : KindRead) (vs : List ℕ) (m : Kind-read nets-word (λ n. in-pairs n) n l r vs) where
@@ -223,26 +239,9 @@ module _ (lo hi n : ℕ) (l : Line) (r : KindRead) (vs : List ℕ) (m : Kind-rea
   nets-ill q a = record { outcome = layout-refused (nets-kind lo hi) n l r vs m a; pairs = λ z. absurd (refused-number (r .layout) a z) }
 
   module _ (a : is-accepted (r .layout) ≡ true) where
-    even-there : length (numbers-of l) % 2 ≡ 0
-    even-there = rw (m .count) at (pairs-even (r .count) (m .fault a))
+    pub line-kept : Kept (numbers-of l) vs (r .count)
+    line-kept = record { in-place = λ i h k. rw (m .kept a) (getD-in-places 64 i (numbers-of l) h); count-is = m .count; even = rw (m .count) at (pairs-even (r .count) (m .fault a)) }
 
-    line-refused : kind-refusal (nets-kind lo hi) n l ≡ found-refusal n (terminals-found lo hi (pairs-in vs (r .count / 2)))
+    pub nets-found : (q : NetsRead) → Nets-content lo hi n (numbers-of l) q → Nets-read lo hi n l q
     unfolding nets-kind kind
-    line-refused =
-        layout-then (nets-kind lo hi) n l r vs m a
-        ∙ rw (m .kept a, m .count) (sym (terminals-refused n lo hi (numbers-of l) even-there))
-
-    pairs-kept : (q : TerminalsMade) → Terminals-made vs (r .count / 2) lo hi q → q .found ≡ Good → channel-of (q .terminals) ≡ pairs-of (numbers-of l)
-    unfolding kept
-    pairs-kept q s g =
-        let ns = numbers-of l in
-        let found = good-few lo hi (pairs-in vs (r .count / 2)) (sym (s .found) ∙ g) in
-        let few : length ns / 2 ≤ 32 = omega (arith, found, pairs-in-length vs (r .count / 2), m .count) in
-        s .pairs ∙ rw (g, m .kept a, m .count) (pairs-in-places ns few)
-
-    pub nets-found : (w : Outcome) (q : TerminalsMade) → Terminals-made vs (r .count / 2) lo hi q → refusal-of w ≡ found-refusal n (q .found) →
-        Nets-read lo hi n l (record { outcome = w; terminals = q .terminals })
-    nets-found w q s v = record {
-      outcome = v ∙ (rw (s .found) (sym line-refused));
-      pairs = λ z. pairs-kept q s (good-only n (q .found) (rw v at z));
-    }
+    nets-found q s = record { outcome = s .outcome ∙ sym (layout-then (nets-kind lo hi) n l r vs m a); pairs = s .pairs }

@@ -1,14 +1,14 @@
 -- What the reader of each kind of line answers. Assumes nothing: these are definitions.
 use mathlib.Core.Path.{_≡_}
-use mathlib.Core.List.{[], _∷_}
-use Prim.Native.Nat.{ℕ, _+_}
-use lib.ListN.{getD}
+use mathlib.Core.List.{List, [], _∷_}
+use Prim.Native.Nat.{ℕ, _+_, _%_, _<_}
+use lib.ListN.{length, getD}
 use Rattle.lines.specs.Lines.{Line, numbers-of}
 use Rattle.stack.specs.Value.{channel-of, stack-of}
 use Rattle.stack.specs.Made.{bare}
 use Rattle.stack.specs.declared.TerminalsFound.{TerminalsFound}
 use Rattle.stack.specs.declared.TerminalsFound.the-variants.{Good, Crowd, Overhang, Crossing}
-use Rattle.text.specs.Text.{Refusal, refusal, fine, entry, stack-content, part-content, part-kind, nets-kind, gap-kind, k-of, head-refusal, pairs-of}
+use Rattle.text.specs.Text.{Refusal, refusal, fine, entry, stack-content, part-content, nets-content, part-kind, nets-kind, gap-kind, k-of, head-refusal, pairs-of}
 use Rattle.text.specs.Outcome.{refusal-of}
 use Rattle.text.specs.Kinds.{kind-refusal}
 use Rattle.kinds.specs.declared.Reading.{Reading}
@@ -48,6 +48,20 @@ found-refusal n Good = fine
 found-refusal n Crowd = refusal 3 n 66
 found-refusal n (Overhang i) = refusal 5 n (i + 2)
 found-refusal n (Crossing i) = refusal 6 n (i + 2)
+
+-- an even count of numbers, of which the first 64 are in places
+pub record Kept (ns places : List ℕ) (count : ℕ) : Type 0 where
+  pub in-place : (i : ℕ) → i < 64 → i < length ns → getD places i 0 ≡ getD ns i 0
+  pub count-is : count ≡ length ns
+  pub even : length ns % 2 ≡ 0
+
+-- NETS between strips of these lengths: the pairs of the numbers that line n supplies
+pub record Nets-content (lower upper n : ℕ) (ns : List ℕ) (r : NetsRead) : Type 0 where
+  pub outcome : refusal-of (r .outcome) ≡ nets-content lower upper (entry n 0 ns)
+  pub pairs : refusal-of (r .outcome) .number ≡ 0 → channel-of (r .terminals) ≡ pairs-of ns
+
+abbrev pub Nets-supplied : (lower upper n : ℕ) → (places : List ℕ) → (count : ℕ) → NetsRead → Type 0
+Nets-supplied lo hi n vs c r = (ns : List ℕ) → Kept ns vs c → Nets-content lo hi n ns r
 
 -- NETS at line n between strips of these lengths: the channel's pairs
 pub record Nets-read (lower upper n : ℕ) (l : Line) (r : NetsRead) : Type 0 where

@@ -15,6 +15,7 @@ ghost use Rattle.kinds.specs.Readers.{
   Part-read,
   place,
   found-refusal,
+  Nets-supplied,
   Nets-read,
   Gap-read,
 };
@@ -101,7 +102,7 @@ impl PartRead {
 }
 
 // The strip of a length that line n supplies, or why not.
-fn part_content(length: u32, n: u32) -> PartRead
+pub fn part_content(length: u32, n: u32) -> PartRead
     ensures { λ r. ⌜ Part-content length n r ⌝ }
 {
     match Strip::new(length) {
@@ -146,6 +147,23 @@ fn found_outcome(found: TerminalsFound, n: u32) -> Outcome
     }
 }
 
+// The terminals that line n supplies between two strips, or why not: so many numbers, an even count, of which the first 64 are in these places.
+pub fn nets_content(
+    values: &[u32; KEPT],
+    count: usize,
+    n: u32,
+    lower: Strip,
+    upper: Strip,
+) -> NetsRead
+    ensures { λ r. ⌜ Nets-supplied (lower .length .0) (upper .length .0) n (now (values .entry)) count r ⌝ }
+{
+    let made = Terminals::new(values, count / 2, lower, upper);
+    let found = made.found;
+    let terminals = made.terminals;
+    let outcome = found_outcome(found, n);
+    NetsRead { outcome, terminals }
+}
+
 // NETS at line n between two strips: the channel's terminals, or why not.
 pub fn read_nets(bytes: &[u8], ended: bool, n: u32, lower: Strip, upper: Strip) -> NetsRead
     requires { ⌜ length (now bytes) ≤ 8192 ⌝ }
@@ -160,11 +178,7 @@ pub fn read_nets(bytes: &[u8], ended: bool, n: u32, lower: Strip, upper: Strip) 
             terminals: Terminals::none(),
         };
     }
-    let made = Terminals::new(&values, line.count / 2, lower, upper);
-    let found = made.found;
-    let terminals = made.terminals;
-    let outcome = found_outcome(found, n);
-    NetsRead { outcome, terminals }
+    nets_content(&values, line.count, n, lower, upper)
 }
 
 // GAP's channel and floor at line n, in a stack of k channels and behind a GAP of a channel, 0 for the first.

@@ -3,11 +3,10 @@ pub mod Promises
 pub mod Space
 pub mod Readings
 pub mod Spreads
-pub mod Totals
-pub mod Placements
 pub mod Tables
 pub mod Pages
 pub mod Trials
 pub mod Codes
 pub mod Copies
 pub mod Numbers
+pub mod Sessions

@@ -4,7 +4,7 @@ use mathlib.Core.Bool.{Bool, true, false, cond}
 use mathlib.Core.List.{List, [], _∷_, _++_}
 use Prim.Native.Nat.{ℕ, zero, suc, _+_, _*_, _-_, _≤_, _<_}
 use native.Mathlib.Omega.{arith}
-use lib.Dec.{eqb}
+use lib.Dec.{leb, eqb}
 use lib.ListN.{length, getD, set, take, drop, replicate, length-append, List·getD-eq-default}
 use lib.Seq.{getD-append-add}
 use borrow.Author.Tests.{eqb-true, le-leb, lt-leb, ne-eqb, eq-eqb}
@@ -14,17 +14,14 @@ use Rattle.numbers.proofs.Lists.{length-tabulate, getD-tabulate, tabulate-same,
 use Rattle.stack.specs.declared.Tracks.{Tracks}
 use Rattle.stack.specs.declared.Columns.{Columns}
 use Rattle.stack.proofs.Values.{track-at, column-at, tracks-long, columns-long}
-use Rattle.text.specs.Text.{Refusal, refusal, fine, or-else}
+use Rattle.text.specs.Text.{Refusal, refusal, or-else}
 use Rattle.text.specs.Outcome.{refusal-of, refused}
 use Rattle.reading.specs.Driver.{Stack-read}
 use Rattle.kinds.specs.declared.Reading.{Reading}
-use Rattle.text.specs.declared.Refused.{Refused as Refused-struct}
 use Rattle.text.specs.declared.Outcome.{Outcome}
-use Rattle.text.specs.declared.Outcome.the-variants.{Accepted, Refused}
 use Rattle.text.specs.declared.Refusal.the-variants.{ShortSpace}
-use Rattle.text.proofs.Refusals.{refused-number, or-else-refused}
 use Rattle.reply.specs.Told.{zeros}
-use Rattle.nabetsu.specs.Entry.{numbers, numbers-in, code, verdict, is-legal-numbers, Placement-says, Trial-says, Numbers-put, Placement-coded}
+use Rattle.nabetsu.specs.Entry.{numbers, numbers-in, code, verdict, is-legal-numbers, Trial-says, Numbers-put}
 use Rattle.nabetsu.specs.Parts.{Copied, Numbers-tried}
 use Rattle.reply.specs.Parts.{Refused-placement}
 use Rattle.nabetsu.proofs.Copies.{copied-starts, copied-steps, copied-ends}
@@ -79,13 +76,6 @@ module _ (v : ℕ) (ts : List Tracks) (xs : List Columns) where
     put-ends h = copied-ends (put-in n) o i (omega (arith, put-long n)) c
 
 -- SHORT SPACE after every other refusal
-pub short-fine : (o r : Outcome) → o ≡ Accepted → r ≡ refused ShortSpace 0 0 → refusal-of r ≡ or-else (refusal-of o) (refusal 8 0 0)
-unfolding or-else refusal fine
-short-fine o r e f = rw (e, f)
-
-pub short-refused : (o : Outcome) (r : Refused-struct) → o ≡ Refused r → refusal-of (Refused r) ≡ or-else (refusal-of o) (refusal 8 0 0)
-short-refused o r e = rw e (sym (or-else-refused (refusal-of (Refused r)) (refusal 8 0 0) (refused-number (Refused r) refl)))
-
 -- a refused placement's numbers are zeros
 unfoldable nothing : List ℕ
 nothing = replicate 18 0
@@ -100,15 +90,17 @@ refused-zeros n o a h =
     let all : a .total .0 ∷ (tracks-of (a .separations) ++ columns-of (a .positions)) ≡ replicate 18 0 = rw (h .total-zero, h .separations-zero, h .positions-zero) in
     ap (λ (ns : List ℕ). tabulate n 0 (λ i. getD ns i 0)) all ∙ none n
 
-module _ (bs : List ℕ) (s v : ℕ) (a : PlacementAnswer) (says : Placement-says bs s v a) (o x : List ℕ) (r : ℕ) where
-  pub placement-short : (f : Outcome) (z : PlacementAnswer) → length o < 18 → refusal-of f ≡ or-else (refusal-of (a .outcome)) (refusal 8 0 0) → Refused-placement f z → x ≡ numbers-in (length o) z →
-      r ≡ code (refusal-of f) 0 → Placement-coded bs s v r o x
+module _ (a : PlacementAnswer) (o x : List ℕ) (r : ℕ) where
+  pub placement-short : (f e : Outcome) (z : PlacementAnswer) → length o < 18 → e ≡ refused ShortSpace 0 0 → refusal-of f ≡ or-else (refusal-of (a .outcome)) (refusal-of e) →
+      Refused-placement f z → x ≡ numbers-in (length o) z → r ≡ code (refusal-of f) 0 → Numbers-put (leb 18 (length o)) a r o x
   unfolding Numbers-put zeros
-  placement-short f z h e i xs rs = record { answer = a; says = says; put = rw (lt-leb 18 (length o) h) (rs ∙ ap (λ (g : Refusal). code g 0) e, xs ∙ refused-zeros (length o) f z i) }
+  placement-short f e z h s d i xs rs =
+      let short : refusal-of f ≡ or-else (refusal-of (a .outcome)) (refusal 8 0 0) = d ∙ rw s in
+      rw (lt-leb 18 (length o) h) (rs ∙ ap (λ (g : Refusal). code g 0) short, xs ∙ refused-zeros (length o) f z i)
 
-  pub placement-put : 18 ≤ length o → x ≡ numbers-in (length o) a → r ≡ code (refusal-of (a .outcome)) 0 → Placement-coded bs s v r o x
+  pub placement-put : 18 ≤ length o → x ≡ numbers-in (length o) a → r ≡ code (refusal-of (a .outcome)) 0 → Numbers-put (leb 18 (length o)) a r o x
   unfolding Numbers-put
-  placement-put h xs rs = record { answer = a; says = says; put = rw (le-leb 18 (length o) h) (rs, xs) }
+  placement-put h xs rs = rw (le-leb 18 (length o) h) (rs, xs)
 
 -- THE TRIAL of numbers
 module _ (bs : List ℕ) (s : ℕ) (ns : List ℕ) (r : TrialAnswer) where

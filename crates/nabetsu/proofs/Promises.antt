@@ -1,28 +1,26 @@
 -- The promises of Promise.antt, proved: an accepted text's stack is within the limits, so its channels rise, and drawable is legal; total and placement together
 -- are the answer. Assumes nothing.
-use mathlib.Core.Path.{_≡_, refl, sym, ap, _∙_}
+use mathlib.Core.Path.{_≡_, refl}
 use mathlib.Core.Bool.{true}
 use mathlib.Core.List.{List}
-use Prim.Native.Nat.{ℕ, zero, suc}
+use Prim.Native.Nat.{ℕ}
 use native.Mathlib.Omega.{arith}
 use borrow.Author.Tests.{eqb-true}
 use Rattle.numbers.proofs.Bools.{ands}
-use Rattle.stack.specs.Stack.{Stack, Least-total, sum}
+use Rattle.stack.specs.Stack.{sum}
 use Rattle.stack.specs.Limits.{all-rising, within-limits}
 use Rattle.stack.proofs.Within.{within-rising}
 use Rattle.routing.proofs.Drawable.{drawable-legal, legal-drawable}
-use Rattle.text.specs.Text.{Refusal, fine, text-refusal, stack-in}
-use Rattle.text.proofs.Refusals.{number-fine}
+use Rattle.text.specs.Text.{text-refusal, stack-in}
 use Rattle.reading.proofs.Within.{accepted-within}
 use Rattle.answer.specs.Solve.{answer-total, separations-for, positions-for, answer-separations, answer-positions}
 use Rattle.answer.proofs.Alone as alone
 use Rattle.answer.proofs.Answers as answers
 use Rattle.rows.specs.Walk.{rows-of}
 use Rattle.rows.proofs.Rows.{rows-are, rows-alone}
-use Rattle.nabetsu.specs.Entry.{spread-refusal, total-told, Totalled, Total-says, Placed-for, placed, unmet, Placed-or, Placement-says}
-use Rattle.nabetsu.specs.Best.{Answered, Spread-says}
-use Rattle.reply.specs.declared.PlacementAnswer.{PlacementAnswer}
-use Rattle.nabetsu.specs.declared.TotalAnswer.{TotalAnswer}
+use Rattle.spread.specs.Answers.{spread-refusal, Total-says, Placement-says}
+use Rattle.nabetsu.specs.Best.{Spread-says}
+use Rattle.spread.proofs.Both.{both-of}
 use Rattle.nabetsu.specs.Promise.{accepted, Answer-drawable, None-smaller, Answer-there, Answer-alone, Total-there, Total-alone, Totals-met, Placement-there, Placement-alone, Placement-drawn, Answer-is-both, Both-together, Rows-there}
 
 pub stack-within : (bs : List ℕ) → accepted bs ≡ true → within-limits (stack-in bs) ≡ true
@@ -83,18 +81,6 @@ answer-is-both bs s ts xs =
     ((λ a. (alone.answer-total-is k s ts xs a, alone.answer-placed k s (sum ts) ts xs a refl)), (λ b. alone.both-answer k s (sum ts) ts xs (b .0) (b .1)))
 
 -- the placement for the total returned is the answer
-both-placed : (k : Stack) (s v : ℕ) (r : PlacementAnswer) → Least-total k s v → Placed-for k s v r → Answered 0 fine k s r
-unfolding Answered
-both-placed k s v r l (placed ts xs a p) = (ts, xs, alone.both-answer k s v ts xs l a, rw (a .exact) p)
-both-placed k s v r l (unmet n p) = absurd (n (l .met))
-
-both-of : (n : ℕ) (f : Refusal) (k : Stack) (s : ℕ) (t : TotalAnswer) (r : PlacementAnswer) → f .number ≡ n → Totalled n f k s t → Placed-or n f k s (t .total .0) r → Answered n f k s r
-unfolding Totalled total-told Placed-or Answered
-both-of zero f k s t r e a b =
-    let g : f ≡ fine = sym (a .2 .0) ∙ number-fine (t .outcome) (ap (λ (x : Refusal). x .number) (a .2 .0) ∙ e) in
-    rw g (both-placed k s (t .total .0) r (rw (a .2 .1) (a .1)) b)
-both-of (suc n) f k s t r e a b = b
-
 pub both-together : Both-together
 unfolding Both-together Total-says Placement-says Spread-says
 both-together bs s t r a b = both-of (spread-refusal bs s .number) (spread-refusal bs s) (stack-in bs) s t r refl a b

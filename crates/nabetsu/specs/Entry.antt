@@ -1,55 +1,24 @@
--- TRUSTED. What the entries answer and leave behind. Document 01, "Choosing among equals", "Lines and tabs" and "Sent back at the counter"; document 02, P3.
--- Assumes nothing: these are definitions.
+-- TRUSTED. What the entries answer and leave behind; what they answer of one spread is in spread/specs/Answers.antt. Document 01, "Lines and tabs" and "Sent back at
+-- the counter". Assumes nothing: these are definitions.
 use mathlib.Core.Path.{_≡_}
 use mathlib.Core.Bool.{Bool, true, false, cond, _&&_}
-use mathlib.Core.List.{List, [], _∷_, _++_}
+use mathlib.Core.List.{List, _∷_, _++_}
 use Prim.Native.Nat.{ℕ, zero, suc, _+_, _*_, _-_}
 use lib.Dec.{leb, eqb}
 use lib.ListN.{length, getD, take, drop, replicate}
 use Rattle.stack.specs.Value.{tracks-of, columns-of}
-use Rattle.numbers.specs.Lists.{tabulate, padded}
-use Rattle.stack.specs.Stack.{Stack, Total-met, Least-total, Placement, Row, Rows-are}
-use Rattle.text.specs.Text.{Refusal, refusal, fine, or-else, text-refusal, stack-in}
+use Rattle.numbers.specs.Lists.{tabulate}
+use Rattle.stack.specs.Stack.{Stack, Row, Rows-are}
+use Rattle.text.specs.Text.{Refusal, refusal, or-else, text-refusal, stack-in}
 use Rattle.text.specs.Outcome.{refusal-of}
 use Rattle.writing.specs.TableText.{table-text}
 use Rattle.trial.specs.Legal.{is-legal}
-use Rattle.reply.specs.Refusals.{narrow-refusal}
 use Rattle.reply.specs.Told.{zeros, table-told}
 use Rattle.reply.specs.declared.PlacementAnswer.{PlacementAnswer}
 use Rattle.reply.specs.declared.TableAnswer.{TableAnswer}
-use Rattle.nabetsu.specs.declared.TotalAnswer.{TotalAnswer}
+use Rattle.spread.specs.Answers.{Total-says, Placement-says}
+use Rattle.spread.specs.declared.TotalAnswer.{TotalAnswer}
 use Rattle.nabetsu.specs.declared.TrialAnswer.{TrialAnswer}
-
--- A SPREAD: the text's refusals, then 7
-unfoldable pub spread-refusal : List ℕ → (s : ℕ) → Refusal
-spread-refusal bs s = or-else (text-refusal bs) (narrow-refusal (stack-in bs) s)
-
--- THE LEAST TOTAL, or a refusal with 0
-unfoldable pub total-told : Refusal → (total : ℕ) → TotalAnswer → Type 0
-total-told f v r = (refusal-of (r .outcome) ≡ f) × (r .total .0 ≡ v)
-
-unfoldable pub Totalled : (number : ℕ) → Refusal → Stack → (s : ℕ) → TotalAnswer → Type 0
-Totalled zero f k s r = (v : ℕ) × Least-total k s v × total-told f v r
-Totalled (suc n) f k s r = total-told f 0 r
-
-unfoldable pub Total-says : List ℕ → (s : ℕ) → TotalAnswer → Type 0
-Total-says bs s r = Totalled (spread-refusal bs s .number) (spread-refusal bs s) (stack-in bs) s r
-
--- THE PLACEMENT FOR A TOTAL with that total; or a refusal with zeros elsewhere, after 7 at last 10, exactly if no legal placement in the spread has that total
-unfoldable pub placed-is : Refusal → (total : ℕ) → (ts xs : List ℕ) → PlacementAnswer → Type 0
-placed-is f v ts xs r =
-    (refusal-of (r .outcome) ≡ f) × (r .total .0 ≡ v) × (tracks-of (r .separations) ≡ padded 8 ts) × (columns-of (r .positions) ≡ padded 9 xs)
-
-pub data Placed-for (k : Stack) (s v : ℕ) (r : PlacementAnswer) : Type 0 where
-  placed : (ts xs : List ℕ) → Placement k s v ts xs → placed-is fine v ts xs r → Placed-for k s v r
-  unmet : (Total-met k s v → ⊥) → placed-is (refusal 10 0 0) 0 [] [] r → Placed-for k s v r
-
-unfoldable pub Placed-or : (number : ℕ) → Refusal → Stack → (s v : ℕ) → PlacementAnswer → Type 0
-Placed-or zero f k s v r = Placed-for k s v r
-Placed-or (suc n) f k s v r = placed-is f 0 [] [] r
-
-unfoldable pub Placement-says : List ℕ → (s v : ℕ) → PlacementAnswer → Type 0
-Placement-says bs s v r = Placed-or (spread-refusal bs s .number) (spread-refusal bs s) (stack-in bs) s v r
 
 -- THE TABLE: its whole text and zeros behind it; or the text's refusals, then 8, with zeros everywhere
 unfoldable pub Fits : (fits : Bool) → (text : List ℕ) → TableAnswer → (o o-now : List ℕ) → Type 0

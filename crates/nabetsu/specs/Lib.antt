@@ -4,4 +4,5 @@ pub mod Entry
 pub mod Best
 pub mod Space
 pub mod Pages
+pub mod Sessions
 pub mod Parts

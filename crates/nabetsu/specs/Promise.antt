@@ -10,8 +10,8 @@ use Rattle.stack.specs.Stack.{Total-met, Least-total, Placement, Answer, Row, R
 use Rattle.routing.specs.Paths.{Drawable}
 use Rattle.text.specs.Text.{text-refusal, stack-in}
 use Rattle.reply.specs.declared.PlacementAnswer.{PlacementAnswer}
-use Rattle.nabetsu.specs.declared.TotalAnswer.{TotalAnswer}
-use Rattle.nabetsu.specs.Entry.{Total-says, Placement-says}
+use Rattle.spread.specs.declared.TotalAnswer.{TotalAnswer}
+use Rattle.spread.specs.Answers.{Total-says, Placement-says}
 use Rattle.nabetsu.specs.Best.{Spread-says}
 
 unfoldable pub all-bytes : List ℕ → Bool

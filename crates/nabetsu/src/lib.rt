@@ -1,31 +1,36 @@
-// The public entries: the table of a text, the least total and the placement for a total in one spread, a channel's page, the verdict on a placement. Each answers
-// whatever comes in, or refuses.
+// The public entries: the table of a text, the least total and the placement for a total in one spread, both also for the session that a text of steps makes, a
+// channel's page, the verdict on a placement. Each answers whatever comes in, or refuses.
 ghost use Rattle.stack.specs.Value.{tracks-of, columns-of, stack-of};
 ghost use Rattle.stack.specs.Limits.{within-limits};
 ghost use mathlib.Core.Bool.{true};
-ghost use Rattle.nabetsu.specs.Entry.{Total-says, Placement-says, Table-says, Trial-says, Table-coded, Total-coded, Placement-coded, code, numbers-in, verdict, is-legal-numbers};
-ghost use Rattle.text.specs.Text.{refusal, or-else, text-refusal, stack-in};
+ghost use Rattle.spread.specs.Answers.{Total-says, Placement-says};
+ghost use Rattle.nabetsu.specs.Entry.{Table-says, Trial-says, Table-coded, Total-coded, Placement-coded, code, numbers-in, Numbers-put, verdict, is-legal-numbers};
+ghost use Rattle.text.specs.Text.{text-refusal, stack-in};
+ghost use lib.Dec.{leb};
 ghost use lib.ListN.{length, getD, take, drop};
 ghost use mathlib.Core.List.{_∷_, _++_};
 ghost use Rattle.text.specs.Outcome.{refusal-of};
 ghost use mathlib.Core.Path.{_≡_};
 ghost use Rattle.nabetsu.specs.Best.{Total-best, Placement-best};
 ghost use Rattle.nabetsu.specs.Pages.{Page-says, Page-enough, Page-shows, Page-coded};
+ghost use Rattle.replay.specs.Replay.{Steps-total-says, Steps-placement-says};
+ghost use Rattle.nabetsu.specs.Sessions.{Steps-total-best, Steps-placement-best, Steps-total-coded, Steps-placement-coded};
 ghost use Rattle.nabetsu.specs.Parts.{Channel-put, Numbers-tried};
 ghost use Rattle.reply.specs.Refusals.{asked-refusal};
 ghost use Rattle.nabetsu.specs.Space.{Space-enough};
 use answer::answer_in;
-use answer::placement_in;
-use answer::total_in;
 use plot::put_page;
 use reading::read_stack;
+use replay::replay_steps;
 use reply::PlacementAnswer;
 use reply::TableAnswer;
 use reply::finish;
 use reply::page_outcome;
 use reply::refused_placement;
 use reply::refused_table;
-use reply::spread_outcome;
+use spread::TotalAnswer;
+use spread::placement_of;
+use spread::total_of;
 use stack::Columns;
 use stack::Stack;
 use stack::Tracks;
@@ -37,29 +42,15 @@ use trial::is_placement_legal;
 // How many numbers a placement has with its total: total, separations, positions.
 const NUMBERS: usize = 2 * Stack::MAX_CHANNELS + 2;
 
-// The least total in one spread; 0 where it is refused.
-pub struct TotalAnswer {
-    pub outcome: Outcome,
-    pub total: Tracks,
-}
-
 // Document 02, P3: the least total in one spread of the stack in a text, or the first refusal that applies: the text's, then 7. Nothing is placed.
 pub fn least_total(text: &[u8], spread: u32) -> TotalAnswer
     ensures { λ r. ⌜ Total-says (now (text .entry)) spread r ⌝ }
     ensures { λ r. ⌜ Total-best (now (text .entry)) spread r ⌝ }
 {
     let reading = read_stack(text);
-    let read = reading.outcome;
+    let outcome = reading.outcome;
     let stack = reading.stack;
-    let outcome = spread_outcome(read, stack, spread);
-    if !outcome.is_accepted() {
-        return TotalAnswer {
-            outcome,
-            total: Tracks(0),
-        };
-    }
-    let total = total_in(stack, spread);
-    TotalAnswer { outcome, total }
+    total_of(outcome, stack, spread)
 }
 
 // Document 02, P3: the placement in one spread for a stated total of the stack in a text, or the first refusal that applies: the text's, then 7, then 10.
@@ -68,26 +59,9 @@ pub fn place_total(text: &[u8], spread: u32, total: Tracks) -> PlacementAnswer
     ensures { λ r. ⌜ Placement-best (now (text .entry)) spread (total .0) r ⌝ }
 {
     let reading = read_stack(text);
-    let read = reading.outcome;
+    let outcome = reading.outcome;
     let stack = reading.stack;
-    let outcome = spread_outcome(read, stack, spread);
-    if !outcome.is_accepted() {
-        return refused_placement(outcome);
-    }
-    let stated = placement_in(stack, spread, total);
-    let met = stated.met;
-    let placement = stated.placement;
-    if !met {
-        return refused_placement(Outcome::refused(Refusal::Unmet, 0, 0));
-    }
-    let separations = placement.separations;
-    let positions = placement.positions;
-    PlacementAnswer {
-        outcome,
-        total,
-        separations,
-        positions,
-    }
+    placement_of(outcome, stack, spread, total)
 }
 
 // Enough bytes for the table of every text, whatever its floors: a first line of 8, and at most 265 rows of at most 82.
@@ -177,6 +151,37 @@ pub fn try_placement(
     TrialAnswer { outcome, legal }
 }
 
+// Document 02, P6: the least total in one spread of the session that a text of steps makes, or the first refusal that applies: the text's, the last step's, 13, then 7.
+pub fn session_total(steps: &[u8], spread: u32) -> TotalAnswer
+    ensures { λ r. ⌜ Steps-total-says (now (steps .entry)) spread r ⌝ }
+    ensures { λ r. ⌜ Steps-total-best (now (steps .entry)) spread r ⌝ }
+{
+    let replay = replay_steps(steps);
+    let outcome = replay.outcome;
+    let session = replay.session;
+    if !outcome.is_accepted() {
+        return TotalAnswer {
+            outcome,
+            total: Tracks(0),
+        };
+    }
+    session.least_total(spread)
+}
+
+// Document 02, P6: the placement in one spread for a stated total of that session, or the first refusal that applies: those, then 10.
+pub fn session_place(steps: &[u8], spread: u32, total: Tracks) -> PlacementAnswer
+    ensures { λ r. ⌜ Steps-placement-says (now (steps .entry)) spread (total .0) r ⌝ }
+    ensures { λ r. ⌜ Steps-placement-best (now (steps .entry)) spread (total .0) r ⌝ }
+{
+    let replay = replay_steps(steps);
+    let outcome = replay.outcome;
+    let session = replay.session;
+    if !outcome.is_accepted() {
+        return refused_placement(outcome);
+    }
+    session.place_total(spread, total)
+}
+
 // An outcome and a value in one number.
 fn code(outcome: Outcome, value: u64) -> u64
     ensures { λ r. ⌜ r ≡ code (refusal-of outcome) value ⌝ }
@@ -214,16 +219,6 @@ pub extern "C" fn nabetsu_write_page(
     let answer = write_page(text, spread, channel, output);
     let outcome = answer.outcome;
     code(outcome, answer.written as u64)
-}
-
-// A refusal, or short space where nothing is refused.
-fn or_short(outcome: Outcome) -> Outcome
-    ensures { λ r. ⌜ refusal-of r ≡ or-else (refusal-of outcome) (refusal 8 0 0) ⌝ }
-{
-    match outcome {
-        Outcome::Accepted => Outcome::refused(Refusal::ShortSpace, 0, 0),
-        Outcome::Refused(r) => Outcome::Refused(r),
-    }
 }
 
 // Number i of a placement's eighteen: the total, the separations, the positions; zero behind them.
@@ -270,8 +265,22 @@ pub extern "C" fn nabetsu_least_total(text: &[u8], spread: u32) -> u64
     code(outcome, total.0 as u64)
 }
 
-// place_total for callers in other languages: 0 with the total, eight separations and nine positions in the output and zeros behind them, or the refusal in
-// one number and zeros in the whole output. An output of fewer than eighteen numbers is short space.
+// A placement for callers in other languages: 0 with the total, eight separations and nine positions in the output and zeros behind them, or the refusal in one
+// number and zeros in the whole output. An output of fewer than eighteen numbers is short space.
+fn put_answer(answer: PlacementAnswer, output: &mut [u32]) -> u64
+    ensures { λ r. ⌜ Numbers-put (leb 18 (length (now (output .entry)))) answer r (now (output .entry)) (now (output .exit)) ⌝ }
+{
+    let outcome = answer.outcome;
+    if output.len() < NUMBERS {
+        let short = outcome.or_else(Outcome::refused(Refusal::ShortSpace, 0, 0));
+        put_numbers(refused_placement(short), output);
+        return code(short, 0);
+    }
+    put_numbers(answer, output);
+    code(outcome, 0)
+}
+
+// place_total for callers in other languages.
 #[no_mangle]
 pub extern "C" fn nabetsu_place_total(
     text: &[u8],
@@ -282,14 +291,32 @@ pub extern "C" fn nabetsu_place_total(
     ensures { λ r. ⌜ Placement-coded (now (text .entry)) spread total r (now (output .entry)) (now (output .exit)) ⌝ }
 {
     let answer = place_total(text, spread, Tracks(total));
+    put_answer(answer, output)
+}
+
+// session_total for callers in other languages: the total, or the refusal in one number.
+#[no_mangle]
+pub extern "C" fn nabetsu_session_total(steps: &[u8], spread: u32) -> u64
+    ensures { λ r. ⌜ Steps-total-coded (now (steps .entry)) spread r ⌝ }
+{
+    let answer = session_total(steps, spread);
     let outcome = answer.outcome;
-    if output.len() < NUMBERS {
-        let short = or_short(outcome);
-        put_numbers(refused_placement(short), output);
-        return code(short, 0);
-    }
-    put_numbers(answer, output);
-    code(outcome, 0)
+    let total = answer.total;
+    code(outcome, total.0 as u64)
+}
+
+// session_place for callers in other languages.
+#[no_mangle]
+pub extern "C" fn nabetsu_session_place(
+    steps: &[u8],
+    spread: u32,
+    total: u32,
+    output: &mut [u32],
+) -> u64
+    ensures { λ r. ⌜ Steps-placement-coded (now (steps .entry)) spread total r (now (output .entry)) (now (output .exit)) ⌝ }
+{
+    let answer = session_place(steps, spread, Tracks(total));
+    put_answer(answer, output)
 }
 
 // The separations of a placement's seventeen numbers.

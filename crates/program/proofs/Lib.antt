@@ -1,2 +1,3 @@
 -- The laws of the status that is passed on.
 pub mod Passing
+pub mod Lines

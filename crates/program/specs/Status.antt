@@ -4,7 +4,7 @@ use mathlib.Core.Logic.{_⊎_}
 use mathlib.Core.List.{List}
 use Prim.Native.Nat.{ℕ}
 use Rattle.text.specs.Outcome.{refusal-of}
-use Rattle.nabetsu.specs.Entry.{Placement-says}
+use Rattle.spread.specs.Answers.{Placement-says}
 use Rattle.reply.specs.declared.PlacementAnswer.{PlacementAnswer}
 use Rattle.commands.specs.Output.{status-of}
 

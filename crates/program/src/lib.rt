@@ -1,16 +1,20 @@
-// The program stacktable: it prints the table of a stack, the least total in one spread, the placement for a total, both together, the page of a channel, or the
-// verdict on a placement. No contract can say what is read or written, so what is printed, what is refused and the status that goes with it come from crate
+// The program stacktable: it prints the table of a stack, the least total in one spread, the placement for a total, both together, the page of a channel, the
+// verdict on a placement, or the rows behind the steps of a session. No contract can say what is read or written, so what is printed, what is refused and the status that goes with it come from crate
 // commands, the words for a refusal from crate complaint; the functions here read, write and pass the status on.
 ghost use mathlib.Core.Path.{_≡_};
 ghost use mathlib.Core.Bool.{false};
 ghost use Prim.Native.Nat.{_≤_, _<_};
-ghost use lib.ListN.{set};
+ghost use lib.ListN.{length, set};
 ghost use Rattle.io.specs.Counts.{Counts};
-ghost use Rattle.text.specs.Text.{text-refusal};
-ghost use Rattle.nabetsu.specs.Entry.{spread-refusal};
+ghost use Rattle.text.specs.Text.{or-else, text-refusal};
+ghost use Rattle.text.specs.Outcome.{refusal-of};
+ghost use Rattle.session.specs.Session.{Made, session-refusal};
+ghost use Rattle.session.specs.Value.{held-of};
+ghost use Rattle.spread.specs.Answers.{spread-refusal};
 ghost use Rattle.nabetsu.specs.Pages.{page-refusal};
 ghost use Rattle.commands.specs.Output.{status-of, trial-status};
 ghost use Rattle.program.specs.Status.{Passed-on, Place-passed-on};
+ghost use Rattle.program.specs.Input.{Line-in, Next-line};
 use commands::ANSWERED;
 use commands::Command;
 use commands::FAILED;
@@ -19,6 +23,7 @@ use commands::Number;
 use commands::put_page;
 use commands::put_place;
 use commands::put_spread;
+use commands::put_step;
 use commands::put_table;
 use commands::put_total;
 use commands::put_trial;
@@ -26,12 +31,18 @@ use commands::read_command;
 use commands::read_number;
 use complaint::COMPLAINT_BYTES;
 use complaint::complaint_before;
+use complaint::no_step_before;
 use kinds::Reading;
 use libc::STDERR_FILENO;
 use libc::STDIN_FILENO;
 use libc::STDOUT_FILENO;
+use lines::LineEnd;
 use lines::is_word;
+use lines::line_end;
 use nabetsu::TABLE_BYTES;
+use replay::Replay;
+use replay::awaits;
+use replay::is_no_step;
 use text::Outcome;
 
 // One byte more than an accepted text has, so that a longer one is seen to be.
@@ -74,6 +85,7 @@ fn print_usage(fd: i32) -> bool {
        stacktable [-f FILE] spread N
        stacktable [-f FILE] page N CHANNEL
        stacktable [-f FILE] trial N T1..TK X0..XK
+       stacktable [-f FILE] session N
        stacktable help | -h | --help
        stacktable --version
 ",
@@ -95,12 +107,15 @@ fn print_help() -> u32
   spread: both together, the row of the least total in spread N;
   page: the paths of a channel, from 1, in the answer for spread N, at most 63;
   trial: legal or not legal, for separations T1..TK and positions X0..XK in spread N.
+session reads the steps of a session instead, and prints behind each step the row of the least total in spread N, or a refusal: the line BEGIN and a PART line
+for a first strip; ADD, a PART line and a NETS line for a strip on top with its channel; OFF to take the top strip off. A line that is no line of a step is said
+on standard error and passed over, with what was begun of that step.
 A line GAP, a channel and a floor behind the stack's NETS lines is a least separation of that channel.
 In a channel with separation T paths run along tracks 1 to T - 1 only: the tracks of both strips' edges, 0 and T, stay clear.
 Where the stack, the spread, the total or the channel is refused it prints the refusal's number, line and field, and says on standard error in words what is
 wrong and where.
 A number is 1 to 10 decimal digits, at most 4294967295.
-It exits with 0 for an answer, 1 for a refusal, 2 where arguments are wrong or reading or writing fails.
+It exits with 0 for an answer, 1 for a refusal, 2 where arguments are wrong, a line is no step, or reading or writing fails.
 Example: two strips of 4 columns and two pairs, in a spread of 5
   printf 'STACK\\t1\\nPART\\t4\\nPART\\t4\\nNETS\\t0\\t2\\t2\\t4\\n' | stacktable spread 5
 ",
@@ -113,7 +128,7 @@ Example: two strips of 4 columns and two pairs, in a spread of 5
 fn print_version() -> u32
     ensures { λ r. ⌜ Passed-on 0 r ⌝ }
 {
-    print(b"stacktable 1.5\n", ANSWERED, Outcome::Accepted)
+    print(b"stacktable 1.6\n", ANSWERED, Outcome::Accepted)
 }
 
 // Says what is wrong with the arguments, and how the program is used.
@@ -398,6 +413,246 @@ fn run_placed(place: usize, page: bool) -> u32
     print_place(&text[..length], spread.value, second.value)
 }
 
+// Moves the bytes from a place on to the front; how many they are.
+fn shift(text: &mut [u8], from: usize, end: usize) -> usize
+    requires { ⌜ (from ≤ end) × (end ≤ length (now text)) ⌝ }
+    ensures { λ r. ⌜ (r ≤ length (now (text .exit))) × (length (now (text .exit)) ≡ length (now (text .entry))) ⌝ }
+{
+    for i in from..end {
+        text[i - from] = text[i];
+    }
+    end - from
+}
+
+// The line that begins at a place, among so many bytes.
+fn line_in(text: &[u8], from: usize, filled: usize) -> LineEnd
+    requires { ⌜ (from ≤ filled) × (filled ≤ length (now text)) ⌝ }
+    ensures { λ r. ⌜ Line-in from filled r ⌝ }
+{
+    line_end(&text[..filled], from)
+}
+
+// Reads on behind so many bytes, up to a line feed, the end of the input, or until the space is full.
+fn read_on(fd: i32, text: &mut [u8], from: usize) -> Input
+    requires { ⌜ from ≤ length (now text) ⌝ }
+    ensures { λ r. ⌜ (r .length ≤ length (now (text .exit))) × (length (now (text .exit)) ≡ length (now (text .entry))) ⌝ }
+{
+    let mut length = from;
+    while length < text.len() {
+        let got = libc::read(fd, &mut text[length..]);
+        if got < 0 {
+            return Input {
+                good: false,
+                length: 0,
+            };
+        }
+        let more = io::count(got, &text[length..]);
+        if more == 0 {
+            return Input { good: true, length };
+        }
+        let next = length + more;
+        let line = line_in(text, length, next);
+        length = next;
+        if line.ended {
+            return Input { good: true, length };
+        }
+    }
+    Input { good: true, length }
+}
+
+// The next line of the input: where it is among so many bytes, and whether it is ended, which fails at the end of the input and for a line that is too long.
+struct NextLine {
+    good: bool,
+    at: usize,
+    end: usize,
+    ended: bool,
+    length: usize,
+}
+
+// The line that begins at a place, of which more is read where it is not whole.
+fn next_line(fd: i32, text: &mut [u8], at: usize, filled: usize) -> NextLine
+    requires { ⌜ (at ≤ filled) × (filled ≤ length (now text)) ⌝ }
+    ensures { λ r. ⌜ Next-line (length (now (text .entry))) r × (length (now (text .exit)) ≡ length (now (text .entry))) ⌝ }
+{
+    let found = line_in(text, at, filled);
+    if found.ended {
+        return NextLine {
+            good: true,
+            at,
+            end: found.end,
+            ended: true,
+            length: filled,
+        };
+    }
+    let kept = shift(text, at, filled);
+    let input = read_on(fd, text, kept);
+    let there = input.length;
+    let line = line_in(text, 0, there);
+    NextLine {
+        good: input.good,
+        at: 0,
+        end: line.end,
+        ended: line.ended,
+        length: there,
+    }
+}
+
+// Says that a line of the input is no step.
+fn say_no_step(n: u32) -> u32
+    ensures { λ r. ⌜ r ≡ 2 ⌝ }
+{
+    let mut room = [0u8; COMPLAINT_BYTES];
+    let at = no_step_before(&mut room, n);
+    io::write_all(STDERR_FILENO, &room[at..]);
+    FAILED
+}
+
+// What a step has come to: the row of the session in one spread, or a refusal.
+fn print_step(replay: Replay, spread: u32) -> u32
+    requires { ⌜ Made (held-of (replay .session)) ⌝ }
+    ensures { λ r. ⌜ Passed-on (status-of (or-else (refusal-of (replay .outcome)) (session-refusal (held-of (replay .session)) spread))) r ⌝ }
+{
+    let outcome = replay.outcome;
+    let session = replay.session;
+    let mut output = [0u8; TABLE_BYTES];
+    let reply = put_step(outcome, session, spread, &mut output);
+    let length = reply.length;
+    let told = reply.outcome;
+    print(&output[..length], reply.status, told)
+}
+
+// A session behind a line, the status of that line, and whether its output could be written.
+struct LineRun {
+    replay: Replay,
+    status: u32,
+    written: bool,
+}
+
+// Line n: prints the row behind a step, and says where there is none.
+fn run_line(replay: Replay, n: u32, bytes: &[u8], spread: u32) -> LineRun
+    requires { ⌜ (length (now bytes) ≤ 8192) × Made (held-of (replay .session)) ⌝ }
+    ensures { λ r. ⌜ Made (held-of (r .replay .session)) × (r .status ≤ 2) ⌝ }
+{
+    let next = replay.take_line(n, bytes, true);
+    let line = next.line;
+    if is_no_step(line) {
+        let status = say_no_step(n);
+        return LineRun {
+            replay: next,
+            status,
+            written: true,
+        };
+    }
+    if awaits(line) {
+        return LineRun {
+            replay: next,
+            status: ANSWERED,
+            written: true,
+        };
+    }
+    let status = print_step(next, spread);
+    LineRun {
+        replay: next,
+        status,
+        written: status != FAILED,
+    }
+}
+
+// The end of the input at line n, of which so many bytes are there: what is begun of a line or of a step is no step.
+fn run_end(replay: Replay, n: u32, bytes: usize, status: u32) -> u32
+    requires { ⌜ status ≤ 2 ⌝ }
+    ensures { λ r. ⌜ r ≤ 2 ⌝ }
+{
+    let line = replay.line;
+    if awaits(line) {
+        return say_no_step(n);
+    }
+    if 0 < bytes {
+        return say_no_step(n);
+    }
+    status
+}
+
+// The greater of two statuses.
+fn worse(a: u32, b: u32) -> u32
+    requires { ⌜ (a ≤ 2) × (b ≤ 2) ⌝ }
+    ensures { λ r. ⌜ r ≤ 2 ⌝ }
+{
+    if a < b {
+        return b;
+    }
+    a
+}
+
+// The lines are numbered, so there are fewer than this.
+const MAX_LINES: u32 = 4294967295;
+
+// Reads steps line by line to the end of the input, and prints what each has come to in one spread.
+fn run_steps(fd: i32, name: &[u8], spread: u32) -> u32
+    ensures { λ r. ⌜ r ≤ 2 ⌝ }
+{
+    let mut text = [0u8; TEXT_BYTES];
+    let mut replay = Replay::start();
+    let mut at = 0;
+    let mut length = 0;
+    let mut status = ANSWERED;
+    let mut n: u32 = 1;
+    while n < MAX_LINES {
+        let line = next_line(fd, &mut text, at, length);
+        if !line.good {
+            return fail(name);
+        }
+        if !line.ended {
+            return run_end(replay, n, line.length, status);
+        }
+        let from = line.at;
+        let end = line.end;
+        let run = run_line(replay, n, &text[from..end], spread);
+        if !run.written {
+            return FAILED;
+        }
+        replay = run.replay;
+        status = worse(status, run.status);
+        at = end + 1;
+        length = line.length;
+        n += 1;
+    }
+    say_no_step(n)
+}
+
+// Reads the steps in the file that the second argument names.
+fn run_file(spread: u32) -> u32
+    ensures { λ r. ⌜ r ≤ 2 ⌝ }
+{
+    let mut path = io::buffer();
+    let n = os::arg(2, &mut path);
+    if os::errno() != 0 {
+        return fail(b"FILE");
+    }
+    let fd = os::open_read(&path[..n]);
+    if fd < 0 {
+        return fail(&path[..n]);
+    }
+    let status = run_steps(fd, &path[..n], spread);
+    libc::close(fd);
+    status
+}
+
+// Reads the spread and the steps.
+fn run_session(place: usize) -> u32
+    requires { ⌜ place ≤ 3 ⌝ }
+    ensures { λ r. ⌜ r ≤ 2 ⌝ }
+{
+    let number = number_argument(place + 1);
+    if !number.good {
+        return FAILED;
+    }
+    if place == BEHIND_FILE {
+        return run_file(number.value);
+    }
+    run_steps(STDIN_FILENO, b"standard input", number.value)
+}
+
 // Reads the numbers and the text, and prints the verdict.
 fn run_trial(place: usize, end: usize) -> u32
     requires { ⌜ place < end ⌝ }
@@ -437,6 +692,7 @@ pub fn run() -> u32
         Command::Spread => run_spread(place, false),
         Command::Page => run_placed(place, true),
         Command::Trial => run_trial(place, end),
+        Command::Session => run_session(place),
         Command::Help => print_help(),
         Command::Version => print_version(),
         Command::Wrong => print_wrong(b"wrong arguments"),

@@ -41,7 +41,7 @@ strip-length [] i e = omega arith
 strip-length (l ∷ ls) zero e = leb-true l 1000 (search ands)
 strip-length (l ∷ ls) (suc i) e = strip-length ls i (search ands)
 
-channels-rising : (ls : List ℕ) (cs : List Channel) → channels-within ls cs ≡ true → all-rising cs ≡ true
+pub channels-rising : (ls : List ℕ) (cs : List Channel) → channels-within ls cs ≡ true → all-rising cs ≡ true
 unfolding channels-within channel-within pairs-within all-rising
 channels-rising [] cs e = impossible e
 channels-rising (l ∷ []) [] e = refl

@@ -184,7 +184,7 @@ fn is_not_above(before: [Columns; Terminals::MAX_PAIRS], n: usize, x: u32) -> bo
 }
 
 // The stores also say how long their arrays are, which is known of an array that is passed and not of a struct's field.
-fn strip_stored(mut all: [Strip; Stack::STRIPS], i: usize, x: Strip) -> [Strip; Stack::STRIPS]
+pub fn strip_stored(mut all: [Strip; Stack::STRIPS], i: usize, x: Strip) -> [Strip; Stack::STRIPS]
     requires { ⌜ i < 9 ⌝ }
     ensures { λ r. ⌜ Stored all 9 i x r ⌝ }
 {
@@ -192,7 +192,7 @@ fn strip_stored(mut all: [Strip; Stack::STRIPS], i: usize, x: Strip) -> [Strip; 
     all
 }
 
-fn terminals_stored(
+pub fn terminals_stored(
     mut all: [Terminals; Stack::MAX_CHANNELS],
     i: usize,
     x: Terminals,

@@ -20,7 +20,7 @@ use Rattle.text.specs.Layout.{First-ill, Layout-is, line-fault, count-fa
 use Rattle.text.specs.Outcome.{refusal-of, is-accepted}
 use Rattle.text.specs.Kinds.{fault-of, layout-found, Kind-read, kind-refusal}
 use Rattle.text.specs.declared.Counts.{Counts}
-use Rattle.text.specs.declared.Counts.the-variants.{Exactly, InPairs}
+use Rattle.text.specs.declared.Counts.the-variants.{Exactly, InPairs, Any}
 use Rattle.text.specs.declared.KindRead.{KindRead}
 use Rattle.text.specs.declared.Outcome.{Outcome}
 use Rattle.text.proofs.Refusals.{or-else-fine, unless-fine, only-fine, or-else-refused, or-else-next, refused-number, accepted-fine}
@@ -39,6 +39,7 @@ fault-few InPairs n = go (eqb (n % 2) 0)
     go : (v : Bool) → cond v 0 (n + 2) ≤ n + 2
     go true = omega arith
     go false = omega arith
+fault-few Any n = omega arith
 
 -- THE FIRST FAULT of a layout, test by test
 pub count-found : (f i n : ℕ) → (f ≡ 0 → ⊥) → layout-found true f i n ≡ refusal 11 n f
@@ -52,6 +53,15 @@ ill-found i n h = rw (ne-eqb i 0 h, zero-add i)
 pub none-found : (n : ℕ) → layout-found true 0 0 n ≡ fine
 unfolding layout-found misplaced or-else fine refusal
 none-found n = refl
+
+-- of the count alone
+pub count-alone : (f n : ℕ) → layout-found true f 0 n ≡ misplaced 11 n 0 f
+unfolding layout-found misplaced or-else fine refusal
+count-alone f n = go (eqb f 0)
+  where
+    go : (v : Bool) → or-else (cond v fine (refusal 11 n (0 + f))) fine ≡ cond v fine (refusal 11 n (0 + f))
+    go true = refl
+    go false = refl
 
 -- IN DOCUMENT 02'S WORDS
 ill-above : (f : ℕ) (fs : List (List ℕ)) → (ill-formed f fs ≡ 0) ⊎ (f ≤ ill-formed f fs)

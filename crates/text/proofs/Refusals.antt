@@ -11,7 +11,8 @@ use Rattle.text.specs.Text.{Refusal, refusal, fine, or-else, Check, in-t
 use Rattle.text.specs.Outcome.{number-of, refusal-of, is-accepted}
 use Rattle.text.specs.Kinds.{line-refusal}
 use Rattle.text.specs.declared.Refusal.{Refusal as Why}
-use Rattle.text.specs.declared.Refusal.the-variants.{Overlong, Layout, Crowd, Length, Overhang, Crossing, Narrow, ShortSpace, Broad, Unmet, Count, IllFormed}
+use Rattle.text.specs.declared.Refusal.the-variants.{Overlong, Layout, Crowd, Length, Overhang, Crossing, Narrow, ShortSpace, Broad, Unmet, Count, IllFormed, Empty}
+use Rattle.text.specs.declared.Refused.{Refused as Refused-struct}
 use Rattle.text.specs.declared.Outcome.{Outcome}
 use Rattle.text.specs.declared.Outcome.the-variants.{Accepted, Refused}
 
@@ -53,6 +54,15 @@ pub or-else-next : (a b : Refusal) → a ≡ fine → or-else a b ≡ b
 unfolding or-else fine refusal
 or-else-next a b h = rw h
 
+-- the second counts only where the first is none
+pub or-else-same : (a b c : Refusal) → (a .number ≡ 0 → b ≡ c) → or-else a b ≡ or-else a c
+unfolding or-else
+or-else-same a b c h = go (eqb (a .number) 0) refl
+  where
+    go : (v : Bool) → eqb (a .number) 0 ≡ v → cond v b a ≡ cond v c a
+    go true e = h (eqb-true (a .number) 0 e)
+    go false e = refl
+
 pub or-else-assoc : (a b c : Refusal) → or-else a (or-else b c) ≡ or-else (or-else a b) c
 unfolding or-else
 or-else-assoc a b c = go (eqb (a .number) 0) refl
@@ -82,6 +92,7 @@ word-number Broad h = omega arith
 word-number Unmet h = omega arith
 word-number Count h = omega arith
 word-number IllFormed h = omega arith
+word-number Empty h = omega arith
 
 pub refused-number : (o : Outcome) → is-accepted o ≡ false → refusal-of o .number ≡ 0 → ⊥
 unfolding refusal fine
@@ -104,3 +115,12 @@ or-else-none o f e = go (eqb (f .number) 0) refl
     go : (v : Bool) → eqb (f .number) 0 ≡ v → f ≡ cond v fine f
     go true q = sym e ∙ number-fine o (rw e (eqb-true (f .number) 0 q))
     go false q = refl
+
+-- the first of two outcomes that is a refusal
+pub next-taken : (o n : Outcome) → o ≡ Accepted → refusal-of n ≡ or-else (refusal-of o) (refusal-of n)
+unfolding or-else fine refusal
+next-taken o n e = rw e
+
+pub refusal-kept : (o : Outcome) (r : Refused-struct) (n : Outcome) → o ≡ Refused r → refusal-of (Refused r) ≡ or-else (refusal-of o) (refusal-of n)
+unfolding or-else
+refusal-kept o r n e = rw (e, ne-eqb (refusal-of (Refused r) .number) 0 (refused-number (Refused r) refl))

@@ -9,13 +9,14 @@ use Rattle.lines.specs.Numbers.{in-places}
 use Rattle.text.specs.Text.{Refusal, refusal, or-else, Entry, entry, Kind, kind, exactly, in-pairs, misplaced, layout, Check}
 use Rattle.text.specs.Outcome.{refusal-of, is-accepted}
 use Rattle.text.specs.declared.Counts.{Counts}
-use Rattle.text.specs.declared.Counts.the-variants.{Exactly, InPairs}
+use Rattle.text.specs.declared.Counts.the-variants.{Exactly, InPairs, Any}
 use Rattle.text.specs.declared.KindRead.{KindRead}
 
 -- the field at which a count of numbers is at fault
 abbrev pub fault-of : Counts → (count : ℕ) → ℕ
 fault-of (Exactly due) n = exactly due n
 fault-of InPairs n = in-pairs n
+fault-of Any n = 0
 
 -- the layout of line n: whether it has its word, the field at which its count of numbers is at fault, and the first that is no number
 unfoldable pub layout-found : (worded : Bool) → (fault ill n : ℕ) → Refusal

@@ -3,7 +3,7 @@ ghost use mathlib.Core.Path.{_≡_};
 ghost use Prim.Native.Nat.{_^_, _≤_, _<_};
 ghost use lib.ListN.{length, replicate};
 ghost use Rattle.lines.specs.Lines.{line};
-ghost use Rattle.text.specs.Text.{exactly, in-pairs};
+ghost use Rattle.text.specs.Text.{or-else, exactly, in-pairs, misplaced};
 ghost use Rattle.text.specs.Outcome.{number-of, refusal-of, is-accepted, refused};
 ghost use Rattle.text.specs.Kinds.{fault-of, layout-found, Kind-read};
 use lines::KEPT;
@@ -23,6 +23,7 @@ pub enum Refusal {
     Unmet,
     Count,
     IllFormed,
+    Empty,
 }
 
 impl Refusal {
@@ -42,6 +43,7 @@ impl Refusal {
             Refusal::Unmet => 10,
             Refusal::Count => 11,
             Refusal::IllFormed => 12,
+            Refusal::Empty => 13,
         }
     }
 }
@@ -71,6 +73,16 @@ impl Outcome {
         match self {
             Outcome::Accepted => true,
             Outcome::Refused(_) => false,
+        }
+    }
+
+    // The first of two that is a refusal.
+    pub fn or_else(self, next: Outcome) -> Outcome
+        ensures { λ r. ⌜ refusal-of r ≡ or-else (refusal-of self) (refusal-of next) ⌝ }
+    {
+        match self {
+            Outcome::Accepted => next,
+            Outcome::Refused(r) => Outcome::Refused(r),
         }
     }
 }
@@ -104,6 +116,7 @@ fn in_pairs(numbers: usize) -> usize
 pub enum Counts {
     Exactly(usize),
     InPairs,
+    Any,
 }
 
 impl Counts {
@@ -115,6 +128,7 @@ impl Counts {
         match self {
             Counts::Exactly(due) => exactly(due, count),
             Counts::InPairs => in_pairs(count),
+            Counts::Any => 0,
         }
     }
 }
@@ -142,6 +156,13 @@ fn layout_outcome(worded: bool, fault: usize, ill: usize, n: u32) -> Outcome
         return layout_fault(Refusal::IllFormed, n, ill);
     }
     Outcome::Accepted
+}
+
+// Whether line n may have so many numbers.
+pub fn count_outcome(counts: Counts, count: u16, n: u32) -> Outcome
+    ensures { λ r. ⌜ refusal-of r ≡ misplaced 11 n 0 (fault-of counts count) ⌝ }
+{
+    layout_outcome(true, counts.fault(count as usize), 0, n)
 }
 
 // A line of a kind: what its layout is found to be, and how many numbers it has.

@@ -114,6 +114,15 @@ slice-aggregate-word-before-12 c = search needs
 word-before-requires-12 : tie.Need-word-before-requires-12
 word-before-requires-12 c κs = search needs
 
+enum-told-13 : tie.Need-enum-told-13
+enum-told-13 c = search needs
+
+slice-aggregate-word-before-13 : tie.Need-slice-aggregate-word-before-13
+slice-aggregate-word-before-13 c = search needs
+
+word-before-requires-13 : tie.Need-word-before-requires-13
+word-before-requires-13 c κs = search needs
+
 same-length : tie.Need-same-length
 same-length c = search needs
 
@@ -210,6 +219,14 @@ unfolding bytes meaning
 returns-12 c =
     rw (c .before .before .before .before .before .enum-told12 .given .1) (prepended-looser (omega arith) (c .before .before .word-before12 .ensures))
 
+same-length-13 : tie.Need-same-length-13
+same-length-13 c = search needs
+
+returns-13 : tie.Need-returns-13
+unfolding bytes meaning
+returns-13 c =
+    rw (c .before .before .before .before .before .enum-told13 .given .1) (prepended-looser (omega arith) (c .before .before .word-before13 .ensures))
+
 pub meaning-before-spec : {M : Type 1} → statement M
 meaning-before-spec =
     tie.close
@@ -250,6 +267,9 @@ meaning-before-spec =
     enum-told-12
     slice-aggregate-word-before-12
     word-before-requires-12
+    enum-told-13
+    slice-aggregate-word-before-13
+    word-before-requires-13
     same-length
     returns
     same-length-2
@@ -273,4 +293,6 @@ meaning-before-spec =
     same-length-11
     returns-11
     same-length-12
-    returns-12)
+    returns-12
+    same-length-13
+    returns-13)

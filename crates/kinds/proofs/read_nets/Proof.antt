@@ -3,7 +3,7 @@ use mathlib.Core.Path.{sym, _∙_}
 use borrow.Author.Tests.{not-true, not-false}
 use Rattle.lines.specs.Lines.{line}
 use Rattle.text.specs.Text.{nets-word}
-use Rattle.kinds.proofs.Nets.{place-found, nets-ill, nets-found}
+use Rattle.kinds.proofs.Nets.{nets-ill, line-kept, nets-found}
 use borrow.Author.Needs.{needs}
 use Rattle.kinds.proofs.read_nets.Statement.{statement}
 use Rattle.kinds.proofs.read_nets.Tie as tie
@@ -28,21 +28,20 @@ returns c =
     let accepted = c .before .before .is-accepted in
     nets-ill (start .args .lower .length .0) (start .args .upper .length .0) (start .args .n) (line (start .args .bytes .now) (start .args .ended)) (read .result) _ (read .ensures) (c .none .result) (sym (accepted .ensures) ∙ not-true _ (c .before .if1 .taken))
 
-new-requires : tie.Need-new-requires
-new-requires c κs = search needs
-
-found-outcome-requires : tie.Need-found-outcome-requires
-found-outcome-requires c κs = rw (c .before .new .ensures .found) (place-found _ _ _)
+nets-content-requires : tie.Need-nets-content-requires
+nets-content-requires c κs = search needs
 
 returns-2 : tie.Need-returns-2
 unfolding nets-word
 returns-2 c =
-    let start = c .before .before .before .before .before .before .before .before .before .before .before in
-    let read = c .before .before .before .before .before .before .before .read-kind in
-    let accepted = c .before .before .before .before .before .before .is-accepted in
-    let new = c .before .before .new in
-    let found = c .found-outcome in
-    nets-found (start .args .lower .length .0) (start .args .upper .length .0) (start .args .n) (line (start .args .bytes .now) (start .args .ended)) (read .result) _ (read .ensures) (sym (accepted .ensures) ∙ not-false _ (c .before .before .before .before .before .if1 .left)) (found .result) (new .result) (new .ensures) (found .ensures)
+    let start = c .before .before .before .before .before .before .before .before in
+    let read = c .before .before .before .before .read-kind in
+    let lo = start .args .lower .length .0 in
+    let hi = start .args .upper .length .0 in
+    let there = line (start .args .bytes .now) (start .args .ended) in
+    let good = sym (c .before .before .before .is-accepted .ensures) ∙ not-false _ (c .before .before .if1 .left) in
+    let kept = line-kept lo hi (start .args .n) there (read .result) _ (read .ensures) good in
+    nets-found lo hi (start .args .n) there (read .result) _ (read .ensures) good (c .nets-content .result) (c .nets-content .ensures _ kept)
 
 pub read-nets-spec : {M : Type 1} → statement M
 read-nets-spec =
@@ -53,6 +52,5 @@ read-nets-spec =
     is-accepted-requires
     none-requires
     returns
-    new-requires
-    found-outcome-requires
+    nets-content-requires
     returns-2)

@@ -79,6 +79,9 @@ run-trial-requires c κs = omega (arith, trial-words _ _ (sym (c .enum-told6 .gi
 enum-told-7 : tie.Need-enum-told-7
 enum-told-7 c = search needs
 
+run-session-requires : tie.Need-run-session-requires
+run-session-requires c κs = search needs
+
 print-help-requires : tie.Need-print-help-requires
 print-help-requires c κs = search needs
 
@@ -90,6 +93,9 @@ print-version-requires c κs = search needs
 
 enum-told-9 : tie.Need-enum-told-9
 enum-told-9 c = search needs
+
+enum-told-10 : tie.Need-enum-told-10
+enum-told-10 c = search needs
 
 slice-aggregate-print-wrong-2 : tie.Need-slice-aggregate-print-wrong-2
 slice-aggregate-print-wrong-2 c = search needs
@@ -116,13 +122,16 @@ returns-7 : tie.Need-returns-7
 returns-7 c = search needs
 
 returns-8 : tie.Need-returns-8
-returns-8 c = passed-within (omega arith) (c .print-help .ensures)
+returns-8 c = search needs
 
 returns-9 : tie.Need-returns-9
-returns-9 c = passed-within (omega arith) (c .print-version .ensures)
+returns-9 c = passed-within (omega arith) (c .print-help .ensures)
 
 returns-10 : tie.Need-returns-10
-returns-10 c = search needs
+returns-10 c = passed-within (omega arith) (c .print-version .ensures)
+
+returns-11 : tie.Need-returns-11
+returns-11 c = search needs
 
 pub run-spec : {M : Type 1} → statement M
 run-spec =
@@ -152,10 +161,12 @@ run-spec =
     enum-told-6
     run-trial-requires
     enum-told-7
-    print-help-requires
+    run-session-requires
     enum-told-8
-    print-version-requires
+    print-help-requires
     enum-told-9
+    print-version-requires
+    enum-told-10
     slice-aggregate-print-wrong-2
     print-wrong-requires-2
     returns-2
@@ -166,4 +177,5 @@ run-spec =
     returns-7
     returns-8
     returns-9
-    returns-10)
+    returns-10
+    returns-11)

@@ -1,0 +1,4 @@
+-- The laws of replaying steps, and the statement proved.
+pub mod Taken
+pub mod Made
+pub mod Going

@@ -1,0 +1,4 @@
+-- What is answered of one spread: the trusted statements.
+pub mod Answers
+pub mod Best
+pub mod Single

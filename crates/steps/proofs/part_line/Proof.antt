@@ -1,0 +1,36 @@
+-- part_line meets its contract. Assumes nothing.
+use Rattle.lines.specs.Lines.{line}
+use Rattle.text.specs.Text.{part-word}
+use Rattle.steps.proofs.Answers.{part-told}
+use borrow.Author.Needs.{needs}
+use Rattle.steps.proofs.part_line.Statement.{statement}
+use Rattle.steps.proofs.part_line.Tie as tie
+
+slice-aggregate-read-kind : tie.Need-slice-aggregate-read-kind
+slice-aggregate-read-kind c = search needs
+
+read-kind-requires : tie.Need-read-kind-requires
+read-kind-requires c κs = search needs
+
+is-accepted-requires : tie.Need-is-accepted-requires
+is-accepted-requires c κs = search needs
+
+array-read-t14 : tie.Need-array-read-t14
+array-read-t14 c = search needs
+
+returns : tie.Need-returns
+unfolding part-word
+returns c =
+    let start = c .before .before .before .before .before in
+    let read = c .before .read-kind in
+    part-told (line (start .args .bytes .now) (start .args .ended)) (read .result) _ (c .is-accepted .result) (c .is-accepted .ensures) (read .ensures)
+
+pub part-line-spec : {M : Type 1} → statement M
+part-line-spec =
+    tie.close
+    (tie.spec
+    slice-aggregate-read-kind
+    read-kind-requires
+    is-accepted-requires
+    array-read-t14
+    returns)
