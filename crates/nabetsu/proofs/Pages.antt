@@ -28,7 +28,6 @@ use Rattle.answer.specs.Solve.{answer-separations, answer-positions}
 use Rattle.answer.specs.Arrays.{Answer-is}
 use Rattle.answer.proofs.Alone.{legal-lengths}
 use Rattle.answer.proofs.Answers.{answer-there}
-use Rattle.writing.specs.Output.{cleared}
 use Rattle.table.proofs.Space.{separations-small}
 use Rattle.page.specs.Page.{channel-paths, channel-page, lacks}
 use Rattle.page.specs.Promise.{Paths-shown}

@@ -148,11 +148,20 @@ struct Input {
     length: usize,
 }
 
-// Reads to the end of the input, or until the space is full.
-fn read_text(fd: i32, text: &mut [u8]) -> Input
-    ensures { λ r. ⌜ Counts (r .length) (now (text .exit)) ⌝ }
+// The line that begins at a place, among so many bytes.
+fn line_in(text: &[u8], from: usize, filled: usize) -> LineEnd
+    requires { ⌜ (from ≤ filled) × (filled ≤ length (now text)) ⌝ }
+    ensures { λ r. ⌜ Line-in from filled r ⌝ }
 {
-    let mut length = 0;
+    line_end(&text[..filled], from)
+}
+
+// Reads on behind so many bytes, to the end of the input, up to a line feed where a line is asked for, or until the space is full.
+fn read_on(fd: i32, text: &mut [u8], from: usize, a_line: bool) -> Input
+    requires { ⌜ from ≤ length (now text) ⌝ }
+    ensures { λ r. ⌜ Counts (r .length) (now (text .exit)) × (length (now (text .exit)) ≡ length (now (text .entry))) ⌝ }
+{
+    let mut length = from;
     while length < text.len() {
         let got = libc::read(fd, &mut text[length..]);
         if got < 0 {
@@ -165,7 +174,12 @@ fn read_text(fd: i32, text: &mut [u8]) -> Input
         if more == 0 {
             return Input { good: true, length };
         }
-        length += more;
+        let next = length + more;
+        let line = line_in(text, length, next);
+        length = next;
+        if a_line && line.ended {
+            return Input { good: true, length };
+        }
     }
     Input { good: true, length }
 }
@@ -174,22 +188,33 @@ fn read_text(fd: i32, text: &mut [u8]) -> Input
 fn read_from(fd: i32, name: &[u8], text: &mut [u8; TEXT_BYTES]) -> Input
     ensures { λ r. ⌜ Counts (r .length) (now (text .exit)) ⌝ }
 {
-    let input = read_text(fd, text);
+    let input = read_on(fd, text, 0, false);
     if !input.good {
         fail(name);
     }
     input
 }
 
-// Says that there is no input, and why.
-fn no_input(name: &[u8]) -> Input
-    ensures { λ r. ⌜ (r .good ≡ false) × (r .length ≡ 0) ⌝ }
+// A file that is open to be read, below 0 where it is not, and how many bytes its name has.
+struct Opened {
+    fd: i32,
+    name: usize,
+}
+
+// Opens the file that the second argument names; where that fails, it says why.
+fn open_file(path: &mut [u8]) -> Opened
+    ensures { λ r. ⌜ Counts (r .name) (now (path .exit)) ⌝ }
 {
-    fail(name);
-    Input {
-        good: false,
-        length: 0,
+    let name = os::arg(2, path);
+    if os::errno() != 0 {
+        fail(b"FILE");
+        return Opened { fd: -1, name };
     }
+    let fd = os::open_read(&path[..name]);
+    if fd < 0 {
+        fail(&path[..name]);
+    }
+    Opened { fd, name }
 }
 
 // Reads the file that the second argument names.
@@ -197,13 +222,14 @@ fn read_file(text: &mut [u8; TEXT_BYTES]) -> Input
     ensures { λ r. ⌜ Counts (r .length) (now (text .exit)) ⌝ }
 {
     let mut path = io::buffer();
-    let n = os::arg(2, &mut path);
-    if os::errno() != 0 {
-        return no_input(b"FILE");
-    }
-    let fd = os::open_read(&path[..n]);
+    let opened = open_file(&mut path);
+    let fd = opened.fd;
+    let n = opened.name;
     if fd < 0 {
-        return no_input(&path[..n]);
+        return Input {
+            good: false,
+            length: 0,
+        };
     }
     let input = read_from(fd, &path[..n], text);
     libc::close(fd);
@@ -424,42 +450,6 @@ fn shift(text: &mut [u8], from: usize, end: usize) -> usize
     end - from
 }
 
-// The line that begins at a place, among so many bytes.
-fn line_in(text: &[u8], from: usize, filled: usize) -> LineEnd
-    requires { ⌜ (from ≤ filled) × (filled ≤ length (now text)) ⌝ }
-    ensures { λ r. ⌜ Line-in from filled r ⌝ }
-{
-    line_end(&text[..filled], from)
-}
-
-// Reads on behind so many bytes, up to a line feed, the end of the input, or until the space is full.
-fn read_on(fd: i32, text: &mut [u8], from: usize) -> Input
-    requires { ⌜ from ≤ length (now text) ⌝ }
-    ensures { λ r. ⌜ (r .length ≤ length (now (text .exit))) × (length (now (text .exit)) ≡ length (now (text .entry))) ⌝ }
-{
-    let mut length = from;
-    while length < text.len() {
-        let got = libc::read(fd, &mut text[length..]);
-        if got < 0 {
-            return Input {
-                good: false,
-                length: 0,
-            };
-        }
-        let more = io::count(got, &text[length..]);
-        if more == 0 {
-            return Input { good: true, length };
-        }
-        let next = length + more;
-        let line = line_in(text, length, next);
-        length = next;
-        if line.ended {
-            return Input { good: true, length };
-        }
-    }
-    Input { good: true, length }
-}
-
 // The next line of the input: where it is among so many bytes, and whether it is ended, which fails at the end of the input and for a line that is too long.
 struct NextLine {
     good: bool,
@@ -485,7 +475,7 @@ fn next_line(fd: i32, text: &mut [u8], at: usize, filled: usize) -> NextLine
         };
     }
     let kept = shift(text, at, filled);
-    let input = read_on(fd, text, kept);
+    let input = read_on(fd, text, kept, true);
     let there = input.length;
     let line = line_in(text, 0, there);
     NextLine {
@@ -625,13 +615,11 @@ fn run_file(spread: u32) -> u32
     ensures { λ r. ⌜ r ≤ 2 ⌝ }
 {
     let mut path = io::buffer();
-    let n = os::arg(2, &mut path);
-    if os::errno() != 0 {
-        return fail(b"FILE");
-    }
-    let fd = os::open_read(&path[..n]);
+    let opened = open_file(&mut path);
+    let fd = opened.fd;
+    let n = opened.name;
     if fd < 0 {
-        return fail(&path[..n]);
+        return FAILED;
     }
     let status = run_steps(fd, &path[..n], spread);
     libc::close(fd);

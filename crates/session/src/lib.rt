@@ -209,7 +209,7 @@ impl Session {
         SessionStep::new(outcome, lower, self)
     }
 
-    // Two strips or more as a stack, every floor 0.
+    // The strips and channels as a stack, every floor 0.
     fn stack(self) -> Stack
         requires { ⌜ 1 ≤ self .count ⌝ }
         ensures { λ r. ⌜ stack-of r ≡ held-of self ⌝ }

@@ -2,15 +2,16 @@
 use mathlib.Core.Path.{_≡_}
 use Prim.Native.Nat.{_-_, _≤_}
 use lib.ListN.{length as size}
+use Rattle.io.proofs.Counting.{counts}
 use borrow.Author.Needs.{needs}
 use Rattle.program.proofs.read_on.Statement.{statement}
 use Rattle.program.proofs.read_on.Tie as tie
 
 abbrev Inv-loop : tie.InvT-loop
-Inv-loop fd text₀ from length₀ text length = (size text ≡ size text₀) × (length ≤ size text)
+Inv-loop fd text₀ from a-line length₀ text length = (size text ≡ size text₀) × (length ≤ size text)
 
 abbrev μ-loop : tie.MeasureT-loop
-μ-loop fd text₀ from length₀ text length = size text₀ - length
+μ-loop fd text₀ from a-line length₀ text length = size text₀ - length
 
 loop-holds : tie.Need-loop-holds Inv-loop μ-loop
 loop-holds c = search needs
@@ -49,7 +50,7 @@ same-length-2 : tie.Need-same-length-2 Inv-loop μ-loop
 same-length-2 c = search needs
 
 returns-2 : tie.Need-returns-2 Inv-loop μ-loop
-returns-2 c = search needs
+returns-2 c = (counts _ _ (search needs), search needs)
 
 add-next : tie.Need-add-next Inv-loop μ-loop
 add-next c = search needs
@@ -61,7 +62,7 @@ same-length-3 : tie.Need-same-length-3 Inv-loop μ-loop
 same-length-3 c = search needs
 
 returns-3 : tie.Need-returns-3 Inv-loop μ-loop
-returns-3 c = search needs
+returns-3 c = (counts _ _ (search needs), search needs)
 
 loop-less : tie.Need-loop-less Inv-loop μ-loop
 loop-less c = search needs
@@ -73,7 +74,7 @@ same-length-4 : tie.Need-same-length-4 Inv-loop μ-loop
 same-length-4 c = search needs
 
 returns-4 : tie.Need-returns-4 Inv-loop μ-loop
-returns-4 c = search needs
+returns-4 c = (counts _ _ (search needs), search needs)
 
 pub read-on-spec : {M : Type 1} → statement M
 read-on-spec =
