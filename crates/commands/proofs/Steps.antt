@@ -1,22 +1,19 @@
 -- What is printed of a session's step: its refusal, the spread's, or the row. Assumes nothing.
-use mathlib.Core.Path.{_≡_, refl, _∙_}
+use mathlib.Core.Path.{_≡_, refl}
 use mathlib.Core.Bool.{true, false}
 use mathlib.Core.List.{List, []}
 use Prim.Native.Nat.{ℕ, zero, suc, _-_, _≤_}
 use native.Mathlib.Omega.{arith}
-use lib.Dec.{eqb}
 use lib.ListN.{length, replicate}
-use borrow.Author.Tests.{eqb-false}
 use Rattle.numbers.specs.Lists.{padded}
 use Rattle.stack.specs.Stack.{Stack}
 use Rattle.stack.specs.Value.{tracks, columns}
 use Rattle.text.specs.Text.{Refusal, or-else}
 use Rattle.text.specs.Outcome.{refusal-of, is-accepted}
 use Rattle.text.specs.declared.Outcome.{Outcome}
-use Rattle.text.proofs.Refusals.{or-else-refused, or-else-next, when-fine, accepted-fine, refused-number}
+use Rattle.text.proofs.Refusals.{or-else-refused, or-else-next, accepted-fine, refused-number}
 use Rattle.writing.specs.TableText.{row-text}
 use Rattle.writing.specs.Output.{row-of, Row-asks}
-use Rattle.reply.specs.Refusals.{narrow-refusal}
 use Rattle.reply.specs.declared.PlacementAnswer.{PlacementAnswer}
 use Rattle.spread.specs.Answers.{placed-is}
 use Rattle.spread.specs.Best.{Answered, Answered-or}
@@ -27,6 +24,7 @@ use Rattle.session.specs.Value.{held-of}
 use Rattle.session.specs.declared.Session.{Session}
 use Rattle.session.proofs.Values.{strips-long, channels-long}
 use Rattle.session.proofs.Made.{made-built, built-few}
+use Rattle.session.proofs.Spreads.{some-strip}
 use Rattle.commands.specs.Output.{Printed, Replied, Step-printed}
 use Rattle.commands.specs.declared.Reply.{Reply}
 use Rattle.commands.proofs.Printing.{refused-any, accepted-replied, accepted-number, placed-row, answered-outcome}
@@ -75,14 +73,11 @@ module _ (o : Outcome) (k : Stack) (s : ℕ) (out : List ℕ) (r : Reply) where
 
 -- THE ROW of a session
 module _ (n : Session) (s v : ℕ) (p : PlacementAnswer) (place : Session-placement-says (held-of n) s v p) (h : is-accepted (p .outcome) ≡ true) where
-  not-empty : n .count ≡ 0 → ⊥
-  unfolding Session-placement-says session-refusal
-  not-empty z =
+  pub strip-there : 1 ≤ n .count
+  unfolding Session-placement-says
+  strip-there =
       let none = placed-row (session-refusal (held-of n) s) (held-of n) s v p h place .none-refused in
-      eqb-false (length (held-of n .strips)) 0 (when-fine (eqb (length (held-of n .strips)) 0) 12 0 0 (narrow-refusal (held-of n) s) none .0) (strips-long n ∙ z)
-
-  pub some-strip : 1 ≤ n .count
-  some-strip = omega (arith, not-empty)
+      omega (arith, some-strip (held-of n) s none, strips-long n)
 
   pub step-asked : Made (held-of n) → Row-asks (n .count - 1) v (p .separations)
   unfolding Session-placement-says

@@ -30,12 +30,13 @@ use Rattle.session.specs.declared.Session.{Session}
 use Rattle.session.proofs.Values.{strips-long}
 use Rattle.session.proofs.Made.{made-built, built-within, built-rising, built-count}
 
+-- where a spread is not refused there is a strip
+pub some-strip : (k : Stack) (s : ℕ) → session-refusal k s .number ≡ 0 → length (k .strips) ≡ 0 → ⊥
+unfolding session-refusal
+some-strip k s e = eqb-false (length (k .strips)) 0 (when-fine (eqb (length (k .strips)) 0) 12 0 0 (narrow-refusal k s) e .0)
+
 -- THE THIRD DEMAND of what is returned
 module _ (k : Stack) (s : ℕ) (m : Made k) where
-  some-strip : session-refusal k s .number ≡ 0 → length (k .strips) ≡ 0 → ⊥
-  unfolding session-refusal
-  some-strip e = eqb-false (length (k .strips)) 0 (when-fine (eqb (length (k .strips)) 0) 12 0 0 (narrow-refusal k s) e .0)
-
   pub total-both : (r : TotalAnswer) → Session-total-says k s r → Session-total-says k s r × Best-total (session-refusal k s) k s r
   unfolding Session-total-says
   total-both r t = (t, total-best (session-refusal k s) k s r (λ e. built-rising k (made-built k m)) t)
@@ -43,7 +44,7 @@ module _ (k : Stack) (s : ℕ) (m : Made k) where
   pub placement-both : (v : ℕ) (r : PlacementAnswer) → Session-placement-says k s v r → Session-placement-says k s v r × Best-placement (session-refusal k s) k s v r
   unfolding Session-placement-says
   placement-both v r p =
-      (p, placement-best (session-refusal k s) k s v r (λ e. built-rising k (made-built k m)) (λ e. built-count k (made-built k m) (some-strip e)) p)
+      (p, placement-best (session-refusal k s) k s v r (λ e. built-rising k (made-built k m)) (λ e. built-count k (made-built k m) (some-strip k s e)) p)
 
 -- WHAT IS HELD, by the number of strips
 module _ (s : Session) (w : ℕ) where

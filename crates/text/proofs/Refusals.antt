@@ -118,9 +118,7 @@ or-else-none o f e = go (eqb (f .number) 0) refl
 
 -- the first of two outcomes that is a refusal
 pub next-taken : (o n : Outcome) → o ≡ Accepted → refusal-of n ≡ or-else (refusal-of o) (refusal-of n)
-unfolding or-else fine refusal
-next-taken o n e = rw e
+next-taken o n e = sym (or-else-next (refusal-of o) (refusal-of n) (ap refusal-of e))
 
 pub refusal-kept : (o : Outcome) (r : Refused-struct) (n : Outcome) → o ≡ Refused r → refusal-of (Refused r) ≡ or-else (refusal-of o) (refusal-of n)
-unfolding or-else
-refusal-kept o r n e = rw (e, ne-eqb (refusal-of (Refused r) .number) 0 (refused-number (Refused r) refl))
+refusal-kept o r n e = rw e (sym (or-else-refused (refusal-of (Refused r)) (refusal-of n) (refused-number (Refused r) refl)))

@@ -3,7 +3,7 @@ use mathlib.Core.Path.{sym, _∙_}
 use borrow.Author.Tests.{not-true, not-false}
 use Rattle.session.proofs.Values.{channels-long}
 use Rattle.commands.proofs.Printing.{put-printed}
-use Rattle.commands.proofs.Steps.{step-refused, spread-refused, step-row, some-strip, step-asked}
+use Rattle.commands.proofs.Steps.{step-refused, spread-refused, step-row, strip-there, step-asked}
 use borrow.Author.Needs.{needs}
 use Rattle.commands.proofs.put_step.Statement.{statement}
 use Rattle.commands.proofs.put_step.Tie as tie
@@ -41,7 +41,7 @@ returns-2 c =
 sub-put-row : tie.Need-sub-put-row
 sub-put-row c =
     let a = c .before .before .before .before .before .before .before .before .before .before .args in
-    some-strip (a .session) _ _ (c .before .before .before .before .before .place-total .result) (c .before .before .before .before .before .place-total .ensures .0) (sym (c .before .before .before .before .is-accepted2 .ensures) ∙ not-false _ (c .before .before .before .if2 .left))
+    strip-there (a .session) _ _ (c .before .before .before .before .before .place-total .result) (c .before .before .before .before .before .place-total .ensures .0) (sym (c .before .before .before .before .is-accepted2 .ensures) ∙ not-false _ (c .before .before .before .if2 .left))
 
 put-row-requires : tie.Need-put-row-requires
 put-row-requires c κs =
