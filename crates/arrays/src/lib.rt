@@ -33,6 +33,11 @@ pub type StripSpans = [[u32; Stack::TOTALS]; 2];
 
 pub type SpanTable = [StripSpans; Stack::STRIPS];
 
+// The growing ends of the windows, and of a strip's spans, with a place for each total: raised by the bias, 0 for none.
+pub type WindowGrowths = [u64; Stack::STRIPS];
+
+pub type StripGrowths = [u64; Stack::TOTALS];
+
 // A span of positions: from ≤ x < upto.
 pub struct Span {
     pub from: u64,

@@ -11,12 +11,12 @@ use Rattle.spans.specs.Spans.{span}
 use Rattle.spans.specs.Solver.{first-open, most, back}
 use Rattle.arrays.specs.Arrays.{bias, greatest-end, entry, sides, leasts-in, sums-in, Given, low-of, high-of, last-of, window-of, levels, span-in, Stack-asks, In-band}
 use Rattle.arrays.proofs.Levels.{most-step, most-fewer, most-small, least-at, above-at, cell-back, back-ends}
-use Rattle.scan.specs.Scan.{put-span, Strip-asks}
+use Rattle.scan.specs.Scan.{cell-at, put-span, Strip-asks}
 use Rattle.scan.specs.declared.Cell.{Cell}
 use Rattle.scan.proofs.Scans.{cell-of}
 use Rattle.scan.proofs.Tables.{put-same, put-apart, sized-put}
 use Rattle.band.proofs.Strips.{starts-same, ends-same}
-use Rattle.band.specs.Band.{cell-at, Strip-asked, Strip-filled, Band-asks, Banding}
+use Rattle.band.specs.Band.{Strip-asked, Strip-filled, Band-asks, Banding}
 
 -- the band from its first total on
 band-from : (v used all j first u : ℕ) → first ≡ min used (v + used - (all + j)) → (u ≡ used) ⊎ (v + used ≤ u + (all + j)) → first ≤ u

@@ -8,11 +8,11 @@ use Rattle.numbers.proofs.Orders.{lt-or-eq}
 use Rattle.spans.specs.Spans.{Span}
 use Rattle.spans.specs.Solver.{cell}
 use Rattle.arrays.specs.Arrays.{bias, sides, low-in, high-in, span-at, span-in}
-use Rattle.scan.specs.Scan.{window-in, Strip-asks, Strip-done, Empty-on}
+use Rattle.scan.specs.Scan.{cell-at, window-in, Strip-asks, Strip-done, Empty-on}
 use Rattle.scan.specs.declared.Cell.{Cell}
 use Rattle.scan.proofs.Tables.{put-same, put-apart, put-others, sized-put}
 use Rattle.scan.proofs.Scanning.{short-empty}
-use Rattle.band.specs.Band.{cell-at, Strip-asked, Strip-filled}
+use Rattle.band.specs.Band.{Strip-asked, Strip-filled}
 
 -- spans that are equal have equal ends
 pub starts-same : {x y : Span} → x ≡ y → x .from ≡ y .from

@@ -6,12 +6,8 @@ use Rattle.stack.specs.Sizes.{strips-held, totals-held}
 use Rattle.spans.specs.Spans.{span}
 use Rattle.spans.specs.Solver.{cell}
 use Rattle.arrays.specs.Arrays.{bias, greatest-end, sides, low-in, high-in, Given, Sized, span-in, Stack-asks, Banded}
-use Rattle.scan.specs.Scan.{window-in, Strip-asks}
+use Rattle.scan.specs.Scan.{window-in, cell-at, Strip-asks}
 use Rattle.scan.specs.declared.Cell.{Cell}
-
--- the cell of the same strip at total v
-abbrev pub cell-at : Cell → (v : ℕ) → Cell
-cell-at c v = record { i = c .i; v = v; least = c .least; last = c .last; above = c .above; empty = c .empty; from = c .from; upto = c .upto }
 
 -- what one strip asks for the totals from the cell's to last: each cell of it can be worked out, and the totals before have empty spans
 pub record Strip-asked (limits : List (List ℕ)) (c : Cell) (last : ℕ) (t : List (List (List ℕ))) : Type 0 where

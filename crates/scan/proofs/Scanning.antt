@@ -199,7 +199,7 @@ module _ (limits spans : List (List ℕ)) (v start stop q : ℕ) (w : Span) (e :
       record { small = d .small; span-is = ap₂ (between bias w) near reach; short-is = ap₂ (shortfall bias w) near reach }
 
 -- the separations tried end no later than those of use, and those left out leave a total below the first that is not empty
-tried-less : (last v empty first : ℕ) → min (last + 1) (v + 1 - empty) - first ≤ stop last v - first
+pub tried-less : (last v empty first : ℕ) → min (last + 1) (v + 1 - empty) - first ≤ stop last v - first
 tried-less last v empty first = let h : min (last + 1) (v + 1 - empty) ≤ stop last v = omega arith in omega arith
 
 untried : (last v empty first end q : ℕ) → end ≡ min (last + 1) (v + 1 - empty) → first + (end - first) ≤ q → q < first + (stop last v - first) → v - q < empty
@@ -242,15 +242,15 @@ module _ (limits : List (List ℕ)) (c : Cell) (t : List (List (List ℕ))) (fir
         ends = λ u h. a .ends u (omega arith) (left-over u h);
       }
 
-  left-empty : (q : ℕ) → first + (end - first) ≤ q → q < first + (stop (c .last) (c .v) - first) → nonempty (above-spans (c .v - q)) ≡ false
+  pub left-empty : (q : ℕ) → first + (end - first) ≤ q → q < first + (stop (c .last) (c .v) - first) → nonempty (above-spans (c .v - q)) ≡ false
   left-empty q h k =
       le-ltb (above-spans (c .v - q) .from) (above-spans (c .v - q) .upto)
       (a .empties (c .v - q) (untried (c .last) (c .v) (c .empty) first end q e h k) (left-over (c .v - q) (left-of first (c .v) q (omega arith) (within (c .last) (c .v) first q k (omega arith)))))
 
-  near-tried : nearest bias (high-in limits) (λ q. above-spans (c .v - q)) first (end - first) bias ≡ near-of bias bias (high-in limits) (c .least) (c .last) (c .above) above-spans (c .v)
+  pub near-tried : nearest bias (high-in limits) (λ q. above-spans (c .v - q)) first (end - first) bias ≡ near-of bias bias (high-in limits) (c .least) (c .last) (c .above) above-spans (c .v)
   near-tried = rw (← s) (nearest-cut bias (high-in limits) (λ q. above-spans (c .v - q)) first (end - first) (stop (c .last) (c .v) - first) bias (rw e (tried-less (c .last) (c .v) (c .empty) first)) left-empty)
 
-  reach-tried : furthest bias (low-in limits) (λ q. above-spans (c .v - q)) first (end - first) 0 ≡ reach-of bias (low-in limits) (c .least) (c .last) (c .above) above-spans (c .v)
+  pub reach-tried : furthest bias (low-in limits) (λ q. above-spans (c .v - q)) first (end - first) 0 ≡ reach-of bias (low-in limits) (c .least) (c .last) (c .above) above-spans (c .v)
   reach-tried = rw (← s) (furthest-cut bias (low-in limits) (λ q. above-spans (c .v - q)) first (end - first) (stop (c .last) (c .v) - first) 0 (rw e (tried-less (c .last) (c .v) (c .empty) first)) left-empty)
 
   -- one cell, from ends whose span and shortfall are those of the separations tried

@@ -26,7 +26,7 @@ use Rattle.scan.proofs.Scanning.{cell-none, short-empty}
 use Rattle.arrays.proofs.Levels.{last-is, most-step, least-at, above-at, cell-back, back-ends, open-of, low-at-of, high-at-of, in-use as use-within}
 
 -- A SHORTFALL from the arrays is that of the levels
-nearest-same : (b : ℕ) (high₁ high₂ : ℕ → ℕ) (f₁ f₂ : ℕ → Span) (q n t : ℕ) → ((j : ℕ) → q ≤ j → j < q + n → (high₁ j ≡ high₂ j) × (f₁ j ≡ f₂ j)) →
+pub nearest-same : (b : ℕ) (high₁ high₂ : ℕ → ℕ) (f₁ f₂ : ℕ → Span) (q n t : ℕ) → ((j : ℕ) → q ≤ j → j < q + n → (high₁ j ≡ high₂ j) × (f₁ j ≡ f₂ j)) →
     nearest b high₁ f₁ q n t ≡ nearest b high₂ f₂ q n t
 unfolding nearest
 nearest-same b high₁ high₂ f₁ f₂ q zero t h = refl
@@ -34,7 +34,7 @@ nearest-same b high₁ high₂ f₁ f₂ q (suc n) t h =
     let e = h q (omega arith) (omega arith) in
     rw (e .0, e .1) (nearest-same b high₁ high₂ f₁ f₂ (suc q) n _ (λ j k m. h j (omega arith) (omega arith)))
 
-furthest-same : (b : ℕ) (low₁ low₂ : ℕ → ℕ) (f₁ f₂ : ℕ → Span) (q n t : ℕ) → ((j : ℕ) → q ≤ j → j < q + n → (low₁ j ≡ low₂ j) × (f₁ j ≡ f₂ j)) →
+pub furthest-same : (b : ℕ) (low₁ low₂ : ℕ → ℕ) (f₁ f₂ : ℕ → Span) (q n t : ℕ) → ((j : ℕ) → q ≤ j → j < q + n → (low₁ j ≡ low₂ j) × (f₁ j ≡ f₂ j)) →
     furthest b low₁ f₁ q n t ≡ furthest b low₂ f₂ q n t
 unfolding furthest
 furthest-same b low₁ low₂ f₁ f₂ q zero t h = refl
@@ -110,7 +110,7 @@ positive : {j : ℕ} (n : ℕ) → (n ≡ 0 → ⊥) → 0 < j → 0 < min j n
 positive zero h l = absurd (h refl)
 positive (suc n) h l = omega arith
 
-nothing-tried : (least last above empty u : ℕ) → u < least + empty → min (last + 1) (u + 1 - empty) ≤ max least (u - above)
+pub nothing-tried : (least last above empty u : ℕ) → u < least + empty → min (last + 1) (u + 1 - empty) ≤ max least (u - above)
 nothing-tried least last above empty u h = let k : u + 1 - empty ≤ least = omega arith in omega arith
 
 empties-below : (k v i j : ℕ) (table : List (List (List ℕ))) (es : List ℕ) → j ≤ i → Empties-are k v i table es → Empties-are k v j table es

@@ -64,6 +64,10 @@ pub record Stretching (b : ℕ) (low high : ℕ → ℕ) (f : ℕ → Span) (sto
 abbrev pub window-in : Cell → Span
 window-in c = span (c .from) (c .upto)
 
+-- the cell of the same strip at total v
+abbrev pub cell-at : Cell → (v : ℕ) → Cell
+cell-at c v = record { i = c .i; v = v; least = c .least; last = c .last; above = c .above; empty = c .empty; from = c .from; upto = c .upto }
+
 -- what one cell asks; in the strip above the totals below empty have empty spans
 pub record Strip-asks (limits : List (List ℕ)) (c : Cell) (t : List (List (List ℕ))) : Type 0 where
   pub channel : c .i < channels-held

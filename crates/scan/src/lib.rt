@@ -26,9 +26,9 @@ use arrays::UPTO;
 use arrays::Windows;
 
 // Of spans shifted back: the nearest start and the furthest end, each raised by the bias once more.
-struct Ends {
-    near: u64,
-    reach: u64,
+pub struct Ends {
+    pub near: u64,
+    pub reach: u64,
 }
 
 // Strip i at total v: its window, the separations of its channel from the least open one to the last of use, what the channels above can use, and below
@@ -73,7 +73,7 @@ fn stretch(e: Ends, from: u64, upto: u64, low: u64, high: u64) -> Ends
 }
 
 // The ends stretched by the spans of the strip above for what separations from start to below stop leave of total v, each shifted back by its limit.
-fn reach_back(
+pub fn reach_back(
     limits: &ChannelLimits,
     spans: &StripSpans,
     v: usize,
@@ -135,14 +135,14 @@ fn ends_in(
 }
 
 // The first separation of use in a channel at a total of use: an open one that leaves no more than the levels above can use.
-fn start_above(least: usize, above: usize, v: usize) -> usize
+pub fn start_above(least: usize, above: usize, v: usize) -> usize
     ensures { λ r. ⌜ r ≡ max least (v - above) ⌝ }
 {
     greater(least as u64, difference(v as u64, above as u64)) as usize
 }
 
 // One past the last separation of use that leaves a total of empty or more.
-fn stop_above(last: usize, v: usize, empty: usize) -> usize
+pub fn stop_above(last: usize, v: usize, empty: usize) -> usize
     requires { ⌜ (last < separations-held) × (v < totals-held) ⌝ }
     ensures { λ r. ⌜ r ≡ min (last + 1) (v + 1 - empty) ⌝ }
 {

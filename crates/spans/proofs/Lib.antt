@@ -9,4 +9,5 @@ pub mod Separations
 pub mod Positions
 pub mod Chosen
 pub mod Jump
+pub mod Growths
 pub mod TwoSpans

@@ -12,10 +12,13 @@ use lib.ListN.{getD}
 use borrow.Author.Tests.{leb-true, eqb-true, eqb-false, not-true, le-leb}
 use Rattle.numbers.proofs.Bools.{and-left, and-right, and-both}
 use Rattle.numbers.proofs.Orders.{le-or-lt, lt-or-eq}
-use Rattle.stack.specs.Stack.{Stack, stack, pair, channel, p-at, q-at, left-good, right-good, every, in-spread, channels-good, wirable, edge-clear, feasible, legal, sum}
+use Rattle.stack.specs.Stack.{Strip, strip, free, Stack, stack, pair, channel, p-at, q-at, left-good, right-good, every, in-window, stands, in-spread, channels-good, wirable, edge-clear, feasible, legal, sum}
+
+abbrev strips : List Strip
+strips = strip 2 free ∷ strip 1 free ∷ strip 2 free ∷ []
 
 abbrev pub card : Stack
-card = stack (2 ∷ 1 ∷ 2 ∷ []) (channel (pair 0 1 ∷ []) 0 ∷ channel (pair 0 2 ∷ []) 0 ∷ [])
+card = stack strips (channel (pair 0 1 ∷ []) 0 ∷ channel (pair 0 2 ∷ []) 0 ∷ [])
 
 abbrev placed : (t u x y z : ℕ) → Bool
 placed t u x y z = legal card 3 (t ∷ u ∷ []) (x ∷ y ∷ z ∷ [])
@@ -45,7 +48,7 @@ good : (t u x y z : ℕ) → Bool
 good t u x y z = not (placed t u x y z && leb (t + u) 2) || (eqb (t + u) 2 && not (eqb y 1))
 
 all-good : tested good ≡ true
-unfolding tested good every legal in-spread channels-good feasible edge-clear wirable left-good right-good p-at q-at stack pair
+unfolding tested good every legal in-spread stands in-window channels-good feasible edge-clear wirable left-good right-good p-at q-at stack pair
 all-good = refl
 
 -- a legal placement has three positions, none above 3, and two separations
@@ -61,25 +64,29 @@ record Three (ys : List ℕ) : Type 0 where
 wrong : {A : Type 0} → false ≡ true → A
 wrong e = let z : _≡_ {A = ℕ} 0 1 = cc in absurd (omega arith)
 
-three : (ys : List ℕ) → in-spread 3 (2 ∷ 1 ∷ 2 ∷ []) ys ≡ true → Three ys
+fits : (x : ℕ) (l : Strip) → stands 3 l x ≡ true → x + l .length ≤ 3
+unfolding stands
+fits x l e = leb-true (x + l .length) 3 (and-left (leb (x + l .length) 3) _ e)
+
+three : (ys : List ℕ) → in-spread 3 strips ys ≡ true → Three ys
 unfolding in-spread
 three [] e = wrong e
-three (x ∷ []) e = wrong (and-right (leb (x + 2) 3) _ e)
-three (x ∷ y ∷ []) e = wrong (and-right (leb (y + 1) 3) _ (and-right (leb (x + 2) 3) _ e))
+three (x ∷ []) e = wrong (and-right (stands 3 (strip 2 free) x) _ e)
+three (x ∷ y ∷ []) e = wrong (and-right (stands 3 (strip 1 free) y) _ (and-right (stands 3 (strip 2 free) x) _ e))
 three (x ∷ y ∷ z ∷ []) e =
-    let f : _ = and-right (leb (x + 2) 3) _ e in
-    let g : _ = and-right (leb (y + 1) 3) _ f in
+    let f : _ = and-right (stands 3 (strip 2 free) x) _ e in
+    let g : _ = and-right (stands 3 (strip 1 free) y) _ f in
     record {
       x = x;
       y = y;
       z = z;
       are = refl;
-      x-small = omega (arith, leb-true (x + 2) 3 (and-left (leb (x + 2) 3) _ e));
-      y-small = omega (arith, leb-true (y + 1) 3 (and-left (leb (y + 1) 3) _ f));
-      z-small = omega (arith, leb-true (z + 2) 3 (and-left (leb (z + 2) 3) _ g));
+      x-small = omega (arith, fits x (strip 2 free) (and-left (stands 3 (strip 2 free) x) _ e));
+      y-small = omega (arith, fits y (strip 1 free) (and-left (stands 3 (strip 1 free) y) _ f));
+      z-small = omega (arith, fits z (strip 2 free) (and-left (stands 3 (strip 2 free) z) _ g));
     }
 three (x ∷ y ∷ z ∷ w ∷ ys) e =
-    wrong (and-right (leb (z + 2) 3) _ (and-right (leb (y + 1) 3) _ (and-right (leb (x + 2) 3) _ e)))
+    wrong (and-right (stands 3 (strip 2 free) z) _ (and-right (stands 3 (strip 1 free) y) _ (and-right (stands 3 (strip 2 free) x) _ e)))
 
 record Two (us : List ℕ) : Type 0 where
   t : ℕ
@@ -131,7 +138,7 @@ pub record Two-spans : Type 0 where
   pub gap : (us ys : List ℕ) → legal card 3 us ys ≡ true → sum us ≡ 2 → getD ys 1 0 ≡ 1 → ⊥
 
 pub middle-strip-in-two-spans : Two-spans
-unfolding every legal in-spread channels-good feasible edge-clear wirable left-good right-good p-at q-at stack pair
+unfolding every legal in-spread stands in-window channels-good feasible edge-clear wirable left-good right-good p-at q-at stack pair
 middle-strip-in-two-spans =
     record {
       left = refl;

@@ -1,20 +1,10 @@
--- How far the spread may grow before a span that is empty can fill. Assumes nothing: these are definitions.
--- In a spread wider by d each window's end is d further right. A span that is not empty then only has its end moved by d, and one that is empty stays
--- so, unless it is short by no more than d. So from one spread to the next event nothing has to be worked out: see proofs/Jump.antt.
-use mathlib.Core.Path.{_≡_}
+-- By how much a span that is empty is short, if every window's end grows with the spread. Assumes nothing: these are definitions.
+-- A cell of the solver is taken apart into its nearest start and its furthest end. See specs/Growth.antt for windows whose ends do not all grow.
 use mathlib.Core.Bool.{Bool, true, false}
-use mathlib.Core.List.{List, [], _∷_}
-use Prim.Native.Nat.{ℕ, zero, suc, _+_, _*_, _-_, _≤_, _<_, min, max}
+use mathlib.Core.List.{List}
+use Prim.Native.Nat.{ℕ, zero, suc, _+_, _*_, _-_, min, max}
 use Rattle.spans.specs.Spans.{Span, span, last, low-at, high-at, nonempty}
-use Rattle.spans.specs.Solver.{Level, level, least-open, most, start, stop, back}
-
--- a window in a spread wider by d
-abbrev pub widened : (d : ℕ) → Span → Span
-widened d w = span (w .from) (w .upto + d)
-
-unfoldable pub widened-levels : (d : ℕ) → List Level → List Level
-widened-levels d [] = []
-widened-levels d (c ∷ cs) = level (c .limits) (widened d (c .window)) ∷ widened-levels d cs
+use Rattle.spans.specs.Solver.{Level, least-open, most, start, stop, back}
 
 abbrev pub min-if : Bool → (x t : ℕ) → ℕ
 min-if true x t = min t x
@@ -56,19 +46,3 @@ cell-short b far low high o m a f w v = shortfall b w (near-of b far high o m a 
 abbrev pub short-at : (b far : ℕ) → Span → Level → List Level → (v : ℕ) → ℕ
 short-at b far w c cs v =
     cell-short b far (low-at (c .limits)) (high-at (c .limits)) (least-open (c .limits)) (last (c .limits)) (most cs) (λ u. back b (c .window) cs u) w v
-
--- a span s and what becomes of it in a spread wider by d
-pub record Grows (d : ℕ) (s t : Span) : Type 0 where
-  pub filled : s .from < s .upto → (t .from ≡ s .from) × (t .upto ≡ s .upto + d)
-  pub empty : s .upto ≤ s .from → t .upto ≤ t .from
-
--- the top strip has a position, no window's end reaches beyond far in the wider spread, and no lower limit is above twice the bias
-unfoldable pub Roomy : (b far d : ℕ) → Span → List Level → Type 0
-Roomy b far d w [] = w .from < w .upto
-Roomy b far d w (c ∷ cs) = (w .upto + d ≤ far) × ((q : ℕ) → low-at (c .limits) q ≤ 2 * b) × Roomy b far d (c .window) cs
-
--- no span for a total of at most v is short by d or less
-unfoldable pub None-within : (b far d v : ℕ) → Span → List Level → Type 0
-None-within b far d v w [] = zero ≡ zero
-None-within b far d v w (c ∷ cs) =
-    ((u : ℕ) → u ≤ v → u ≤ most (c ∷ cs) → 0 < short-at b far w c cs u → d < short-at b far w c cs u) × None-within b far d v (c .window) cs

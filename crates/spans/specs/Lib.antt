@@ -3,3 +3,4 @@ pub mod Spans
 pub mod Solver
 pub mod Placed
 pub mod Jump
+pub mod Growth

@@ -1,0 +1,2 @@
+-- What the jump by growing ends asks for and leaves.
+pub mod Growth
