@@ -6,7 +6,7 @@ use Prim.Native.String.{String}
 use lib.ListN.{length, drop}
 use Rattle.text.specs.Outcome.{number-of}
 use Rattle.text.specs.declared.Refusal.{Refusal as Why}
-use Rattle.text.specs.declared.Refusal.the-variants.{Overlong, Layout, Crowd, Length, Overhang, Crossing, Narrow, ShortSpace, Broad, Unmet, Count, IllFormed, Empty}
+use Rattle.text.specs.declared.Refusal.the-variants.{Overlong, Layout, Crowd, Length, Overhang, Crossing, Narrow, ShortSpace, Broad, Unmet, Count, IllFormed, Empty, Inverted}
 use Rattle.writing.specs.TableText.{digits-from, digits}
 use Rattle.complaint.specs.Complaint.{bytes, meaning}
 
@@ -24,6 +24,7 @@ word Unmet = "unmet"
 word Count = "count"
 word IllFormed = "number"
 word Empty = "empty"
+word Inverted = "window"
 
 pub bracketed : Why → List ℕ
 bracketed w = bytes " (" ++ digits (number-of w) ++ bytes ", " ++ bytes (word w) ++ bytes ")"
@@ -46,3 +47,4 @@ numbered Unmet = refl
 numbered Count = refl
 numbered IllFormed = refl
 numbered Empty = refl
+numbered Inverted = refl

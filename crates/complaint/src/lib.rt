@@ -31,7 +31,7 @@ const OVERHANG: [u8; 48] = *b"terminal beyond its strip's length (5, overhang)";
 
 const CROSSING: [u8; 61] = *b"terminal or channel not above the one before it (6, crossing)";
 
-const NARROW: [u8; 42] = *b"spread below the longest strip (7, narrow)";
+const NARROW: [u8; 40] = *b"spread below the first row's (7, narrow)";
 
 const SHORT_SPACE: [u8; 71] =
     *b"output space shorter than the whole text to be written (8, short space)";
@@ -45,6 +45,8 @@ const COUNT: [u8; 66] = *b"wrong count of fields, here the first missing or extr
 const ILL_FORMED: [u8; 30] = *b"ill-formed number (12, number)";
 
 const EMPTY: [u8; 61] = *b"session without a strip, or with none to take off (13, empty)";
+
+const INVERTED: [u8; 46] = *b"least position above the greatest (14, window)";
 
 // A refusal's meaning in front of a place.
 fn meaning_before(room: &mut [u8], end: usize, why: Refusal) -> usize
@@ -65,6 +67,7 @@ fn meaning_before(room: &mut [u8], end: usize, why: Refusal) -> usize
         Refusal::Count => word_before(room, end, &COUNT),
         Refusal::IllFormed => word_before(room, end, &ILL_FORMED),
         Refusal::Empty => word_before(room, end, &EMPTY),
+        Refusal::Inverted => word_before(room, end, &INVERTED),
     }
 }
 

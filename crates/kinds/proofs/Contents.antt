@@ -2,20 +2,32 @@
 use mathlib.Core.Path.{_≡_, refl}
 use mathlib.Core.Bool.{Bool, true, false, _&&_, not}
 use mathlib.Core.List.{List, [], _∷_}
-use Prim.Native.Nat.{ℕ, suc, _+_, _≤_}
+use Prim.Native.Nat.{ℕ, suc, _+_, _≤_, _<_}
 use native.Mathlib.Omega.{arith}
 use lib.Dec.{ltb, leb}
-use lib.ListN.{length}
+use lib.ListN.{length, getD}
 use borrow.Author.Tests.{leb-false, ltb-false, le-leb, lt-ltb}
 use Rattle.stack.specs.Stack.{pair}
-use Rattle.stack.specs.Limits.{rises-above, rising, on-strips, pairs-within}
-use Rattle.text.specs.Text.{Entry, first-of, fault-at, part-content, terminals-refusal, nets-content, pairs-of}
-use Rattle.text.proofs.Refusals.{when-fine, only-fine}
+use Rattle.stack.specs.Limits.{rises-above, rising, on-strips, pairs-within, window-within, strip-within}
+use Rattle.text.specs.Text.{fine, Entry, first-of, second-of, third-of, fault-at, part-content, terminals-refusal, nets-content, pairs-of, window-in, strip-in}
+use Rattle.text.proofs.Refusals.{when-fine, unless-fine}
 use Rattle.kinds.proofs.Nets.{pairs-length}
 
-pub strip-within : (e : Entry) → part-content e .number ≡ 0 → (leb 1 (first-of e) && leb (first-of e) 1000) ≡ true
-unfolding part-content fault-at
-strip-within e h = only-fine (leb 1 (first-of e) && leb (first-of e) 1000) 3 (e .origin) (e .shift + 2) h
+-- a window whose least position is not above the greatest, which has at most four digits
+window-fine : (ns : List ℕ) → ltb (getD ns 2 0) (getD ns 1 0) ≡ false → getD ns 2 0 < 10000 → window-within (window-in ns) ≡ true
+unfolding window-in window-within
+window-fine [] h few = refl
+window-fine (l ∷ []) h few = refl
+window-fine (l ∷ a ∷ []) h few = refl
+window-fine (l ∷ a ∷ e ∷ ns) h few = rw (le-leb a e (ltb-false e a h), le-leb e 9999 (omega arith))
+
+pub strip-fine : (e : Entry) → part-content e .number ≡ 0 → getD (e .numbers) 2 0 < 10000 → strip-within (strip-in (e .numbers)) ≡ true
+unfolding part-content fault-at strip-within strip-in first-of second-of third-of
+strip-fine e h few =
+    let ns = e .numbers in
+    let u = unless-fine (leb 1 (getD ns 0 0) && leb (getD ns 0 0) 1000) 3 (e .origin) (e .shift + 2) _ h in
+    let w = when-fine (ltb (getD ns 2 0) (getD ns 1 0)) 13 (e .origin) (e .shift + 4) fine (u .1) in
+    rw (u .0) (window-fine ns (w .0) few)
 
 module _ (lo hi n : ℕ) where
   -- the tests of one pair, and the pairs behind it

@@ -1,5 +1,6 @@
 -- The laws of what the readers of each kind of line answer.
-pub mod Singles
+pub mod Heads
+pub mod Parts
 pub mod Nets
 pub mod Contents
 pub mod Gaps

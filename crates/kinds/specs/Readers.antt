@@ -1,14 +1,19 @@
 -- What the reader of each kind of line answers. Assumes nothing: these are definitions.
 use mathlib.Core.Path.{_≡_}
+use mathlib.Core.Bool.{true}
 use mathlib.Core.List.{List, [], _∷_}
 use Prim.Native.Nat.{ℕ, _+_, _%_, _<_}
 use lib.ListN.{length, getD}
 use Rattle.lines.specs.Lines.{Line, numbers-of}
-use Rattle.stack.specs.Value.{channel-of, stack-of}
+use Rattle.stack.specs.Limits.{strip-within}
+use Rattle.stack.specs.Value.{free-strip, strip-of, channel-of, stack-of}
 use Rattle.stack.specs.Made.{bare}
+use Rattle.stack.specs.declared.Strip.{Strip}
+use Rattle.stack.specs.declared.StripMade.{StripMade}
+use Rattle.stack.specs.declared.StripMade.the-variants.{Made, Length, Inverted}
 use Rattle.stack.specs.declared.TerminalsFound.{TerminalsFound}
 use Rattle.stack.specs.declared.TerminalsFound.the-variants.{Good, Crowd, Overhang, Crossing}
-use Rattle.text.specs.Text.{Refusal, refusal, fine, entry, stack-content, part-content, nets-content, part-kind, nets-kind, gap-kind, k-of, head-refusal, pairs-of}
+use Rattle.text.specs.Text.{Refusal, refusal, fine, entry, stack-content, part-content, nets-content, part-kind, nets-kind, gap-kind, k-of, head-refusal, pairs-of, strip-in}
 use Rattle.text.specs.Outcome.{refusal-of}
 use Rattle.text.specs.Kinds.{kind-refusal}
 use Rattle.kinds.specs.declared.Reading.{Reading}
@@ -27,14 +32,31 @@ pub record Head-read (l : Line) (r : Reading) : Type 0 where
   pub count : head-refusal (l ∷ []) .number ≡ 0 → r .stack .count ≡ k-of (l ∷ [])
   pub bare : head-refusal (l ∷ []) .number ≡ 0 → stack-of (r .stack) ≡ bare (k-of (l ∷ []))
 
--- PART at line n: its strip
-pub record Part-content (length n : ℕ) (r : PartRead) : Type 0 where
-  pub outcome : refusal-of (r .outcome) ≡ part-content (entry n 0 (length ∷ []))
-  pub strip : refusal-of (r .outcome) .number ≡ 0 → r .strip .length .0 ≡ length
+-- the refusal of line n for what a strip was made, and the strip: the shortest where none was made
+abbrev pub made-refusal : (n : ℕ) → StripMade → Refusal
+made-refusal n (Made s) = fine
+made-refusal n Length = refusal 4 n 2
+made-refusal n Inverted = refusal 14 n 4
+
+abbrev pub made-strip : StripMade → Strip
+made-strip (Made s) = s
+made-strip Length = free-strip 1
+made-strip Inverted = free-strip 1
+
+pub record Part-made (m : StripMade) (n : ℕ) (r : PartRead) : Type 0 where
+  pub outcome : refusal-of (r .outcome) ≡ made-refusal n m
+  pub strip : r .strip ≡ made-strip m
+
+-- PART at line n: the strip of its numbers; on a refusal, too, a strip within the limits
+pub record Part-content (n : ℕ) (ns : List ℕ) (r : PartRead) : Type 0 where
+  pub outcome : refusal-of (r .outcome) ≡ part-content (entry n 0 ns)
+  pub strip : refusal-of (r .outcome) .number ≡ 0 → strip-of (r .strip) ≡ strip-in ns
+  pub within : strip-within (strip-of (r .strip)) ≡ true
 
 pub record Part-read (n : ℕ) (l : Line) (r : PartRead) : Type 0 where
   pub outcome : refusal-of (r .outcome) ≡ kind-refusal part-kind n l
-  pub strip : refusal-of (r .outcome) .number ≡ 0 → r .strip .length .0 ≡ getD (numbers-of l) 0 0
+  pub strip : refusal-of (r .outcome) .number ≡ 0 → strip-of (r .strip) ≡ strip-in (numbers-of l)
+  pub within : strip-within (strip-of (r .strip)) ≡ true
 
 -- where a fault of terminals is: place i in p(0), q(0), p(1), q(1), .. is field i + 2
 abbrev pub place : TerminalsFound → ℕ

@@ -4,13 +4,14 @@ ghost use mathlib.Core.List.{[], _∷_};
 ghost use Prim.Native.Nat.{_≤_, _<_};
 ghost use lib.ListN.{length};
 ghost use Rattle.lines.specs.Lines.{line};
-ghost use Rattle.stack.specs.Value.{stack-of};
+ghost use Rattle.stack.specs.Value.{free-strip, stack-of};
 ghost use Rattle.stack.specs.Made.{bare};
 ghost use Rattle.text.specs.Text.{entry, gap-content};
 ghost use Rattle.text.specs.Outcome.{refusal-of};
 ghost use Rattle.kinds.specs.Readers.{
   Head-content,
   Head-read,
+  Part-made,
   Part-content,
   Part-read,
   place,
@@ -92,26 +93,37 @@ pub struct PartRead {
 
 impl PartRead {
     fn refused(outcome: Outcome) -> PartRead
-        ensures { λ r. ⌜ r .outcome ≡ outcome ⌝ }
+        ensures { λ r. ⌜ (r .outcome ≡ outcome) × (r .strip ≡ free-strip 1) ⌝ }
     {
         let strip = Strip {
             length: Columns(Strip::MIN_LENGTH),
+            held: false,
+            least: Columns(0),
+            greatest: Columns(0),
         };
         PartRead { outcome, strip }
     }
 }
 
-// The strip of a length that line n supplies, or why not.
-pub fn part_content(length: u32, n: u32) -> PartRead
-    ensures { λ r. ⌜ Part-content length n r ⌝ }
+// The strip that was made of the numbers that line n supplies, or why not.
+fn part_made(made: StripMade, n: u32) -> PartRead
+    ensures { λ r. ⌜ Part-made made n r ⌝ }
 {
-    match Strip::new(length) {
+    match made {
         StripMade::Made(strip) => PartRead {
             outcome: Outcome::Accepted,
             strip,
         },
         StripMade::Length => PartRead::refused(Outcome::refused(Refusal::Length, n, 2)),
+        StripMade::Inverted => PartRead::refused(Outcome::refused(Refusal::Inverted, n, 4)),
     }
+}
+
+// The free strip of a length that line n supplies, or why not.
+pub fn part_content(length: u32, n: u32) -> PartRead
+    ensures { λ r. ⌜ Part-content n (length ∷ []) r ⌝ }
+{
+    part_made(Strip::new(length), n)
 }
 
 // PART at line n: its strip, or why not.
@@ -120,12 +132,15 @@ pub fn read_part(bytes: &[u8], ended: bool, n: u32) -> PartRead
     ensures { λ r. ⌜ Part-read n (line (now (bytes .entry)) ended) r ⌝ }
 {
     let mut values = [0u32; KEPT];
-    let line = read_kind(bytes, ended, n, b"PART", Counts::Exactly(1), &mut values);
+    let line = read_kind(bytes, ended, n, b"PART", Counts::OneOrThree, &mut values);
     let layout = line.layout;
     if !layout.is_accepted() {
         return PartRead::refused(layout);
     }
-    part_content(values[0], n)
+    if line.count == 1 {
+        return part_content(values[0], n);
+    }
+    part_made(Strip::held(values[0], values[1], values[2]), n)
 }
 
 // What a NETS line is found to be, and its channel's terminals; on a refusal none.

@@ -16,15 +16,16 @@ use Rattle.lines.specs.Lines.{Line, line, lines, no-line, line-at}
 use Rattle.lines.specs.Cut.{Line-from, line-from, Next}
 use Rattle.lines.specs.declared.LineEnd.{LineEnd}
 use Rattle.lines.proofs.Places.{line-there, next-there}
-use Rattle.stack.specs.Stack.{Channel, channel, no-channel, channel-in, Stack, stack}
-use Rattle.stack.specs.Value.{strip, channel-of, length-at as struct-length, stack-of}
+use Rattle.stack.specs.Stack.{Channel, channel, no-channel, channel-in, free, Strip, strip, no-strip, Stack, stack}
+use Rattle.stack.specs.Value.{free-strip, strip-of, channel-of, stack-of}
 use Rattle.stack.specs.Made.{bare, Strip-set, Channel-set, Floor-set}
 use Rattle.stack.specs.declared.Stack.{Stack as Stack-struct}
-use Rattle.text.specs.Text.{Refusal, refusal, fine, entry, first-of, second-of, Kind, kind, layout, part-kind, nets-kind, gap-kind, check, supplied, line-check, k-of, head-refusal, head-check, part-check, length-at, nets-check, tail-at, channel-before, tail-check}
+use Rattle.stack.proofs.Within.{stack-strip}
+use Rattle.text.specs.Text.{Refusal, refusal, fine, entry, first-of, second-of, Kind, kind, layout, part-kind, nets-kind, gap-kind, check, supplied, line-check, k-of, head-refusal, head-check, part-check, length-at, nets-check, tail-at, channel-before, tail-check, strip-in}
 use Rattle.text.specs.Outcome.{refusal-of, is-accepted}
 use Rattle.text.specs.Kinds.{line-refusal, kind-refusal}
 use Rattle.kinds.specs.Readers.{Head-read, Part-read, Nets-read, Gap-read}
-use Rattle.reading.specs.Driver.{Going, Read-to, Head-taken, Parting, Part-taken, nets-pairs, Wiring, Nets-taken, floor-read, gaps-read, Gapping, Gap-taken}
+use Rattle.reading.specs.Driver.{Going, Read-to, Head-taken, strip-read, Parting, Part-taken, nets-pairs, Wiring, Nets-taken, floor-read, gaps-read, Gapping, Gap-taken}
 use Rattle.text.specs.declared.Outcome.{Outcome}
 use Rattle.reading.specs.declared.Progress.{Progress}
 use Rattle.kinds.specs.declared.Reading.{Reading}
@@ -111,9 +112,9 @@ kind-ended K ls i z = layout-ended K (suc i) (line-at ls i) (or-else-fine (layou
 
 -- PART
 pub part-taken : (bs : List ℕ) (p : Progress) (j : ℕ) (e : LineEnd) (r : PartRead) (k : Stack-struct) → Parting bs j p → j ≤ p .stack .count → Line-from bs (p .at) e →
-    Part-read (j + 2) (line (take (e .end - p .at) (drop (p .at) bs)) (e .ended)) r → Strip-set (p .stack) j (r .strip .length .0) k →
+    Part-read (j + 2) (line (take (e .end - p .at) (drop (p .at) bs)) (e .ended)) r → Strip-set (p .stack) j (strip-of (r .strip)) k →
     Part-taken bs j (record { outcome = r .outcome; at = e .end + 1; stack = k })
-unfolding stack length-at first-of supplied entry part-check
+unfolding stack supplied entry part-check
 part-taken bs p j e r k m h f t s =
     let ls = lines bs in
     let l = line-at ls (suc j) in
@@ -126,21 +127,20 @@ part-taken bs p j e r k m h f t s =
     (λ z. rw first (kind-ended part-kind ls (suc j) z))
     (λ z. (
       s .count,
-      s .value ∙ rw (g .stands, there .strip (rw says z), ← filled-steps (suc (k-of ls)) j (λ i. length-at ls i) 1 (omega (arith, g .count))),
+      s .value ∙ rw (g .stands, there .strip (rw says z), ← filled-steps (suc (k-of ls)) j (λ i. strip-read ls i) (strip 1 free) (omega (arith, g .count))),
     ))
 
 -- NETS between strips of the lengths read
-length-of : (k : Stack-struct) (i : ℕ) → i ≤ k .count → getD (k .strips) i (strip 0) .length .0 ≡ getD (stack-of k .strips) i 0
-unfolding stack-of stack
-length-of k i h = sym (getD-tabulate (suc (k .count)) i (λ i. struct-length k i) 0 (omega arith))
-
-strip-length : (bs : List ℕ) (p : Progress) (c i : ℕ) → Wiring bs c p → i ≤ p .stack .count → getD (p .stack .strips) i (strip 0) .length .0 ≡ length-at (lines bs) i
-unfolding stack
+strip-length : (bs : List ℕ) (p : Progress) (c i : ℕ) → Wiring bs c p → i ≤ p .stack .count → getD (p .stack .strips) i (free-strip 0) .length .0 ≡ length-at (lines bs) i
+unfolding stack length-at first-of strip-in
 strip-length bs p c i m h =
-    length-of (p .stack) i h ∙ rw (m .going .stands) (getD-tabulate (suc (k-of (lines bs))) i (λ j. length-at (lines bs) j) 0 (omega (arith, m .going .count)))
+    let ls = lines bs in
+    let read = getD-tabulate (suc (k-of ls)) i (λ j. strip-read ls j) no-strip (omega (arith, m .going .count)) in
+    let there : getD (stack-of (p .stack) .strips) i no-strip ≡ strip-read ls i = rw (m .going .stands) read in
+    ap (λ (l : Strip). l .length) (sym (stack-strip (p .stack) i (omega arith)) ∙ there)
 
 pub nets-taken : (bs : List ℕ) (p : Progress) (c : ℕ) (e : LineEnd) (r : NetsRead) (k : Stack-struct) → Wiring bs c p → c < p .stack .count → Line-from bs (p .at) e →
-    Nets-read (getD (p .stack .strips) c (strip 0) .length .0) (getD (p .stack .strips) (c + 1) (strip 0) .length .0) (p .stack .count + c + 3)
+    Nets-read (getD (p .stack .strips) c (free-strip 0) .length .0) (getD (p .stack .strips) (c + 1) (free-strip 0) .length .0) (p .stack .count + c + 3)
     (line (take (e .end - p .at) (drop (p .at) bs)) (e .ended)) r →
     Channel-set (p .stack) c (channel-of (r .terminals)) k → Nets-taken bs c (record { outcome = r .outcome; at = e .end + 1; stack = k })
 unfolding stack supplied entry nets-check

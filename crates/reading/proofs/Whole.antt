@@ -13,14 +13,14 @@ use Rattle.numbers.specs.Lists.{tabulate, filled}
 use Rattle.numbers.proofs.Lists.{filled-starts}
 use Rattle.lines.specs.Lines.{Line, lines}
 use Rattle.lines.proofs.Cutting.{lines-some}
-use Rattle.stack.specs.Limits.{rising, on-strips, pairs-within, channel-within, channels-within, strips-within, within-limits}
-use Rattle.stack.specs.Stack.{channel, no-channel, stack}
+use Rattle.stack.specs.Limits.{rising, on-strips, pairs-within, channel-within, channels-within, window-within, strip-within, strips-within, within-limits}
+use Rattle.stack.specs.Stack.{channel, no-channel, free, strip, stack}
 use Rattle.stack.specs.Value.{stack-of}
 use Rattle.stack.specs.Made.{bare}
-use Rattle.text.specs.Text.{refusal, fine, k-of, part-check, length-at, nets-check, tail-at, tail-count, channel-before, tail-check, in-turn, text-refusal, floor-in, stack-in}
+use Rattle.text.specs.Text.{refusal, fine, k-of, part-check, nets-check, tail-at, tail-count, channel-before, tail-check, in-turn, text-refusal, floor-in, stack-in}
 use Rattle.text.specs.Outcome.{refusal-of, is-accepted, refused}
 use Rattle.text.specs.Kinds.{line-refusal}
-use Rattle.reading.specs.Driver.{Going, Read-to, upto-head, Head-taken, Parting, Part-taken, upto-parts, nets-pairs, nets-read, Parts-taken, Wiring, Nets-taken, upto-nets, gaps-read, All-nets-taken, Gapping, Gap-taken, upto-gaps, Gaps-taken, Reading-of, Stack-read}
+use Rattle.reading.specs.Driver.{Going, Read-to, upto-head, Head-taken, strip-read, Parting, Part-taken, upto-parts, nets-pairs, nets-read, Parts-taken, Wiring, Nets-taken, upto-nets, gaps-read, All-nets-taken, Gapping, Gap-taken, upto-gaps, Gaps-taken, Reading-of, Stack-read}
 use Rattle.text.specs.declared.Refusal.the-variants as why
 use Rattle.text.specs.declared.Outcome.{Outcome}
 use Rattle.reading.specs.declared.Progress.{Progress}
@@ -48,7 +48,7 @@ module _ (bs : List ℕ) (h : Progress) (t : Head-taken bs h) where
     pub parts-start : Parting bs 0 h
     unfolding bare
     parts-start =
-        let none = filled-starts (suc (k-of (lines bs))) (λ i. length-at (lines bs) i) 1 in
+        let none = filled-starts (suc (k-of (lines bs))) (λ i. strip-read (lines bs) i) (strip 1 free) in
         lines-start bs (λ i. part-check (lines bs) i) 1 (suc (k-of (lines bs))) _ h (rw none parts-go-on)
 
     parts-then : (r : Progress) →
@@ -72,7 +72,7 @@ module _ (bs : List ℕ) (h : Progress) (t : Head-taken bs h) where
           let all : suc k ≤ j = omega (arith, parts-go-on .count) in
           let e : j ≡ suc k = omega (arith, m .below) in
           let last : k + 2 ≡ 1 + suc k = omega arith in
-          let strips = filled-whole (suc k) (λ i. length-at (lines bs) i) 1 in
+          let strips = filled-whole (suc k) (λ i. strip-read (lines bs) i) (strip 1 free) in
           let channels = filled-starts k (λ c. channel (nets-pairs (lines bs) c) 0) no-channel in
           parts-then p (rw (channels, ← strips, last) (rw e at (lines-end bs (λ i. part-check (lines bs) i) 1 (suc k) j _ p m all)))
 
@@ -201,7 +201,7 @@ pub reading-accepted : (p : Progress) → is-accepted (p .outcome) ≡ true → 
 reading-accepted p a = record { outcome = refl; stack = λ z. refl; bare = λ z. let q : _≡_ {A = ℕ} 0 1 = cc in absurd (omega arith) }
 
 bare-within : within-limits (bare 1) ≡ true
-unfolding within-limits strips-within channels-within channel-within pairs-within rising on-strips bare stack
+unfolding within-limits strips-within strip-within window-within channels-within channel-within pairs-within rising on-strips bare stack
 bare-within = refl
 
 refused-read : (bs : List ℕ) (r : Reading) → refusal-of (r .outcome) ≡ text-refusal bs → is-accepted (r .outcome) ≡ false → stack-of (r .stack) ≡ bare 1 →

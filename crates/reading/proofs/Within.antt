@@ -14,34 +14,41 @@ use Rattle.numbers.proofs.Lists.{length-tabulate, getD-tabulate, tabulate-same}
 use Rattle.lines.specs.Lines.{Line, lines, line-at}
 use Rattle.stack.specs.Stack.{Channel, channel, stack}
 use Rattle.stack.specs.Limits.{channel-within, channels-within, strips-within, within-limits}
-use Rattle.text.specs.Text.{fine, or-else, entry, first-of, second-of, fault-at, kind, layout, stack-content, stack-kind, part-kind, nets-kind, gap-kind, Check, check, supplied, line-check, k-of, head-refusal, head-check, part-check, length-at, nets-check, tail-at, tail-count, channel-before, tail-check, checks, in-turn, text-refusal, file, file-in, pairs-of, floor-in, stack-in-file, stack-in}
+use Rattle.text.specs.Text.{fine, or-else, entry, first-of, second-of, fault-at, kind, layout, stack-content, stack-kind, part-kind, nets-kind, gap-kind, Check, check, supplied, line-check, k-of, head-refusal, head-check, part-check, length-at, nets-check, tail-at, tail-count, channel-before, tail-check, checks, in-turn, text-refusal, file, file-in, pairs-of, strip-in, floor-in, stack-in-file, stack-in}
 use Rattle.text.specs.Kinds.{line-refusal}
-use Rattle.reading.specs.Driver.{upto-head, upto-parts, nets-pairs, upto-nets, floor-read, gaps-read, upto-gaps}
+use Rattle.reading.specs.Driver.{upto-head, strip-read, upto-parts, nets-pairs, upto-nets, floor-read, gaps-read, upto-gaps}
 use Rattle.text.proofs.Refusals.{or-else-fine, when-fine, only-fine, or-else-assoc, in-turn-append}
-use Rattle.kinds.proofs.Contents.{strip-within, pairs-fine}
+use Rattle.text.proofs.Layouts.{numbers-below}
+use Rattle.kinds.proofs.Contents.{strip-fine, pairs-fine}
 use Rattle.reading.proofs.Floors.{gap-says}
 
 -- LINES of a kind
-content-fine : (n i : ℕ) (f : ℕ → Check) → in-turn (tabulate (suc n) i f) .number ≡ 0 → (f i .content .number ≡ 0) × (in-turn (tabulate n (suc i) f) .number ≡ 0)
-unfolding in-turn tabulate
-content-fine n i f h =
-    let u = or-else-fine (line-refusal (f i)) (in-turn (tabulate n (suc i) f)) h in
-    (or-else-fine (f i .form) (f i .content) (u .0) .1, u .1)
+record Check-fine (c : Check) : Type 0 where
+  pub form : c .form .number ≡ 0
+  pub content : c .content .number ≡ 0
 
-strips-fine : (n i : ℕ) (ls : List Line) → in-turn (tabulate n i (λ j. part-check ls j)) .number ≡ 0 → strips-within (tabulate n i (λ j. length-at ls j)) ≡ true
-unfolding tabulate strips-within part-check line-check check part-kind kind length-at
+line-fine : (n i : ℕ) (f : ℕ → Check) → in-turn (tabulate (suc n) i f) .number ≡ 0 → Check-fine (f i) × (in-turn (tabulate n (suc i) f) .number ≡ 0)
+unfolding in-turn tabulate
+line-fine n i f h =
+    let u = or-else-fine (line-refusal (f i)) (in-turn (tabulate n (suc i) f)) h in
+    let c = or-else-fine (f i .form) (f i .content) (u .0) in
+    (record { form = c .0; content = c .1 }, u .1)
+
+strips-fine : (n i : ℕ) (ls : List Line) → in-turn (tabulate n i (λ j. part-check ls j)) .number ≡ 0 → strips-within (tabulate n i (λ j. strip-read ls j)) ≡ true
+unfolding tabulate strips-within part-check line-check check part-kind kind supplied entry
 strips-fine zero i ls h = refl
 strips-fine (suc n) i ls h =
-    let u = content-fine n i (λ j. part-check ls j) h in
-    rw (strip-within (supplied ls (suc i)) (u .0)) (strips-fine n (suc i) ls (u .1))
+    let u = line-fine n i (λ j. part-check ls j) h in
+    let few = numbers-below part-kind (suc (suc i)) (line-at ls (suc i)) (u .0 .form) 2 in
+    rw (strip-fine (supplied ls (suc i)) (u .0 .content) few) (strips-fine n (suc i) ls (u .1))
 
 channels-fine : (n c : ℕ) (ls : List Line) (floors : ℕ → ℕ) → in-turn (tabulate n c (λ j. nets-check ls j)) .number ≡ 0 → ((j : ℕ) → floors j ≤ 64) →
-    channels-within (tabulate (suc n) c (λ j. length-at ls j)) (tabulate n c (λ j. channel (nets-pairs ls j) (floors j))) ≡ true
-unfolding tabulate channels-within channel-within nets-check line-check check nets-kind kind
+    channels-within (tabulate (suc n) c (λ j. strip-read ls j)) (tabulate n c (λ j. channel (nets-pairs ls j) (floors j))) ≡ true
+unfolding tabulate channels-within channel-within nets-check line-check check nets-kind kind length-at first-of strip-in
 channels-fine zero c ls floors h small = refl
 channels-fine (suc n) c ls floors h small =
-    let u = content-fine n c (λ j. nets-check ls j) h in
-    let pairs = pairs-fine (length-at ls c) (length-at ls (suc c)) (supplied ls (k-of ls + 2 + c)) (u .0) in
+    let u = line-fine n c (λ j. nets-check ls j) h in
+    let pairs = pairs-fine (length-at ls c) (length-at ls (suc c)) (supplied ls (k-of ls + 2 + c)) (u .0 .content) in
     rw (le-leb (floors c) 64 (small c), pairs) (channels-fine n (suc c) ls floors (u .1) small)
 
 -- from GAP line g on no floor is above 64
@@ -51,8 +58,8 @@ unfolding tabulate floor-in tail-check line-check check gap-kind kind second-of
 floors-fine zero g ls h c = omega arith
 floors-fine (suc n) g ls h c =
     let i = tail-at ls + g in
-    let u = content-fine n g (λ j. tail-check ls j) h in
-    let s = gap-says (k-of ls) (channel-before ls g) (supplied ls i) (u .0) in
+    let u = line-fine n g (λ j. tail-check ls j) h in
+    let s = gap-says (k-of ls) (channel-before ls g) (supplied ls i) (u .0 .content) in
     let next : tail-at ls + suc g ≡ suc i = omega arith in
     go (eqb (getD (supplied ls i .numbers) 0 0) c) (s .small) (rw next at (floors-fine n (suc g) ls (u .1) c))
   where
@@ -97,13 +104,12 @@ map-tabulate g f (suc n) i = rw (map-tabulate g f n (suc i))
 
 -- the stack in a text, line by line
 module _ (ls : List Line) where
-  strips-by-lines : (n : ℕ) → map (λ ns. getD ns 0 0) (tabulate n 1 (λ i. supplied ls i .numbers)) ≡ tabulate n 0 (λ j. length-at ls j)
-  unfolding length-at first-of
+  strips-by-lines : (n : ℕ) → map strip-in (tabulate n 1 (λ i. supplied ls i .numbers)) ≡ tabulate n 0 (λ j. strip-read ls j)
   strips-by-lines n =
       let numbers : ℕ → List ℕ = λ i. supplied ls i .numbers in
       let next : (j : ℕ) → 1 + j ≡ suc j = λ j. omega arith in
-      map-tabulate (λ ns. getD ns 0 0) numbers n 1
-      ∙ tabulate-from (λ i. getD (numbers i) 0 0) (λ j. length-at ls j) 1 (λ j. rw (next j)) n 1 0 (omega arith)
+      map-tabulate strip-in numbers n 1
+      ∙ tabulate-from (λ i. strip-in (numbers i)) (λ j. strip-read ls j) 1 (λ j. rw (next j)) n 1 0 (omega arith)
 
   nets-by-lines : (s n c : ℕ) → c < n → getD (tabulate n s (λ i. supplied ls i .numbers)) c [] ≡ supplied ls (s + c) .numbers
   nets-by-lines s n c h =
@@ -118,7 +124,7 @@ stack-by-lines bs =
     let nets : List (List ℕ) = tabulate k (k + 2) (λ i. supplied ls i .numbers) in
     let floor : ℕ → ℕ = λ c. floor-read ls (tail-count ls) c in
     rw (strips-by-lines ls (suc k), length-tabulate k (k + 2) (λ i. supplied ls i .numbers))
-    (ap (λ (cs : List Channel). stack (tabulate (suc k) 0 (λ j. length-at ls j)) cs)
+    (ap (λ (cs : List Channel). stack (tabulate (suc k) 0 (λ j. strip-read ls j)) cs)
     (tabulate-same k 0 (λ c. channel (pairs-of (getD nets c [])) (floor c)) (λ c. channel (nets-pairs ls c) (floor c))
     (λ c a b. rw (nets-by-lines ls (k + 2) k c (omega arith)))))
 

@@ -7,11 +7,11 @@ use Prim.Native.Nat.{ℕ, suc, _+_, _-_, _≤_}
 use lib.ListN.{length, drop, replicate}
 use Rattle.numbers.specs.Lists.{tabulate, filled}
 use Rattle.lines.specs.Lines.{Line, lines}
-use Rattle.stack.specs.Stack.{Pair, channel, no-channel, Stack, stack}
+use Rattle.stack.specs.Stack.{Pair, channel, no-channel, free, Strip, strip, Stack, stack}
 use Rattle.stack.specs.Limits.{within-limits}
 use Rattle.stack.specs.Value.{stack-of}
 use Rattle.stack.specs.Made.{bare}
-use Rattle.text.specs.Text.{Refusal, fine, or-else, supplied, Check, k-of, head-check, part-check, length-at, nets-check, tail-at, tail-count, channel-before, tail-check, in-turn, text-refusal, pairs-of, floor-in, stack-in}
+use Rattle.text.specs.Text.{Refusal, fine, or-else, supplied, Check, k-of, head-check, part-check, nets-check, tail-at, tail-count, channel-before, tail-check, in-turn, text-refusal, pairs-of, strip-in, floor-in, stack-in}
 use Rattle.text.specs.Outcome.{refusal-of, is-accepted}
 use Rattle.text.specs.Kinds.{line-refusal}
 use Rattle.reading.specs.declared.Progress.{Progress}
@@ -47,8 +47,11 @@ abbrev pub Head-taken : List ℕ → Progress → Type 0
 Head-taken bs r = Read-to bs (upto-head bs) 1 (bare (k-of (lines bs))) r
 
 -- PART lines: the first j strips stand
+abbrev pub strip-read : List Line → (strip : ℕ) → Strip
+strip-read ls i = strip-in (supplied ls (suc i) .numbers)
+
 abbrev pub parts-read : List Line → (j : ℕ) → Stack
-parts-read ls j = stack (filled (suc (k-of ls)) j (λ i. length-at ls i) 1) (replicate (k-of ls) no-channel)
+parts-read ls j = stack (filled (suc (k-of ls)) j (λ i. strip-read ls i) (strip 1 free)) (replicate (k-of ls) no-channel)
 
 abbrev pub Parting : List ℕ → (j : ℕ) → Progress → Type 0
 Parting bs j p = Reading-lines bs (λ i. part-check (lines bs) i) 1 (suc (k-of (lines bs))) j (parts-read (lines bs) j) p
@@ -64,7 +67,7 @@ abbrev pub nets-pairs : List Line → (channel : ℕ) → List Pair
 nets-pairs ls c = pairs-of (supplied ls (k-of ls + 2 + c) .numbers)
 
 abbrev pub nets-read : List Line → (c : ℕ) → Stack
-nets-read ls c = stack (tabulate (suc (k-of ls)) 0 (λ i. length-at ls i)) (filled (k-of ls) c (λ j. channel (nets-pairs ls j) 0) no-channel)
+nets-read ls c = stack (tabulate (suc (k-of ls)) 0 (λ i. strip-read ls i)) (filled (k-of ls) c (λ j. channel (nets-pairs ls j) 0) no-channel)
 
 abbrev pub Parts-taken : List ℕ → Progress → Type 0
 Parts-taken bs r = Read-to bs (upto-parts bs) (k-of (lines bs) + 2) (nets-read (lines bs) 0) r
@@ -86,7 +89,7 @@ abbrev pub floor-read : List Line → (g channel : ℕ) → ℕ
 floor-read ls g c = floor-in (gap-lines ls g) (suc c)
 
 abbrev pub gaps-read : List Line → (g : ℕ) → Stack
-gaps-read ls g = stack (tabulate (suc (k-of ls)) 0 (λ i. length-at ls i)) (tabulate (k-of ls) 0 (λ c. channel (nets-pairs ls c) (floor-read ls g c)))
+gaps-read ls g = stack (tabulate (suc (k-of ls)) 0 (λ i. strip-read ls i)) (tabulate (k-of ls) 0 (λ c. channel (nets-pairs ls c) (floor-read ls g c)))
 
 abbrev pub All-nets-taken : List ℕ → Progress → Type 0
 All-nets-taken bs r = Read-to bs (upto-nets bs) (tail-at (lines bs)) (gaps-read (lines bs) 0) r

@@ -219,7 +219,8 @@ impl Progress {
     }
 }
 
-// Documents 01, "Lines and tabs" and "Sent back at the counter", and 02, P2 and P5: the stack in a text, or the first refusal of 1 to 6, 11 and 12 that applies.
+// Documents 01, "Lines and tabs" and "Sent back at the counter", and 02, P2, P5 and P7: the stack in a text, or the first refusal of 1 to 6, 11, 12 and 14 that
+// applies.
 pub fn read_stack(text: &[u8]) -> Reading
     ensures { λ r. ⌜ Stack-read (now (text .entry)) r ⌝ }
 {

@@ -14,12 +14,12 @@ use Rattle.lines.specs.declared.LineEnd.{LineEnd}
 use Rattle.lines.proofs.Cutting.{lines-some}
 use Rattle.lines.proofs.Places.{line-there, next-there}
 use Rattle.stack.specs.Stack.{Stack}
-use Rattle.text.specs.Text.{Kind, layout, part-kind}
+use Rattle.text.specs.Text.{Kind, layout}
 use Rattle.text.specs.Outcome.{refused}
 use Rattle.text.specs.declared.Refusal.the-variants.{Overlong}
 use Rattle.text.specs.declared.Outcome.{Outcome}
 use Rattle.text.proofs.Layouts.{layout-ended}
-use Rattle.steps.specs.Steps.{list-kind, is-line, word-line, length-in, step-line}
+use Rattle.steps.specs.Steps.{length-kind, list-kind, is-line, word-line, length-in, step-line}
 use Rattle.steps.specs.declared.StepLine.{StepLine}
 use Rattle.steps.specs.declared.StepLine.the-variants.{NoStep, BeginPart, AddPart, AddNets, Begin, Add, Off}
 use Rattle.session.specs.Session.{nothing, Made}
@@ -47,8 +47,8 @@ kind-ended K l x h = layout-ended K 0 l (eqb-true (layout K 0 l .number) 0 (good
 step-ended : (before : StepLine) (l : Line) → is-no-step (step-line before l) ≡ false → l .ended ≡ true
 unfolding step-line
 step-ended NoStep l h = word-ended l h
-step-ended BeginPart l h = kind-ended part-kind l (Begin (length-in l)) h
-step-ended AddPart l h = kind-ended part-kind l (AddNets (length-in l)) h
+step-ended BeginPart l h = kind-ended length-kind l (Begin (length-in l)) h
+step-ended AddPart l h = kind-ended length-kind l (AddNets (length-in l)) h
 step-ended (AddNets n) l h = kind-ended list-kind l (Add n) h
 step-ended (Begin n) l h = word-ended l h
 step-ended (Add n) l h = word-ended l h

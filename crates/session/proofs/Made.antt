@@ -1,5 +1,5 @@
 -- What steps have made is empty, a single strip, or a stack within the limits: each refusal is a limit. By induction on the steps. Assumes nothing.
-use mathlib.Core.Path.{_≡_, refl}
+use mathlib.Core.Path.{_≡_, refl, ap}
 use mathlib.Core.Bool.{Bool, true, false, _&&_, cond}
 use mathlib.Core.List.{List, [], _∷_, _++_}
 use Prim.Native.Nat.{ℕ, zero, suc, _+_, _-_, _≤_, _<_}
@@ -9,36 +9,50 @@ use lib.ListN.{length, getD, take, length-append}
 use lib.Seq.{length-take-le}
 use borrow.Author.Tests.{leb-true, leb-false, eqb-true, eqb-false, le-leb}
 use Rattle.numbers.proofs.Bools.{ands, impossible}
-use Rattle.stack.specs.Stack.{Stack, stack, Channel, channel}
-use Rattle.stack.specs.Limits.{all-rising, channel-within, channels-within, strips-within, within-limits}
+use Rattle.stack.specs.Stack.{Stack, stack, Channel, channel, Window, free, held, Strip, strip, no-strip}
+use Rattle.stack.specs.Limits.{all-rising, channel-within, channels-within, window-within, strip-within, strips-within, within-limits}
 use Rattle.stack.proofs.Within.{strips-length, channels-rising}
-use Rattle.text.specs.Text.{fine, or-else, entry, first-of, in-pairs, misplaced, nets-content, pairs-of}
+use Rattle.text.specs.Text.{fine, or-else, entry, first-of, in-pairs, misplaced, nets-content, pairs-of, window-in, strip-in}
 use Rattle.text.proofs.Refusals.{or-else-fine, when-fine}
-use Rattle.kinds.proofs.Contents.{strip-within, pairs-fine}
+use Rattle.kinds.proofs.Contents.{strip-fine, pairs-fine}
 use Rattle.session.specs.Session.{nothing, Step, begin, add, off, room-refusal, top-length, length-refusal, nets-refusal, step-refusal, taken, left, after, Made, made-empty, made-after}
 use Rattle.session.specs.Promise.{Held, empty, single, stacked}
 
--- nothing, or strips and channels within the limits
+-- STRIPS that are free and within the limits
+unfoldable pub is-free : Window → Bool
+is-free free = true
+is-free (held a e) = false
+
+unfoldable pub free-within : List Strip → Bool
+free-within [] = true
+free-within (l ∷ ls) = (strip-within l && is-free (l .window)) && free-within ls
+
+all-within : (ls : List Strip) → free-within ls ≡ true → strips-within ls ≡ true
+unfolding free-within strips-within
+all-within [] h = refl
+all-within (l ∷ ls) h = let r = all-within ls (search ands) in search ands
+
+-- nothing, or free strips and channels within the limits
 pub data Built : Stack → Type 0 where
   none-built : Built nothing
-  strips-built : (ls : List ℕ) (cs : List Channel) → strips-within ls ≡ true → channels-within ls cs ≡ true → length cs ≤ 8 → Built (stack ls cs)
+  strips-built : (ls : List Strip) (cs : List Channel) → free-within ls ≡ true → channels-within ls cs ≡ true → length cs ≤ 8 → Built (stack ls cs)
 
 -- BEGIN
-length-good : (l : ℕ) → length-refusal l .number ≡ 0 → (leb 1 l && leb l 1000) ≡ true
-unfolding length-refusal entry first-of
-length-good l h = strip-within (entry 0 0 (l ∷ [])) h
+length-good : (l : ℕ) → length-refusal l .number ≡ 0 → strip-within (strip l free) ≡ true
+unfolding length-refusal entry strip-in window-in
+length-good l h = strip-fine (entry 0 0 (l ∷ [])) h (omega arith)
 
-single-built : (l : ℕ) → length-refusal l .number ≡ 0 → Built (stack (l ∷ []) [])
-unfolding strips-within channels-within
-single-built l h = strips-built (l ∷ []) [] (rw (length-good l h)) refl (omega arith)
+single-built : (l : ℕ) → length-refusal l .number ≡ 0 → Built (stack (strip l free ∷ []) [])
+unfolding free-within is-free channels-within
+single-built l h = strips-built (strip l free ∷ []) [] (rw (length-good l h)) refl (omega arith)
 
 -- ADD
-strips-more : (ls : List ℕ) (l : ℕ) → strips-within ls ≡ true → (leb 1 l && leb l 1000) ≡ true → strips-within (ls ++ (l ∷ [])) ≡ true
-unfolding strips-within
+strips-more : (ls : List Strip) (l : ℕ) → free-within ls ≡ true → strip-within (strip l free) ≡ true → free-within (ls ++ (strip l free ∷ [])) ≡ true
+unfolding free-within is-free
 strips-more [] l h k = rw k
 strips-more (x ∷ ls) l h k = let r = strips-more ls l (search ands) k in search ands
 
-channels-more : (ls : List ℕ) (cs : List Channel) (l : ℕ) (c : Channel) → channels-within ls cs ≡ true → channel-within (getD ls (length ls - 1) 0) l c ≡ true →
+channels-more : (ls : List Strip) (cs : List Channel) (l : Strip) (c : Channel) → channels-within ls cs ≡ true → channel-within (getD ls (length ls - 1) no-strip .length) (l .length) c ≡ true →
     channels-within (ls ++ (l ∷ [])) (cs ++ (c ∷ [])) ≡ true
 unfolding channels-within
 channels-more [] cs l c h k = impossible h
@@ -47,14 +61,14 @@ channels-more (a ∷ []) (d ∷ cs) l c h k = impossible h
 channels-more (a ∷ b ∷ ls) [] l c h k = impossible h
 channels-more (a ∷ b ∷ ls) (d ∷ cs) l c h k =
     let e : suc (suc (length ls)) - 1 ≡ suc (suc (length ls) - 1) = omega arith in
-    let k′ : channel-within (getD (b ∷ ls) (suc (length ls) - 1) 0) l c ≡ true = rw e at k in
+    let k′ : channel-within (getD (b ∷ ls) (suc (length ls) - 1) no-strip .length) (l .length) c ≡ true = rw e at k in
     let r = channels-more (b ∷ ls) cs l c (search ands) k′ in search ands
 
 -- what an ADD that is not refused adds
 record Adding (k : Stack) (l : ℕ) (ns : List ℕ) : Type 0 where
   pub some : eqb (length (k .strips)) 0 ≡ false
   pub few : length (k .strips) < 9
-  pub strip-good : (leb 1 l && leb l 1000) ≡ true
+  pub strip-good : strip-within (strip l free) ≡ true
   pub channel-good : channel-within (top-length k) l (channel (pairs-of ns) 0) ≡ true
 
 adding : (k : Stack) (l : ℕ) (ns : List ℕ) → step-refusal k (add l ns) .number ≡ 0 → Adding k l ns
@@ -78,19 +92,19 @@ add-built k l ns none-built a = absurd (eqb-false 0 0 (a .some) refl)
 add-built k l ns (strips-built ls cs h g m) a =
     let e = strips-length ls cs g in
     let f = length-append cs (channel (pairs-of ns) 0 ∷ []) in
-    strips-built (ls ++ (l ∷ [])) (cs ++ (channel (pairs-of ns) 0 ∷ [])) (strips-more ls l h (a .strip-good)) (channels-more ls cs l (channel (pairs-of ns) 0) g (a .channel-good)) (few e f (a .few))
+    strips-built (ls ++ (strip l free ∷ [])) (cs ++ (channel (pairs-of ns) 0 ∷ [])) (strips-more ls l h (a .strip-good)) (channels-more ls cs (strip l free) (channel (pairs-of ns) 0) g (a .channel-good)) (few e f (a .few))
   where
     few : length ls ≡ suc (length cs) → length (cs ++ (channel (pairs-of ns) 0 ∷ [])) ≡ length cs + 1 → length ls < 9 → length (cs ++ (channel (pairs-of ns) 0 ∷ [])) ≤ 8
     few e f g = omega arith
 
 -- TAKE OFF
-strips-less : (ls : List ℕ) (n : ℕ) → strips-within ls ≡ true → strips-within (take n ls) ≡ true
-unfolding strips-within
+strips-less : (ls : List Strip) (n : ℕ) → free-within ls ≡ true → free-within (take n ls) ≡ true
+unfolding free-within
 strips-less ls zero h = refl
 strips-less [] (suc n) h = refl
 strips-less (l ∷ ls) (suc n) h = let r = strips-less ls n (search ands) in search ands
 
-channels-less : (ls : List ℕ) (cs : List Channel) (m : ℕ) → channels-within ls cs ≡ true → length cs ≡ suc m → channels-within (take (suc m) ls) (take m cs) ≡ true
+channels-less : (ls : List Strip) (cs : List Channel) (m : ℕ) → channels-within ls cs ≡ true → length cs ≡ suc m → channels-within (take (suc m) ls) (take m cs) ≡ true
 unfolding channels-within
 channels-less [] cs m h e = impossible h
 channels-less (a ∷ []) [] m h e = absurd (omega arith)
@@ -140,14 +154,34 @@ unfolding within-limits stack nothing
 built-within k none-built h = absurd (omega arith)
 built-within k (strips-built ls cs a b c) h =
     let n = strips-length ls cs b in
-    rw (le-leb 1 (length cs) (omega arith), le-leb (length cs) 8 c, a) b
+    rw (le-leb 1 (length cs) (omega arith), le-leb (length cs) 8 c, all-within ls a) b
 
-single-held : (ls : List ℕ) (cs : List Channel) → strips-within ls ≡ true → channels-within ls cs ≡ true → length ls < 2 → Held (stack ls cs)
-unfolding strips-within channels-within
-single-held [] cs a b h = impossible b
-single-held (l ∷ []) [] a b h = single l (leb-true 1 l (search ands)) (leb-true l 1000 (search ands)) refl
-single-held (l ∷ []) (c ∷ cs) a b h = impossible b
-single-held (l ∷ u ∷ ls) cs a b h = absurd (omega arith)
+free-window : (w : Window) → is-free w ≡ true → w ≡ free
+unfolding is-free
+free-window free h = refl
+free-window (held a e) h = impossible h
+
+-- a single strip
+record Only (k : Stack) (l : ℕ) : Type 0 where
+  pub some : 1 ≤ l
+  pub most : l ≤ 1000
+  pub is : k ≡ stack (strip l free ∷ []) []
+
+only-strip : (ls : List Strip) (cs : List Channel) → free-within ls ≡ true → channels-within ls cs ≡ true → length ls < 2 → Only (stack ls cs) (getD ls 0 no-strip .length)
+unfolding free-within strip-within channels-within
+only-strip [] cs a b h = impossible b
+only-strip (l ∷ []) [] a b h = record {
+  some = leb-true 1 (l .length) (search ands);
+  most = leb-true (l .length) 1000 (search ands);
+  is = ap (λ w. stack (strip (l .length) w ∷ []) []) (free-window (l .window) (search ands));
+}
+only-strip (l ∷ []) (c ∷ cs) a b h = impossible b
+only-strip (l ∷ u ∷ ls) cs a b h = absurd (omega arith)
+
+pub built-single : (k : Stack) → Built k → length (k .strips) ≡ 1 → k ≡ stack (strip (getD (k .strips) 0 no-strip .length) free ∷ []) []
+unfolding stack nothing
+built-single k none-built h = absurd (omega arith)
+built-single k (strips-built ls cs a b c) h = only-strip ls cs a b (omega arith) .is
 
 pub built-held : (k : Stack) → Built k → Held k
 unfolding stack
@@ -156,7 +190,7 @@ built-held k (strips-built ls cs a b c) = go (leb 2 (length ls)) refl
   where
     go : (v : Bool) → leb 2 (length ls) ≡ v → Held (stack ls cs)
     go true e = stacked (built-within (stack ls cs) (strips-built ls cs a b c) (leb-true 2 (length ls) e))
-    go false e = single-held ls cs a b (leb-false 2 (length ls) e)
+    go false e = let o = only-strip ls cs a b (leb-false 2 (length ls) e) in single _ (o .some) (o .most) (o .is)
 
 -- where there is a strip: every channel rises, and there is one strip more than channels
 pub built-rising : (k : Stack) → Built k → all-rising (k .channels) ≡ true

@@ -10,10 +10,10 @@ use lib.Seq.{getD-set-same, getD-set-other, take-at}
 use borrow.Author.Tests.{eqb-false, leb-false, ne-eqb, le-leb, lt-leb}
 use Rattle.numbers.specs.Lists.{tabulate}
 use Rattle.numbers.proofs.Lists.{length-tabulate, getD-tabulate, tabulate-same, tabulate-snoc}
-use Rattle.stack.specs.Stack.{stack, Pair, channel}
-use Rattle.stack.specs.Value.{strip, tracks, no-terminals, channel-of, stack-of}
+use Rattle.stack.specs.Stack.{no-strip, Strip, stack, Pair, channel}
+use Rattle.stack.specs.Value.{free-strip, strip-of, tracks, no-terminals, channel-of, stack-of}
 use Rattle.stack.specs.Made.{Stored}
-use Rattle.stack.specs.declared.Strip.{Strip}
+use Rattle.stack.specs.declared.Strip.{Strip as Strip-struct}
 use Rattle.stack.specs.declared.Terminals.{Terminals}
 use Rattle.stack.specs.declared.Stack.{Stack as Stack-struct}
 use Rattle.text.specs.Text.{fine}
@@ -78,32 +78,33 @@ module _ (s : Session) where
       record { some = omega (arith, some, strips-long); few = omega (arith, few, strips-long) }
 
   -- THE TOP STRIP
-  pub top-there : (r : Strip) → 1 ≤ s .count → r ≡ getD (s .strips) (s .count - 1) (strip 0) → Top-is (held-of s) r
+  pub top-there : 1 ≤ s .count → Top-is (held-of s) (strip-at s (s .count - 1) .length)
   unfolding top-length held-of stack
-  top-there r h e =
-      λ z. rw (e, length-tabulate (s .count) 0 (λ i. strip-at s i)) (sym (getD-tabulate (s .count) (s .count - 1) (λ i. strip-at s i) 0 (omega arith)))
+  top-there h =
+      let top = getD-tabulate (s .count) (s .count - 1) (λ i. strip-at s i) no-strip (omega arith) in
+      λ z. sym (ap (λ n. getD (held-of s .strips) (n - 1) no-strip .length) strips-long ∙ ap (λ (l : Strip). l .length) top)
 
-  pub top-none : (r : Strip) → s .count < 1 → Top-is (held-of s) r
-  top-none r h = λ z. absurd (omega (arith, roomy z .some))
+  pub top-none : (l : ℕ) → s .count < 1 → Top-is (held-of s) l
+  top-none l h = λ z. absurd (omega (arith, roomy z .some))
 
-  pub top-many : (r : Strip) → 9 < s .count → Top-is (held-of s) r
-  top-many r h = λ z. absurd (omega (arith, roomy z .few))
+  pub top-many : (l : ℕ) → 9 < s .count → Top-is (held-of s) l
+  top-many l h = λ z. absurd (omega (arith, roomy z .few))
 
   -- ONE STRIP MORE
-  pub more-none : (l : ℕ) (ps : List Pair) (r : Session) → s .count < 1 → Topped (held-of s) l ps r
+  pub more-none : (l : Strip) (ps : List Pair) (r : Session) → s .count < 1 → Topped (held-of s) l ps r
   more-none l ps r h = λ z. absurd (omega (arith, roomy z .some))
 
-  pub more-many : (l : ℕ) (ps : List Pair) (r : Session) → 9 ≤ s .count → Topped (held-of s) l ps r
+  pub more-many : (l : Strip) (ps : List Pair) (r : Session) → 9 ≤ s .count → Topped (held-of s) l ps r
   more-many l ps r h = λ z. absurd (omega (arith, roomy z .few))
 
-  module _ (x : Strip) (t : Terminals) (ss : List Strip) (cs : List Terminals) (some : 1 ≤ s .count) (few : s .count < 9) (put : Stored (s .strips) 9 (s .count) x ss)
+  module _ (x : Strip-struct) (t : Terminals) (ss : List Strip-struct) (cs : List Terminals) (some : 1 ≤ s .count) (few : s .count < 9) (put : Stored (s .strips) 9 (s .count) x ss)
       (wired : Stored (s .channels) 8 (s .count - 1) t cs) where
-    strips-longer : tabulate (suc (s .count)) 0 (λ i. getD ss i (strip 0) .length .0) ≡ tabulate (s .count) 0 (λ i. strip-at s i) ++ (x .length .0 ∷ [])
+    strips-longer : tabulate (suc (s .count)) 0 (λ i. strip-of (getD ss i (free-strip 0))) ≡ tabulate (s .count) 0 (λ i. strip-at s i) ++ (strip-of x ∷ [])
     strips-longer =
         let long : length (s .strips) ≡ 9 = put .long in
-        longer (s .count) (λ i. strip-at s i) (λ i. getD ss i (strip 0) .length .0) (x .length .0)
-        (λ j h. rw (put .stored, getD-set-other (s .strips) (s .count) j x (strip 0) (omega arith)))
-        (rw (put .stored, getD-set-same (s .strips) (s .count) x (strip 0) (omega arith)))
+        longer (s .count) (λ i. strip-at s i) (λ i. strip-of (getD ss i (free-strip 0))) (strip-of x)
+        (λ j h. rw (put .stored, getD-set-other (s .strips) (s .count) j x (free-strip 0) (omega arith)))
+        (rw (put .stored, getD-set-same (s .strips) (s .count) x (free-strip 0) (omega arith)))
 
     channels-longer : tabulate (s .count) 0 (λ i. channel (channel-of (getD cs i no-terminals)) 0) ≡ tabulate (s .count - 1) 0 (λ i. channel-at s i) ++ (channel (channel-of t) 0 ∷ [])
     channels-longer =
@@ -114,7 +115,7 @@ module _ (s : Session) where
         (rw (wired .stored, getD-set-same (s .channels) (s .count - 1) t no-terminals (omega arith))) in
         ap (λ (n : ℕ). tabulate n 0 (λ i. channel (channel-of (getD cs i no-terminals)) 0)) one ∙ more
 
-    pub one-more : Topped (held-of s) (x .length .0) (channel-of t) (record { count = s .count + 1; strips = ss; channels = cs })
+    pub one-more : Topped (held-of s) (strip-of x) (channel-of t) (record { count = s .count + 1; strips = ss; channels = cs })
     unfolding held-of stack
     one-more =
         let n : s .count + 1 ≡ suc (s .count) = omega arith in

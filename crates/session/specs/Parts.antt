@@ -4,11 +4,10 @@ use mathlib.Core.Bool.{cond}
 use mathlib.Core.List.{List, [], _∷_, _++_}
 use Prim.Native.Nat.{ℕ, _-_}
 use lib.ListN.{length}
-use Rattle.stack.specs.Stack.{Pair, channel, Stack, stack}
+use Rattle.stack.specs.Stack.{Pair, channel, Strip, Stack, stack}
 use Rattle.stack.specs.Value.{channel-of}
 use Rattle.text.specs.Text.{pairs-of}
 use Rattle.text.specs.Outcome.{refusal-of, is-accepted}
-use Rattle.stack.specs.declared.Strip.{Strip}
 use Rattle.text.specs.declared.Outcome.{Outcome}
 use Rattle.kinds.specs.declared.NetsRead.{NetsRead}
 use Rattle.session.specs.Session.{room-refusal, top-length, nets-refusal}
@@ -29,9 +28,9 @@ pub record Pairs-read (lower upper : ℕ) (ns : List ℕ) (r : NetsRead) : Type 
 abbrev pub Terminals-read : (lower upper : ℕ) → (values : List ℕ) → (count : ℕ) → NetsRead → Type 0
 Terminals-read lo hi vs c r = (ns : List ℕ) → Given ns vs c → Pairs-read lo hi ns r
 
--- where there is room for one strip more: the top strip, and the session with that strip on it
-abbrev pub Top-is : Stack → Strip → Type 0
-Top-is k r = room-refusal k .number ≡ 0 → r .length .0 ≡ top-length k
+-- where there is room for one strip more: the top strip's length, and the session with one strip on it
+abbrev pub Top-is : Stack → (length : ℕ) → Type 0
+Top-is k l = room-refusal k .number ≡ 0 → l ≡ top-length k
 
-abbrev pub Topped : Stack → (length : ℕ) → List Pair → Session → Type 0
+abbrev pub Topped : Stack → Strip → List Pair → Session → Type 0
 Topped k l ps r = room-refusal k .number ≡ 0 → held-of r ≡ stack (k .strips ++ (l ∷ [])) (k .channels ++ (channel ps 0 ∷ []))

@@ -1,11 +1,12 @@
--- TRUSTED. What is promised of every session that steps have made from an empty one. Document 02, P6. Each statement is a type; proofs/ proves it. Assumes nothing.
+-- TRUSTED. What is promised of every session that steps have made from an empty one. Document 02, P6 and P7. Each statement is a type; proofs/ proves it. Assumes
+-- nothing.
 use mathlib.Core.Path.{_≡_}
 use mathlib.Core.Bool.{true}
 use mathlib.Core.List.{List, [], _∷_}
 use mathlib.Core.Logic.{_↔_}
 use Prim.Native.Nat.{ℕ, _≤_}
 use lib.ListN.{length}
-use Rattle.stack.specs.Stack.{Stack, stack}
+use Rattle.stack.specs.Stack.{free, strip, Stack, stack}
 use Rattle.stack.specs.Limits.{within-limits}
 use Rattle.text.specs.Text.{refusal, fine, text-refusal, stack-in}
 use Rattle.stack_text.specs.StackText.{stack-text}
@@ -18,7 +19,7 @@ use Rattle.session.specs.Value.{Given}
 -- it is EMPTY, or A SINGLE STRIP, or a STACK WITHIN THE LIMITS
 pub data Held (k : Stack) : Type 0 where
   empty : k ≡ nothing → Held k
-  single : (l : ℕ) → 1 ≤ l → l ≤ 1000 → k ≡ stack (l ∷ []) [] → Held k
+  single : (l : ℕ) → 1 ≤ l → l ≤ 1000 → k ≡ stack (strip l free ∷ []) [] → Held k
   stacked : within-limits k ≡ true → Held k
 
 unfoldable pub Made-held : Type 0
@@ -40,9 +41,9 @@ Session-as-text = (k : Stack) → Made k → 2 ≤ length (k .strips) → As-tex
 
 -- A SINGLE STRIP has total 0 and position 0 in every spread that it fits; no other total is met
 pub record As-single (l s : ℕ) : Type 0 where
-  pub total : (r : TotalAnswer) → Session-total-says (stack (l ∷ []) []) s r → total-told fine 0 r
-  pub placement : (r : PlacementAnswer) → Session-placement-says (stack (l ∷ []) []) s 0 r → placed-is fine 0 [] (0 ∷ []) r
-  pub unmet : (v : ℕ) (r : PlacementAnswer) → (v ≡ 0 → ⊥) → Session-placement-says (stack (l ∷ []) []) s v r → placed-is (refusal 10 0 0) 0 [] [] r
+  pub total : (r : TotalAnswer) → Session-total-says (stack (strip l free ∷ []) []) s r → total-told fine 0 r
+  pub placement : (r : PlacementAnswer) → Session-placement-says (stack (strip l free ∷ []) []) s 0 r → placed-is fine 0 [] (0 ∷ []) r
+  pub unmet : (v : ℕ) (r : PlacementAnswer) → (v ≡ 0 → ⊥) → Session-placement-says (stack (strip l free ∷ []) []) s v r → placed-is (refusal 10 0 0) 0 [] [] r
 
 unfoldable pub Session-single : Type 0
 Session-single = (l s : ℕ) → l ≤ s → As-single l s

@@ -1,10 +1,11 @@
--- TRUSTED. Sessions: what one holds, what each step is refused for and leaves, and what a spread answers. Document 02, P6. Assumes nothing: these are definitions.
+-- TRUSTED. Sessions: what one holds, what each step is refused for and leaves, and what a spread answers. Document 02, P6 and P7. Assumes nothing: these are
+-- definitions.
 use mathlib.Core.Bool.{cond}
 use mathlib.Core.List.{List, [], _∷_, _++_}
 use Prim.Native.Nat.{ℕ, _-_}
 use lib.Dec.{leb, eqb}
 use lib.ListN.{length, getD, take}
-use Rattle.stack.specs.Stack.{Stack, stack, channel}
+use Rattle.stack.specs.Stack.{Stack, stack, channel, free, strip, no-strip}
 use Rattle.text.specs.Text.{Refusal, refusal, fine, or-else, entry, in-pairs, misplaced, part-content, nets-content, pairs-of}
 use Rattle.reply.specs.Refusals.{narrow-refusal}
 use Rattle.reply.specs.declared.PlacementAnswer.{PlacementAnswer}
@@ -26,7 +27,7 @@ unfoldable pub room-refusal : Stack → Refusal
 room-refusal k = cond (eqb (length (k .strips)) 0) (refusal 13 0 0) (cond (leb 9 (length (k .strips))) (refusal 3 0 0) fine)
 
 unfoldable pub top-length : Stack → ℕ
-top-length k = getD (k .strips) (length (k .strips) - 1) 0
+top-length k = getD (k .strips) (length (k .strips) - 1) no-strip .length
 
 -- the length as in a PART line, 4; the channel as in a NETS line, an odd list 11, then 3, 5 and 6; both at line 0
 unfoldable pub length-refusal : (length : ℕ) → Refusal
@@ -41,10 +42,10 @@ step-refusal k (begin l) = length-refusal l
 step-refusal k (add l ns) = or-else (or-else (room-refusal k) (length-refusal l)) (nets-refusal (top-length k) l ns)
 step-refusal k off = cond (leb (length (k .strips)) 1) (refusal 13 0 0) fine
 
--- what is held after a step that is TAKEN; a session's channels have floor 0
+-- what is held after a step that is TAKEN; a session's strips are free, and its channels have floor 0
 unfoldable pub taken : Stack → Step → Stack
-taken k (begin l) = stack (l ∷ []) []
-taken k (add l ns) = stack (k .strips ++ (l ∷ [])) (k .channels ++ (channel (pairs-of ns) 0 ∷ []))
+taken k (begin l) = stack (strip l free ∷ []) []
+taken k (add l ns) = stack (k .strips ++ (strip l free ∷ [])) (k .channels ++ (channel (pairs-of ns) 0 ∷ []))
 taken k off = stack (take (length (k .strips) - 1) (k .strips)) (take (length (k .channels) - 1) (k .channels))
 
 -- what is LEFT by a step that is refused: nothing by a beginning, by another what was held

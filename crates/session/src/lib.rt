@@ -4,7 +4,7 @@ ghost use mathlib.Core.Path.{_≡_};
 ghost use mathlib.Core.List.{[], _∷_};
 ghost use Prim.Native.Nat.{_≤_};
 ghost use Rattle.stack.specs.Stack.{stack};
-ghost use Rattle.stack.specs.Value.{channel-of, stack-of};
+ghost use Rattle.stack.specs.Value.{strip-of, channel-of, stack-of};
 ghost use Rattle.text.specs.Outcome.{refusal-of};
 ghost use Rattle.spread.specs.Best.{Best-total, Best-placement};
 ghost use Rattle.session.specs.Session.{begin, off, nothing, room-refusal, step-refusal, taken, Made, session-refusal, Session-total-says, Session-placement-says};
@@ -82,6 +82,9 @@ impl Session {
     {
         let shortest = Strip {
             length: Columns(Strip::MIN_LENGTH),
+            held: false,
+            least: Columns(0),
+            greatest: Columns(0),
         };
         Session {
             count: 0,
@@ -92,7 +95,7 @@ impl Session {
 
     // A single strip.
     fn single(strip: Strip) -> Session
-        ensures { λ r. ⌜ held-of r ≡ stack (strip .length .0 ∷ []) [] ⌝ }
+        ensures { λ r. ⌜ held-of r ≡ stack (strip-of strip ∷ []) [] ⌝ }
     {
         Session {
             count: 1,
@@ -128,7 +131,7 @@ impl Session {
 
     // The top strip where there is room for one more, else any.
     fn top(self) -> Strip
-        ensures { λ r. ⌜ Top-is (held-of self) r ⌝ }
+        ensures { λ r. ⌜ Top-is (held-of self) (r .length .0) ⌝ }
     {
         let n = self.count;
         if n < 1 {
@@ -142,7 +145,7 @@ impl Session {
 
     // The session with one strip more, where there is room for it.
     fn with_top(self, strip: Strip, terminals: Terminals) -> Session
-        ensures { λ r. ⌜ Topped (held-of self) (strip .length .0) (channel-of terminals) r ⌝ }
+        ensures { λ r. ⌜ Topped (held-of self) (strip-of strip) (channel-of terminals) r ⌝ }
     {
         let n = self.count;
         if n < 1 {

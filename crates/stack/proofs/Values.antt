@@ -9,12 +9,12 @@ use lib.ListN.{length, getD, set, replicate, length-map, getD-replicate, List·g
 use lib.Seq.{getD-set-same, getD-set-other}
 use Rattle.numbers.specs.Lists.{tabulate}
 use Rattle.numbers.proofs.Lists.{length-tabulate, getD-tabulate, tabulate-same, tabulate-snoc, tabulate-set, tabulate-constant}
-use Rattle.stack.specs.Stack.{Pair, pair, p-at, q-at, Channel, channel, no-channel, channel-in, stack}
-use Rattle.stack.specs.Value.{tracks, columns, tracks-of, columns-of, strip, no-terminals, pair-at, channel-of, length-at, floor-at, channel-at, stack-of}
+use Rattle.stack.specs.Stack.{Pair, pair, p-at, q-at, Channel, channel, no-channel, channel-in, free, Strip, strip, stack}
+use Rattle.stack.specs.Value.{tracks, columns, tracks-of, columns-of, free-strip, window-of, strip-of, no-terminals, pair-at, channel-of, strip-at, floor-at, channel-at, stack-of}
 use Rattle.stack.specs.Made.{bare}
 use Rattle.stack.specs.declared.Tracks.{Tracks}
 use Rattle.stack.specs.declared.Columns.{Columns}
-use Rattle.stack.specs.declared.Strip.{Strip}
+use Rattle.stack.specs.declared.Strip.{Strip as Strip-struct}
 use Rattle.stack.specs.declared.Terminals.{Terminals}
 use Rattle.stack.specs.declared.Stack.{Stack as Stack-struct}
 
@@ -67,15 +67,15 @@ unfolding stack-of stack
 stack-channel k i h = getD-tabulate (k .count) i (λ i. channel-at k i) no-channel h
 
 -- another strip at a place
-pub strip-stored : (k : Stack-struct) (i : ℕ) (s : Strip) → i < length (k .strips) →
+pub strip-stored : (k : Stack-struct) (i : ℕ) (s : Strip-struct) → i < length (k .strips) →
     stack-of (record { count = k .count; strips = set (k .strips) i s; channels = k .channels; floors = k .floors })
-    ≡ stack (set (stack-of k .strips) i (s .length .0)) (stack-of k .channels)
+    ≡ stack (set (stack-of k .strips) i (strip-of s)) (stack-of k .channels)
 unfolding stack-of stack
 strip-stored k i s h =
-    ap (λ (ls : List ℕ). stack ls (tabulate (k .count) 0 (λ i. channel-at k i)))
-    (tabulate-set (suc (k .count)) i (λ j. length-at k j) (λ j. getD (set (k .strips) i s) j (strip 0) .length .0) (s .length .0)
-    (ap (λ (x : Strip). x .length .0) (getD-set-same (k .strips) i s (strip 0) h))
-    (λ j d. ap (λ (x : Strip). x .length .0) (getD-set-other (k .strips) i j s (strip 0) d)))
+    ap (λ (ls : List Strip). stack ls (tabulate (k .count) 0 (λ i. channel-at k i)))
+    (tabulate-set (suc (k .count)) i (λ j. strip-at k j) (λ j. strip-of (getD (set (k .strips) i s) j (free-strip 0))) (strip-of s)
+    (ap (λ (x : Strip-struct). strip-of x) (getD-set-same (k .strips) i s (free-strip 0) h))
+    (λ j d. ap (λ (x : Strip-struct). strip-of x) (getD-set-other (k .strips) i j s (free-strip 0) d)))
 
 -- other terminals in a channel, or another floor
 module _ (k : Stack-struct) (i : ℕ) (within : i < k .count) where
@@ -106,13 +106,13 @@ module _ (k : Stack-struct) (i : ℕ) (within : i < k .count) where
 
 -- the shortest strips and channels without pairs
 pub bare-stack : (k : ℕ) (t : Terminals) → k ≤ 8 → channel-of t ≡ [] →
-    stack-of (record { count = k; strips = replicate 9 (strip 1); channels = replicate 8 t; floors = replicate 8 (tracks 0) }) ≡ bare k
-unfolding stack-of bare
+    stack-of (record { count = k; strips = replicate 9 (free-strip 1); channels = replicate 8 t; floors = replicate 8 (tracks 0) }) ≡ bare k
+unfolding stack-of bare window-of
 bare-stack k t h e =
     ap₂ stack
-    (tabulate-same (suc k) 0 (λ i. getD (replicate 9 (strip 1)) i (strip 0) .length .0) (λ i. 1)
-    (λ j a b. ap (λ (x : Strip). x .length .0) (getD-replicate 9 j (strip 1) (strip 0) (omega (arith, zero-add (suc k)))))
-    ∙ tabulate-constant (suc k) 0 1)
+    (tabulate-same (suc k) 0 (λ i. strip-of (getD (replicate 9 (free-strip 1)) i (free-strip 0))) (λ i. strip 1 free)
+    (λ j a b. ap (λ (x : Strip-struct). strip-of x) (getD-replicate 9 j (free-strip 1) (free-strip 0) (omega (arith, zero-add (suc k)))))
+    ∙ tabulate-constant (suc k) 0 (strip 1 free))
     (tabulate-same k 0 (λ i. channel (channel-of (getD (replicate 8 t) i no-terminals)) (getD (replicate 8 (tracks 0)) i (tracks 0) .0)) (λ i. no-channel)
     (λ j a b. ap₂ channel
     (ap (λ (x : Terminals). channel-of x) (getD-replicate 8 j t no-terminals (omega (arith, zero-add k))) ∙ e)

@@ -2,5 +2,6 @@
 pub mod Stack
 pub mod Limits
 pub mod Value
+pub mod Lengths
 pub mod Made
 pub mod Sizes

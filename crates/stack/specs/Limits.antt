@@ -1,11 +1,12 @@
--- TRUSTED. The limits on a stack of documents 01 and 02 (P2): k from 1 to 8, strip lengths from 1 to 1,000, up to 32 pairs in a channel, terminals within
--- their strip and strictly rising along each edge, floors up to 64. Assumes nothing: these are definitions.
+-- TRUSTED. The limits on a stack of documents 01 and 02 (P2, P7): k from 1 to 8, strip lengths from 1 to 1,000, up to 32 pairs in a channel, terminals within
+-- their strip and strictly rising along each edge, floors up to 64, windows from a least to a greatest position up to 9,999. Assumes nothing: these are
+-- definitions.
 use mathlib.Core.Bool.{Bool, true, false, _&&_}
 use mathlib.Core.List.{List, [], _∷_}
 use Prim.Native.Nat.{ℕ}
 use lib.Dec.{ltb, leb}
 use lib.ListN.{length}
-use Rattle.stack.specs.Stack.{Pair, Channel, Stack}
+use Rattle.stack.specs.Stack.{Pair, Channel, Window, free, held, Strip, Stack}
 
 -- each pair's terminals are above those of the pair before it, the first's above p and q
 unfoldable pub rises-above : (p q : ℕ) → List Pair → Bool
@@ -32,16 +33,23 @@ unfoldable pub channel-within : (lower upper : ℕ) → Channel → Bool
 channel-within a b c = leb (c .floor) 64 && pairs-within a b (c .pairs)
 
 -- one channel above each strip but the last
-unfoldable pub channels-within : (strips : List ℕ) → List Channel → Bool
+unfoldable pub channels-within : List Strip → List Channel → Bool
 channels-within [] cs = false
 channels-within (a ∷ []) [] = true
 channels-within (a ∷ []) (c ∷ cs) = false
 channels-within (a ∷ b ∷ ls) [] = false
-channels-within (a ∷ b ∷ ls) (c ∷ cs) = channel-within a b c && channels-within (b ∷ ls) cs
+channels-within (a ∷ b ∷ ls) (c ∷ cs) = channel-within (a .length) (b .length) c && channels-within (b ∷ ls) cs
 
-unfoldable pub strips-within : List ℕ → Bool
+unfoldable pub window-within : Window → Bool
+window-within free = true
+window-within (held a e) = leb a e && leb e 9999
+
+unfoldable pub strip-within : Strip → Bool
+strip-within l = (leb 1 (l .length) && leb (l .length) 1000) && window-within (l .window)
+
+unfoldable pub strips-within : List Strip → Bool
 strips-within [] = true
-strips-within (l ∷ ls) = (leb 1 l && leb l 1000) && strips-within ls
+strips-within (l ∷ ls) = strip-within l && strips-within ls
 
 unfoldable pub within-limits : Stack → Bool
 within-limits k =

@@ -7,10 +7,13 @@ use Prim.Native.Nat.{ℕ, suc, _+_, _*_, _-_, _≤_, _<_}
 use lib.Dec.{ltb, leb}
 use lib.ListN.{length, getD, set, drop, replicate}
 use Rattle.numbers.specs.Lists.{tabulate}
-use Rattle.stack.specs.Stack.{Pair, pair, p-at, q-at, channel, no-channel, channel-in, Stack, stack, longest, sum}
-use Rattle.stack.specs.Value.{strip, channel-of, stack-of}
+use Rattle.stack.specs.Stack.{Pair, pair, p-at, q-at, channel, no-channel, channel-in, Window, free, held, Strip, strip, Stack, stack, greatest-of, sum}
+use Rattle.stack.specs.Limits.{window-within}
+use Rattle.stack.specs.Value.{free-strip, held-strip, channel-of, stack-of}
+use Rattle.stack.specs.Lengths.{lengths}
+use Rattle.stack.specs.declared.Strip.{Strip as Strip-struct}
 use Rattle.stack.specs.declared.StripMade.{StripMade}
-use Rattle.stack.specs.declared.StripMade.the-variants.{Made, Length}
+use Rattle.stack.specs.declared.StripMade.the-variants.{Made, Length, Inverted}
 use Rattle.stack.specs.declared.TerminalsFound.{TerminalsFound}
 use Rattle.stack.specs.declared.TerminalsFound.the-variants.{Good, Crowd, Overhang, Crossing}
 use Rattle.stack.specs.declared.Terminals.{Terminals}
@@ -20,9 +23,13 @@ use Rattle.stack.specs.declared.StackFound.the-variants.{Sized, Oversize
 use Rattle.stack.specs.declared.StackMade.{StackMade}
 use Rattle.stack.specs.declared.Stack.{Stack as Stack-struct}
 
--- a strip of a length from 1 to 1,000
-unfoldable pub strip-made : (length : ℕ) → StripMade
-strip-made l = cond (leb 1 l && leb l 1000) (Made (strip l)) Length
+-- a strip of a length from 1 to 1,000, free or held in a window within the limits; length is tested before the window
+unfoldable pub strip-with : (length : ℕ) → Window → Strip-struct
+strip-with l free = free-strip l
+strip-with l (held a e) = held-strip l a e
+
+unfoldable pub strip-made : (length : ℕ) → Window → StripMade
+strip-made l w = cond (leb 1 l && leb l 1000) (cond (window-within w) (Made (strip-with l w)) Inverted) Length
 
 -- a terminal is not above the one before it, where there is one
 unfoldable pub not-above : (pairs before x : ℕ) → Bool
@@ -94,14 +101,14 @@ channels-made Oversized k = 1
 
 -- the shortest strips, and channels without pairs
 unfoldable pub bare : (k : ℕ) → Stack
-bare k = stack (replicate (suc k) 1) (replicate k no-channel)
+bare k = stack (replicate (suc k) (strip 1 free)) (replicate k no-channel)
 
 pub record Stack-made (k : ℕ) (r : StackMade) : Type 0 where
   pub found : r .found ≡ stack-found k
   pub count : r .stack .count ≡ channels-made (r .found) k
   pub bare : stack-of (r .stack) ≡ bare (r .stack .count)
 
-pub record Strip-set (k : Stack-struct) (i l : ℕ) (r : Stack-struct) : Type 0 where
+pub record Strip-set (k : Stack-struct) (i : ℕ) (l : Strip) (r : Stack-struct) : Type 0 where
   pub count : r .count ≡ k .count
   pub value : stack-of r ≡ stack (set (stack-of k .strips) i l) (stack-of k .channels)
 
@@ -124,12 +131,18 @@ pub record Length-more (l rest r : ℕ) : Type 0 where
   pub all : r ≡ l + rest
   pub small : l < 4294967296
 
--- the greatest and the sum of the lengths of the strips from i on
-pub record Lengths-from (k : Stack-struct) (i most : ℕ) : Type 0 where
+-- a strip's number below 2^33
+pub record Number-of (x r : ℕ) : Type 0 where
+  pub is : r ≡ x
+  pub small : r < 8589934592
+
+-- of the strips from i on the greatest number, and the sum of the lengths
+pub record Greatest-from (f : Strip → ℕ) (k : Stack-struct) (i most : ℕ) : Type 0 where
   pub inside : i ≤ suc (k .count)
-  pub most-is : most ≡ longest (drop i (stack-of k .strips))
+  pub most-is : most ≡ greatest-of f (drop i (stack-of k .strips))
+  pub small : most < 8589934592
 
 pub record Sum-from (k : Stack-struct) (i all : ℕ) : Type 0 where
   pub inside : i ≤ suc (k .count)
-  pub sum-is : all ≡ sum (drop i (stack-of k .strips))
+  pub sum-is : all ≡ sum (lengths (drop i (stack-of k .strips)))
   pub small : all + 4294967296 * i ≤ 4294967296 * suc (k .count)

@@ -1,10 +1,10 @@
 -- TRUSTED. Stacks of strips and channels; when a channel can be wired; legal placements, the least total and the placement for a total, a table's rows.
--- Document 01, "Strips, columns and tracks", "When a channel can be wired" and "Choosing among equals"; document 02, P2 to P4. Assumes nothing: these are
+-- Document 01, "Strips, columns and tracks", "When a channel can be wired" and "Choosing among equals"; document 02, P2 to P4 and P7. Assumes nothing: these are
 -- definitions.
 use mathlib.Core.Path.{_≡_}
-use mathlib.Core.Bool.{Bool, true, false, _&&_, _||_, cond}
+use mathlib.Core.Bool.{Bool, true, false, _&&_, _||_}
 use mathlib.Core.List.{List, [], _∷_}
-use Prim.Native.Nat.{ℕ, zero, suc, _+_, _-_, _≤_, _<_}
+use Prim.Native.Nat.{ℕ, zero, suc, _+_, _-_, _≤_, _<_, max}
 use lib.Dec.{ltb, leb, eqb}
 use lib.ListN.{length, getD}
 
@@ -18,9 +18,19 @@ pub record Channel : Type 0 where
   pub pairs : List Pair
   pub floor : ℕ
 
--- a STACK: its strips' lengths from the bottom, and the channel above each strip but the last
+-- the WINDOW of a strip, document 02's P7: free, or held from a least to a greatest position
+pub data Window : Type 0 where
+  free : Window
+  held : (least greatest : ℕ) → Window
+
+-- a STRIP: its length and its window
+pub record Strip : Type 0 where
+  pub length : ℕ
+  pub window : Window
+
+-- a STACK: its strips from the bottom, and the channel above each strip but the last
 pub record Stack : Type 0 where
-  pub strips : List ℕ
+  pub strips : List Strip
   pub channels : List Channel
 
 unfoldable pub pair : (p q : ℕ) → Pair
@@ -29,12 +39,19 @@ pair a b = record { p = a; q = b }
 abbrev pub channel : List Pair → (floor : ℕ) → Channel
 channel ps f = record { pairs = ps; floor = f }
 
-unfoldable pub stack : List ℕ → List Channel → Stack
+abbrev pub strip : (length : ℕ) → Window → Strip
+strip l w = record { length = l; window = w }
+
+unfoldable pub stack : List Strip → List Channel → Stack
 stack s c = record { strips = s; channels = c }
 
 -- a channel without pairs and with floor 0
 abbrev pub no-channel : Channel
 no-channel = channel [] 0
+
+-- a free strip of length 0
+abbrev pub no-strip : Strip
+no-strip = strip 0 free
 
 -- the channel between strips i and i + 1
 abbrev pub channel-in : Stack → (i : ℕ) → Channel
@@ -76,12 +93,21 @@ edge-clear (p ∷ ps) (suc t) a b = wirable (p ∷ ps) t a b
 unfoldable pub feasible : Channel → (t lower upper : ℕ) → Bool
 feasible c t a b = leb (c .floor) t && edge-clear (c .pairs) t a b
 
--- a PLACEMENT, separations and positions, lies WITHIN the spread
-unfoldable pub in-spread : (s : ℕ) → (strips positions : List ℕ) → Bool
+-- a position INSIDE the window
+unfoldable pub in-window : Window → (position : ℕ) → Bool
+in-window free x = true
+in-window (held a e) x = leb a x && leb x e
+
+-- a strip at a position lies within the spread and inside its window
+unfoldable pub stands : (s : ℕ) → Strip → (position : ℕ) → Bool
+stands s l x = leb (x + l .length) s && in-window (l .window) x
+
+-- a PLACEMENT, separations and positions, lies WITHIN the spread, each strip inside its window
+unfoldable pub in-spread : (s : ℕ) → List Strip → (positions : List ℕ) → Bool
 in-spread s [] [] = true
 in-spread s [] (x ∷ xs) = false
 in-spread s (l ∷ ls) [] = false
-in-spread s (l ∷ ls) (x ∷ xs) = leb (x + l) s && in-spread s ls xs
+in-spread s (l ∷ ls) (x ∷ xs) = stands s l x && in-spread s ls xs
 
 unfoldable pub channels-good : List Channel → (separations positions : List ℕ) → Bool
 channels-good [] [] xs = true
@@ -99,9 +125,22 @@ unfoldable pub sum : List ℕ → ℕ
 sum [] = 0
 sum (x ∷ xs) = x + sum xs
 
-unfoldable pub longest : List ℕ → ℕ
-longest [] = 0
-longest (x ∷ xs) = cond (ltb x (longest xs)) (longest xs) x
+-- the GREATEST, over strips, of a number that each has
+unfoldable pub greatest-of : (Strip → ℕ) → List Strip → ℕ
+greatest-of f [] = 0
+greatest-of f (l ∷ ls) = max (f l) (greatest-of f ls)
+
+unfoldable pub least-position : Window → ℕ
+least-position free = 0
+least-position (held a e) = a
+
+-- where a strip ends at its least position
+abbrev pub reach : Strip → ℕ
+reach l = l .length + least-position (l .window)
+
+-- THE FIRST SPREAD: the greatest, over all strips, of length plus least position
+unfoldable pub first-spread : List Strip → ℕ
+first-spread ls = greatest-of (λ (l : Strip). reach l) ls
 
 -- DICTIONARY ORDER of lists of one length: not later
 unfoldable pub not-later : (xs ys : List ℕ) → Bool
@@ -154,7 +193,7 @@ Stays k a b v = (s : ℕ) (us ys : List ℕ) → a ≤ s → s < b → legal k s
 unfoldable pub Stays-on : Stack → (from total : ℕ) → Type 0
 Stays-on k a v = (s : ℕ) (us ys : List ℕ) → a ≤ s → legal k s us ys ≡ true → v ≤ sum us
 
--- ROWS: the longest strip's length and every greater spread at which the least total falls
+-- ROWS: the first spread and every greater one at which the least total falls
 unfoldable pub Rows-after : Stack → Row → List Row → Type 0
 Rows-after k r [] = Stays-on k (r .spread) (total r)
 Rows-after k r (q ∷ qs) =
@@ -163,4 +202,4 @@ Rows-after k r (q ∷ qs) =
 
 unfoldable pub Rows-are : Stack → List Row → Type 0
 Rows-are k [] = ⊥
-Rows-are k (r ∷ rs) = (r .spread ≡ longest (k .strips)) × Answer k (r .spread) (r .separations) (r .positions) × Rows-after k r rs
+Rows-are k (r ∷ rs) = (r .spread ≡ first-spread (k .strips)) × Answer k (r .spread) (r .separations) (r .positions) × Rows-after k r rs

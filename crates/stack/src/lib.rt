@@ -1,12 +1,12 @@
-// Stacks of strips and channels, with document 01's limits as constants of the types and constructors that test them.
+// Stacks of strips and channels, with the limits of documents 01 and 02 as constants of the types and constructors that test them.
+use numbers::greater;
 ghost use mathlib.Core.Path.{_≡_};
 ghost use mathlib.Core.List.{[]};
 ghost use Prim.Native.Nat.{_-_, _≤_, _<_};
-ghost use mathlib.Core.Bool.{cond};
-ghost use lib.Dec.{ltb};
 ghost use lib.ListN.{getD};
-ghost use Rattle.stack.specs.Stack.{longest, sum};
-ghost use Rattle.stack.specs.Value.{columns, channel-of, stack-of};
+ghost use Rattle.stack.specs.Stack.{free, held, reach, first-spread, sum};
+ghost use Rattle.stack.specs.Value.{columns, strip-of, channel-of, stack-of};
+ghost use Rattle.stack.specs.Lengths.{lengths, greatest-position, last-position};
 ghost use Rattle.stack.specs.Made.{
   strip-made,
   is-good,
@@ -20,6 +20,7 @@ ghost use Rattle.stack.specs.Made.{
   Floor-set,
   Stored,
   Length-more,
+  Number-of,
 };
 
 // A count of tracks: a separation. Document 01, "Strips, columns and tracks".
@@ -28,14 +29,18 @@ pub struct Tracks(pub u32);
 // A count of columns: a position, a terminal or a length. Document 01, "Strips, columns and tracks".
 pub struct Columns(pub u32);
 
-// A strip of components.
+// A strip of components. Where it is held, it may stand from its least to its greatest position, else anywhere.
 pub struct Strip {
     pub length: Columns,
+    pub held: bool,
+    pub least: Columns,
+    pub greatest: Columns,
 }
 
 pub enum StripMade {
     Made(Strip),
     Length,
+    Inverted,
 }
 
 impl Strip {
@@ -43,8 +48,11 @@ impl Strip {
 
     pub const MAX_LENGTH: u32 = 1000;
 
+    pub const MAX_POSITION: u32 = 9999;
+
+    // A free strip.
     pub fn new(length: u32) -> StripMade
-        ensures { λ r. ⌜ r ≡ strip-made length ⌝ }
+        ensures { λ r. ⌜ r ≡ strip-made length free ⌝ }
     {
         if length < Strip::MIN_LENGTH {
             return StripMade::Length;
@@ -54,6 +62,33 @@ impl Strip {
         }
         StripMade::Made(Strip {
             length: Columns(length),
+            held: false,
+            least: Columns(0),
+            greatest: Columns(0),
+        })
+    }
+
+    // A strip held from a least to a greatest position.
+    pub fn held(length: u32, least: u32, greatest: u32) -> StripMade
+        ensures { λ r. ⌜ r ≡ strip-made length (held least greatest) ⌝ }
+    {
+        if length < Strip::MIN_LENGTH {
+            return StripMade::Length;
+        }
+        if Strip::MAX_LENGTH < length {
+            return StripMade::Length;
+        }
+        if greatest < least {
+            return StripMade::Inverted;
+        }
+        if Strip::MAX_POSITION < greatest {
+            return StripMade::Inverted;
+        }
+        StripMade::Made(Strip {
+            length: Columns(length),
+            held: true,
+            least: Columns(least),
+            greatest: Columns(greatest),
         })
     }
 }
@@ -260,6 +295,9 @@ impl Stack {
     {
         let shortest = Strip {
             length: Columns(Strip::MIN_LENGTH),
+            held: false,
+            least: Columns(0),
+            greatest: Columns(0),
         };
         let none = Terminals::none();
         Stack {
@@ -295,7 +333,7 @@ impl Stack {
     // The stack with another strip at a place.
     pub fn with_strip(mut self, i: usize, strip: Strip) -> Stack
         requires { ⌜ (i ≤ self .count) × (self .count ≤ 8) ⌝ }
-        ensures { λ r. ⌜ Strip-set self i (strip .length .0) r ⌝ }
+        ensures { λ r. ⌜ Strip-set self i (strip-of strip) r ⌝ }
     {
         let old = self.strips;
         let strips = strip_stored(old, i, strip);
@@ -325,16 +363,30 @@ impl Stack {
         self
     }
 
-    // The length of the longest strip.
-    pub fn longest(self) -> u32
+    // The first spread: the greatest length with the least position.
+    pub fn first_spread(self) -> u64
         requires { ⌜ self .count ≤ 8 ⌝ }
-        ensures { λ r. ⌜ r ≡ longest (stack-of self .strips) ⌝ }
+        ensures { λ r. ⌜ Number-of (first-spread (stack-of self .strips)) r ⌝ }
     {
-        let mut most: u32 = 0;
+        let mut most: u64 = 0;
         let mut left = self.count + 1;
         while 0 < left {
             left -= 1;
-            most = longer(most, self.strips[left]);
+            most = greater(most, reach(self.strips[left]));
+        }
+        most
+    }
+
+    // The greatest position of a strip that is held; 0 where none is.
+    pub fn last_position(self) -> u64
+        requires { ⌜ self .count ≤ 8 ⌝ }
+        ensures { λ r. ⌜ Number-of (last-position (stack-of self .strips)) r ⌝ }
+    {
+        let mut most: u64 = 0;
+        let mut left = self.count + 1;
+        while 0 < left {
+            left -= 1;
+            most = greater(most, greatest_position(self.strips[left]));
         }
         most
     }
@@ -342,7 +394,7 @@ impl Stack {
     // The sum of the strips' lengths.
     pub fn lengths_sum(self) -> u64
         requires { ⌜ self .count ≤ 8 ⌝ }
-        ensures { λ r. ⌜ r ≡ sum (stack-of self .strips) ⌝ }
+        ensures { λ r. ⌜ r ≡ sum (lengths (stack-of self .strips)) ⌝ }
     {
         let mut all: u64 = 0;
         let mut i = self.count + 1;
@@ -354,14 +406,24 @@ impl Stack {
     }
 }
 
-// The greater of a length and a strip's.
-fn longer(most: u32, strip: Strip) -> u32
-    ensures { λ r. ⌜ r ≡ cond (ltb (strip .length .0) most) most (strip .length .0) ⌝ }
+// A strip's length with its least position.
+fn reach(strip: Strip) -> u64
+    ensures { λ r. ⌜ Number-of (reach (strip-of strip)) r ⌝ }
 {
-    if strip.length.0 < most {
-        return most;
+    if strip.held {
+        return strip.length.0 as u64 + strip.least.0 as u64;
     }
-    strip.length.0
+    strip.length.0 as u64
+}
+
+// A strip's greatest position, 0 where it is free.
+fn greatest_position(strip: Strip) -> u64
+    ensures { λ r. ⌜ Number-of (greatest-position (strip-of strip .window)) r ⌝ }
+{
+    if strip.held {
+        return strip.greatest.0 as u64;
+    }
+    0
 }
 
 // A strip's length and what is below 2^48 together.

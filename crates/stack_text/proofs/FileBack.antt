@@ -10,7 +10,7 @@ use lib.Seq.{getD-append-add}
 use borrow.Author.Tests.{le-leb, lt-ltb, le-ltb}
 use Rattle.numbers.specs.Lists.{tabulate}
 use Rattle.lines.specs.Lines.{Line, lines, no-line, line-at}
-use Rattle.text.specs.Text.{refusal, fine, or-else, stack-word, part-word, nets-word, gap-word, entry, first-of, fault-at, kind, exactly, in-pairs, layout, stack-content, part-content, nets-content, gap-content, stack-kind, part-kind, nets-kind, gap-kind, Check, check, supplied, line-check, k-of, head-refusal, head-check, part-check, length-at, nets-check, tail-at, tail-count, channel-before, tail-check, checks, in-turn, text-refusal, File, file, file-in}
+use Rattle.text.specs.Text.{refusal, fine, or-else, stack-word, part-word, nets-word, gap-word, entry, first-of, fault-at, kind, exactly, one-or-three, in-pairs, layout, stack-content, part-content, nets-content, gap-content, stack-kind, part-kind, nets-kind, gap-kind, Check, check, supplied, line-check, k-of, head-refusal, head-check, part-check, length-at, nets-check, tail-at, tail-count, channel-before, tail-check, checks, in-turn, text-refusal, File, file, file-in}
 use Rattle.stack_text.specs.StackText.{lines-text, file-text}
 use Rattle.stack_text.proofs.Cuts.{without}
 use Rattle.stack_text.proofs.LineBack.{small, Small, line-made, numbers-back, layout-back, line-back, lines-back}
@@ -160,7 +160,7 @@ gap-before b gs (suc g) = getD (getD gs g []) 0 0
 pub record Contents (f : File) : Type 0 where
   pub some : 1 ≤ length (f .nets)
   pub most : length (f .nets) ≤ 8
-  pub part-count : (j : ℕ) → j < length (f .parts) → exactly 1 (length (getD (f .parts) j [])) ≡ 0
+  pub part-count : (j : ℕ) → j < length (f .parts) → one-or-three (length (getD (f .parts) j [])) ≡ 0
   pub part-good : (j n : ℕ) → j < length (f .parts) → part-content (entry n 0 (getD (f .parts) j [])) ≡ fine
   pub nets-count : (c : ℕ) → c < length (f .nets) → in-pairs (length (getD (f .nets) c [])) ≡ 0
   pub nets-good : (c n : ℕ) → c < length (f .nets) →

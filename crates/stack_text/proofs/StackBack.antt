@@ -10,31 +10,51 @@ use lib.ListN.{length, getD, length-map, length-append}
 use borrow.Author.Tests.{leb-true, ltb-true, eqb-true, le-leb, le-ltb, lt-leb, lt-ltb, eq-eqb, ne-eqb}
 use Rattle.numbers.specs.Lists.{tabulate}
 use Rattle.numbers.proofs.Bools.{ands}
-use Rattle.stack.specs.Stack.{Pair, pair, Channel, channel, no-channel, channel-in, Stack, stack}
-use Rattle.stack.specs.Limits.{rises-above, rising, on-strips, pairs-within, channel-within, channels-within, strips-within, within-limits}
-use Rattle.stack.proofs.Within.{channel-in-limits, strips-count, channels-few}
-use Rattle.text.specs.Text.{fine, stack-word, part-word, nets-word, gap-word, exactly, in-pairs, entry, first-of, second-of, part-content, terminals-refusal, nets-content, gap-content, text-refusal, file, pairs-of, floor-in, stack-in-file, stack-in}
-use Rattle.stack_text.specs.StackText.{line-text, lines-text, file-text, terminals-of, gaps-of, file-of, stack-text, Stack-text-read}
+use Rattle.stack.specs.Stack.{Pair, pair, Channel, channel, no-channel, channel-in, Window, free, held, Strip, strip, no-strip, Stack, stack}
+use Rattle.stack.specs.Limits.{rises-above, rising, on-strips, pairs-within, channel-within, channels-within, window-within, strip-within, strips-within, within-limits}
+use Rattle.stack.proofs.Within.{channel-in-limits, strip-in-limits, strips-count, channels-few}
+use Rattle.text.specs.Text.{fine, stack-word, part-word, nets-word, gap-word, exactly, one-or-three, in-pairs, entry, first-of, second-of, third-of, part-content, terminals-refusal, nets-content, gap-content, text-refusal, file, pairs-of, window-in, strip-in, floor-in, stack-in-file, stack-in}
+use Rattle.stack_text.specs.StackText.{line-text, lines-text, file-text, part-numbers, parts-of, terminals-of, gaps-of, file-of, stack-text, Stack-text-read}
 use Rattle.stack_text.proofs.LineBack.{small, line-short, lines-short}
 use Rattle.stack_text.proofs.FileBack.{getD-map, tabulate-back, Shaped, file-back, gap-before, Contents, file-accepted}
 
 -- STRIPS
-pub record Part-good (l : ℕ) : Type 0 where
-  pub few : small (l ∷ []) ≡ true
+pub record Part-good (l : ℕ) (ns : List ℕ) : Type 0 where
+  pub few : small ns ≡ true
+  pub short : length ns ≤ 3
+  pub first : getD ns 0 0 ≡ l
   pub most : l ≤ 1000
-  pub good : (n : ℕ) → part-content (entry n 0 (l ∷ [])) ≡ fine
+  pub count : one-or-three (length ns) ≡ 0
+  pub good : (n : ℕ) → part-content (entry n 0 ns) ≡ fine
 
-strip-good : (l : ℕ) → (leb 1 l && leb l 1000) ≡ true → Part-good l
-unfolding small part-content entry first-of
-strip-good l h =
+strip-good : (l : ℕ) (w : Window) → strip-within (strip l w) ≡ true → Part-good l (part-numbers l w)
+unfolding strip-within window-within part-numbers small one-or-three exactly part-content entry first-of second-of third-of
+strip-good l free h =
     let most : l ≤ 1000 = leb-true l 1000 (search ands) in
-    record { few = rw (lt-ltb l 10000 (omega arith)); most = most; good = λ n. rw h }
+    let long : (leb 1 l && leb l 1000) ≡ true = search ands in
+    record { few = rw (lt-ltb l 10000 (omega arith)); short = omega arith; first = refl; most = most; count = refl; good = λ n. rw long }
+strip-good l (held a e) h =
+    let most : l ≤ 1000 = leb-true l 1000 (search ands) in
+    let long : (leb 1 l && leb l 1000) ≡ true = search ands in
+    let rising : a ≤ e = leb-true a e (search ands) in
+    let last : e ≤ 9999 = leb-true e 9999 (search ands) in
+    record {
+      few = rw (lt-ltb l 10000 (omega arith), lt-ltb a 10000 (omega arith), lt-ltb e 10000 (omega arith));
+      short = omega arith;
+      first = refl;
+      most = most;
+      count = refl;
+      good = λ n. rw (long, le-ltb e a rising);
+    }
 
-strip-at : (ls : List ℕ) (j : ℕ) → strips-within ls ≡ true → j < length ls → Part-good (getD ls j 0)
-unfolding strips-within
-strip-at [] j h k = absurd (omega arith)
-strip-at (l ∷ ls) zero h k = strip-good l (search ands)
-strip-at (l ∷ ls) (suc j) h k = strip-at ls j (search ands) (omega arith)
+part-back : (l : ℕ) (w : Window) → strip-in (part-numbers l w) ≡ strip l w
+unfolding part-numbers strip-in window-in
+part-back l free = refl
+part-back l (held a e) = refl
+
+strips-back : (ls : List Strip) → map strip-in (parts-of ls) ≡ ls
+strips-back [] = refl
+strips-back (l ∷ ls) = rw (part-back (l .length) (l .window), strips-back ls)
 
 -- CHANNELS
 terminals-length : (c : List Pair) → length (terminals-of c) ≡ 2 * length c
@@ -92,10 +112,6 @@ pairs-good lo hi c h k l =
       count = rw (eq-eqb (length (terminals-of c) % 2) 0 even);
       good = λ n. rw (le-ltb 64 (length (terminals-of c)) short) (terminals-fine lo hi 2 n c (search ands) (search ands));
     }
-
-strips-back : (ls : List ℕ) → map (λ ns. getD ns 0 0) (map (λ l. l ∷ []) ls) ≡ ls
-strips-back [] = refl
-strips-back (l ∷ ls) = rw (strips-back ls)
 
 -- FLOORS: GAP lines of rising channels
 abbrev Low : List Channel → Type 0
@@ -177,7 +193,7 @@ floor-back n (suc j) (c ∷ cs) h =
 
 -- THE STACK
 abbrev parts-in : Stack → List (List ℕ)
-parts-in k = map (λ l. l ∷ []) (k .strips)
+parts-in k = parts-of (k .strips)
 
 abbrev nets-in : Stack → List (List ℕ)
 nets-in k = map (λ c. terminals-of (c .pairs)) (k .channels)
@@ -221,21 +237,22 @@ module _ (k : Stack) (h : within-limits k ≡ true) where
   strips-long = strips-count k h
 
   parts-long : length (parts-in k) ≡ suc (length (k .channels))
-  parts-long = length-map (k .strips) (λ l. l ∷ []) ∙ strips-long
+  parts-long = length-map (k .strips) (λ (l : Strip). part-numbers (l .length) (l .window)) ∙ strips-long
 
   nets-long : length (nets-in k) ≡ length (k .channels)
   nets-long = length-map (k .channels) (λ c. terminals-of (c .pairs))
 
-  part-at : (j : ℕ) → j < length (parts-in k) → getD (parts-in k) j [] ≡ getD (k .strips) j 0 ∷ []
-  part-at j l = getD-map (λ l. l ∷ []) (k .strips) j [] 0 (omega (arith, parts-long, strips-long))
+  part-good : (j : ℕ) → j ≤ length (k .channels) → Part-good (getD (k .strips) j no-strip .length) (getD (parts-in k) j [])
+  part-good j l =
+      let within : j < length (k .strips) = omega (arith, strips-long) in
+      let s = getD (k .strips) j no-strip in
+      rw (getD-map (λ (l : Strip). part-numbers (l .length) (l .window)) (k .strips) j [] no-strip within)
+      (strip-good (s .length) (s .window) (strip-in-limits (k .strips) j strips-good within))
 
-  part-good : (j : ℕ) → j ≤ length (k .channels) → Part-good (getD (k .strips) j 0)
-  part-good j l = strip-at (k .strips) j strips-good (omega (arith, strips-long))
-
-  part : (j : ℕ) → j < length (parts-in k) → Part-good (getD (k .strips) j 0)
+  part : (j : ℕ) → j < length (parts-in k) → Part-good (getD (k .strips) j no-strip .length) (getD (parts-in k) j [])
   part j l = part-good j (omega (arith, parts-long))
 
-  net : (c : ℕ) → c < length (nets-in k) → Nets-good (getD (k .strips) c 0) (getD (k .strips) (suc c) 0) (getD (nets-in k) c [])
+  net : (c : ℕ) → c < length (nets-in k) → Nets-good (getD (k .strips) c no-strip .length) (getD (k .strips) (suc c) no-strip .length) (getD (nets-in k) c [])
   unfolding channel-within
   net c l =
       let m : c < length (k .channels) = rw nets-long at l in
@@ -258,7 +275,7 @@ module _ (k : Stack) (h : within-limits k ≡ true) where
   shaped = record {
     strips = parts-long ∙ ap suc (sym nets-long);
     few = omega (arith, nets-long, most);
-    parts = λ j l. rw (part-at j l) (part j l .few);
+    parts = λ j l. part j l .few;
     nets = λ c l. net c l .few;
     gaps = λ g l. gap g l .few;
   }
@@ -270,7 +287,7 @@ module _ (k : Stack) (h : within-limits k ≡ true) where
       let ns = nets-in k in
       let gs = gaps-in k in
       let head : length (line-text stack-word (length ns ∷ [])) ≤ 11 = line-short stack-word (length ns ∷ []) (rw (lt-ltb (length ns) 10000 (omega (arith, nets-long, most)))) in
-      let parts : length (lines-text part-word ps) ≤ 10 * length ps = lines-short part-word 1 ps (shaped .parts) (λ j l. rw (part-at j l) (omega arith)) in
+      let parts : length (lines-text part-word ps) ≤ 20 * length ps = lines-short part-word 3 ps (shaped .parts) (λ j l. part j l .short) in
       let nets : length (lines-text nets-word ns) ≤ 325 * length ns = lines-short nets-word 64 ns (shaped .nets) (λ c l. net c l .short) in
       let gaps : length (lines-text gap-word gs) ≤ 14 * length gs = lines-short gap-word 2 gs (shaped .gaps) (λ g l. gap g l .short) in
       let tail = lines-text nets-word ns ++ lines-text gap-word gs in
@@ -279,14 +296,14 @@ module _ (k : Stack) (h : within-limits k ≡ true) where
       omega (arith, length-append (lines-text part-word ps) tail, length-append (lines-text nets-word ns) (lines-text gap-word gs), parts-long, nets-long, most)
 
   contents : Contents (file-of k)
-  unfolding file-of file exactly
+  unfolding file-of file
   contents = record {
     some = omega (arith, nets-long, some);
     most = omega (arith, nets-long, most);
-    part-count = λ j l. rw (part-at j l);
-    part-good = λ j n l. rw (part-at j l) (part j l .good n);
+    part-count = λ j l. part j l .count;
+    part-good = λ j n l. part j l .good n;
     nets-count = λ c l. net c l .count;
-    nets-good = λ c n l. rw (part-at c (omega (arith, parts-long, nets-long)), part-at (suc c) (omega (arith, parts-long, nets-long))) (net c l .good n);
+    nets-good = λ c n l. rw (part-good c (omega (arith, nets-long)) .first, part-good (suc c) (omega (arith, nets-long)) .first) (net c l .good n);
     gap-count = λ g l. gap g l .count;
     gap-good = λ g n l. gap g l .good n;
     short = text-short;

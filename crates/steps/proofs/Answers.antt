@@ -9,14 +9,14 @@ use lib.ListN.{length, getD}
 use borrow.Author.Tests.{ne-eqb}
 use Rattle.lines.specs.Lines.{Line, line, same-bytes}
 use Rattle.lines.proofs.Fields.{numbers-count, numbers-few}
-use Rattle.text.specs.Text.{refusal, fine, nets-word, part-word, Kind, kind, layout, exactly, part-kind}
+use Rattle.text.specs.Text.{refusal, fine, nets-word, part-word, Kind, kind, layout, exactly}
 use Rattle.text.specs.Outcome.{refusal-of, is-accepted}
 use Rattle.text.specs.Kinds.{Kind-read}
 use Rattle.text.specs.declared.KindRead.{KindRead}
 use Rattle.text.specs.declared.Outcome.{Outcome}
 use Rattle.text.proofs.Refusals.{refused-number, accepted-fine}
 use Rattle.text.proofs.Layouts.{number-kept}
-use Rattle.steps.specs.Steps.{begin-word, add-word, off-word, list-kind, is-line, word-line, length-in, step-line}
+use Rattle.steps.specs.Steps.{begin-word, add-word, off-word, length-kind, list-kind, is-line, word-line, length-in, step-line}
 use Rattle.steps.specs.Parts.{Part-line, List-line, Step-line-read}
 use Rattle.steps.specs.declared.StepLine.{StepLine}
 use Rattle.steps.specs.declared.StepLine.the-variants.{NoStep, BeginPart, AddPart, AddNets, Begin, Add, Off}
@@ -35,10 +35,10 @@ accepted-line K l o e = go (is-accepted o) refl
 
 module _ (l : Line) (r : KindRead) (vs : List ℕ) (good : Bool) (a : good ≡ is-accepted (r .layout)) where
   pub part-told : Kind-read part-word (λ n. exactly 1 n) 0 l r vs → Part-line l (record { good = good; length = getD vs 0 0 })
-  unfolding part-kind kind length-in
+  unfolding length-kind kind length-in
   part-told m = record {
-    good = a ∙ accepted-line part-kind l (r .layout) (m .layout (part-kind .content));
-    length = λ t. number-kept part-kind 0 l r vs m (sym a ∙ t) 0 (omega arith);
+    good = a ∙ accepted-line length-kind l (r .layout) (m .layout (length-kind .content));
+    length = λ t. number-kept length-kind 0 l r vs m (sym a ∙ t) 0 (omega arith);
   }
 
   pub list-told : Kind-read nets-word (λ n. 0) 0 l r vs → List-line l (record { good = good; count = r .count }) vs
@@ -93,7 +93,7 @@ module _ (before : StepLine) (l : Line) where
 
     -- the PART line of a step
     pub part-step : (p : PartLine) (made : ℕ → StepLine) → ((n : ℕ) → is-add (made n) ≡ false) → Part-line l p → x ≡ cond (p .good) (made (p .length)) NoStep →
-        step-line before l ≡ cond (is-line part-kind l) (made (length-in l)) NoStep → Step-line-read before l r vs
+        step-line before l ≡ cond (is-line length-kind l) (made (length-in l)) NoStep → Step-line-read before l r vs
     part-step p made none m w s = go (p .good) refl
       where
         go : (v : Bool) → p .good ≡ v → Step-line-read before l r vs

@@ -6,8 +6,7 @@ use Prim.Native.Nat.{ℕ}
 use lib.ListN.{length}
 use Rattle.lines.specs.Lines.{Line, numbers-of}
 use Rattle.lines.specs.Numbers.{in-places}
-use Rattle.text.specs.Text.{part-kind}
-use Rattle.steps.specs.Steps.{is-line, list-kind, length-in, step-line}
+use Rattle.steps.specs.Steps.{length-kind, list-kind, is-line, length-in, step-line}
 use Rattle.steps.specs.declared.StepLine.{StepLine}
 use Rattle.steps.specs.declared.StepLine.the-variants.{Add}
 use Rattle.steps.specs.declared.PartLine.{PartLine}
@@ -16,7 +15,7 @@ use Rattle.steps.specs.declared.StepLineRead.{StepLineRead}
 
 -- a PART line and its length
 pub record Part-line (l : Line) (r : PartLine) : Type 0 where
-  pub good : r .good ≡ is-line part-kind l
+  pub good : r .good ≡ is-line length-kind l
   pub length : r .good ≡ true → r .length ≡ length-in l
 
 -- a NETS line, how many numbers it has, and the first 64 of them

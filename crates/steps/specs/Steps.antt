@@ -1,12 +1,12 @@
--- TRUSTED. The text of a session's steps: BEGIN and a PART line; ADD, a PART line and a NETS line; OFF. Document 02, P6, in the words of the program. Assumes nothing:
--- these are definitions.
+-- TRUSTED. The text of a session's steps: BEGIN and a PART line; ADD, a PART line and a NETS line; OFF. Document 02, P6 and P7, in the words of the program. Assumes
+-- nothing: these are definitions.
 use mathlib.Core.Bool.{Bool, cond}
 use mathlib.Core.List.{List, [], _∷_}
 use Prim.Native.Nat.{ℕ}
 use lib.Dec.{eqb}
 use lib.ListN.{getD}
 use Rattle.lines.specs.Lines.{Line, same-bytes, numbers-of}
-use Rattle.text.specs.Text.{fine, nets-word, Kind, kind, layout, part-kind}
+use Rattle.text.specs.Text.{fine, part-word, nets-word, Kind, kind, exactly, layout}
 use Rattle.steps.specs.declared.StepLine.{StepLine}
 use Rattle.steps.specs.declared.StepLine.the-variants.{NoStep, BeginPart, AddPart, AddNets, Begin, Add, Off}
 
@@ -19,6 +19,10 @@ add-word = 65 ∷ 68 ∷ 68 ∷ []
 
 unfoldable pub off-word : List ℕ
 off-word = 79 ∷ 70 ∷ 70 ∷ []
+
+-- PART with a length alone: the strips of a session are free
+unfoldable pub length-kind : Kind
+length-kind = kind part-word (λ n. exactly 1 n) (λ e. fine)
 
 -- NETS with any count of numbers: an odd list is the step's own refusal
 unfoldable pub list-kind : Kind
@@ -42,8 +46,8 @@ length-in l = getD (numbers-of l) 0 0
 -- step. NoStep stands before the first line.
 unfoldable pub step-line : (before : StepLine) → Line → StepLine
 step-line NoStep l = word-line l
-step-line BeginPart l = cond (is-line part-kind l) (Begin (length-in l)) NoStep
-step-line AddPart l = cond (is-line part-kind l) (AddNets (length-in l)) NoStep
+step-line BeginPart l = cond (is-line length-kind l) (Begin (length-in l)) NoStep
+step-line AddPart l = cond (is-line length-kind l) (AddNets (length-in l)) NoStep
 step-line (AddNets n) l = cond (is-line list-kind l) (Add n) NoStep
 step-line (Begin n) l = word-line l
 step-line (Add n) l = word-line l

@@ -42,7 +42,7 @@ fn word_line(bytes: &[u8], ended: bool) -> StepLine
     StepLine::NoStep
 }
 
-// Whether a line is a PART line by its layout, and its length.
+// Whether a line is a PART line with a length alone by its layout, and that length.
 struct PartLine {
     good: bool,
     length: u32,

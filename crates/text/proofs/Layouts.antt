@@ -1,5 +1,5 @@
--- The layout of a line in document 02's words; then as the reader of lines tells it: refused as the documents refuse it, and else the numbers are kept. Assumes
--- nothing.
+-- The layout of a line in document 02's words; that its numbers have at most four digits; then the layout as the reader of lines tells it: refused as the documents
+-- refuse it, and else the numbers are kept. Assumes nothing.
 use mathlib.Core.Path.{_≡_, refl, sym, _∙_}
 use mathlib.Core.Bool.{Bool, true, false, cond}
 use mathlib.Core.List.{List, [], _∷_}
@@ -7,33 +7,43 @@ use mathlib.Core.Logic.{_⊎_, inl, inr}
 use Prim.Native.Nat.{ℕ, zero, suc, _+_, _≤_, _<_, _%_}
 use native.Mathlib.Nat.{zero-add}
 use native.Mathlib.Omega.{arith}
-use lib.Dec.{ltb, eqb}
+use lib.Dec.{ltb, leb, eqb}
 use lib.ListN.{length, getD}
-use borrow.Author.Tests.{ltb-true, eqb-true, ne-eqb}
-use Rattle.lines.specs.Lines.{Line, number-fields, has-word, is-number, ill-formed, numbers-of}
+use borrow.Author.Tests.{leb-true, ltb-true, eqb-true, ne-eqb}
+use Rattle.lines.specs.Lines.{Line, number-fields, has-word, all-digits, is-number, ill-formed, value-of, value, values, numbers-of}
 use Rattle.lines.specs.Numbers.{Line-read}
 use Rattle.lines.specs.declared.LineRead.{LineRead}
+use Rattle.lines.proofs.Digits.{digit-says}
 use Rattle.lines.proofs.Fields.{getD-in-places, numbers-count}
 use Rattle.numbers.proofs.Bools.{ands}
-use Rattle.text.specs.Text.{Refusal, refusal, fine, or-else, Entry, entry, Kind, kind, exactly, in-pairs, misplaced, count-refusal, number-refusal, layout}
+use Rattle.text.specs.Text.{Refusal, refusal, fine, or-else, Entry, entry, Kind, kind, exactly, one-or-three, in-pairs, misplaced, count-refusal, number-refusal, layout}
 use Rattle.text.specs.Layout.{First-ill, Layout-is, line-fault, count-fault, number-fault, good, Layout-told}
 use Rattle.text.specs.Outcome.{refusal-of, is-accepted}
 use Rattle.text.specs.Kinds.{fault-of, layout-found, Kind-read, kind-refusal}
 use Rattle.text.specs.declared.Counts.{Counts}
-use Rattle.text.specs.declared.Counts.the-variants.{Exactly, InPairs, Any}
+use Rattle.text.specs.declared.Counts.the-variants.{Exactly, OneOrThree, InPairs, Any}
 use Rattle.text.specs.declared.KindRead.{KindRead}
 use Rattle.text.specs.declared.Outcome.{Outcome}
 use Rattle.text.proofs.Refusals.{or-else-fine, unless-fine, only-fine, or-else-refused, or-else-next, refused-number, accepted-fine}
 
 -- THE FIELD of a fault of the count is at most the one behind the numbers
-pub fault-few : (d : Counts) (n : ℕ) → fault-of d n ≤ n + 2
-unfolding exactly in-pairs
-fault-few (Exactly m) n = go (ltb n m) (ltb m n) refl
+exactly-few : (m n : ℕ) → exactly m n ≤ n + 2
+unfolding exactly
+exactly-few m n = go (ltb n m) (ltb m n) refl
   where
     go : (v w : Bool) → ltb m n ≡ w → cond v (n + 2) (cond w (m + 2) 0) ≤ n + 2
     go true w e = omega arith
     go false true e = omega (arith, ltb-true m n e)
     go false false e = omega arith
+
+pub fault-few : (d : Counts) (n : ℕ) → fault-of d n ≤ n + 2
+unfolding one-or-three in-pairs
+fault-few (Exactly m) n = exactly-few m n
+fault-few OneOrThree n = go (leb n 1)
+  where
+    go : (v : Bool) → cond v (exactly 1 n) (exactly 3 n) ≤ n + 2
+    go true = exactly-few 1 n
+    go false = exactly-few 3 n
 fault-few InPairs n = go (eqb (n % 2) 0)
   where
     go : (v : Bool) → cond v 0 (n + 2) ≤ n + 2
@@ -154,6 +164,32 @@ layout-says K n l h =
 pub layout-ended : (K : Kind) (n : ℕ) (l : Line) → layout K n l .number ≡ 0 → l .ended ≡ true
 unfolding has-word
 layout-ended K n l h = let u : has-word l (K .word) ≡ true = layout-says K n l h .worded in search ands
+
+-- A NUMBER has at most four digits
+value-below : (xs : List ℕ) → is-number xs ≡ true → value xs < 10000
+unfolding is-number all-digits value value-of
+value-below [] h = omega arith
+value-below (a ∷ []) h = omega (arith, digit-says a (search ands))
+value-below (a ∷ b ∷ []) h = omega (arith, digit-says a (search ands), digit-says b (search ands))
+value-below (a ∷ b ∷ c ∷ []) h = omega (arith, digit-says a (search ands), digit-says b (search ands), digit-says c (search ands))
+value-below (a ∷ b ∷ c ∷ d ∷ []) h =
+    omega (arith, digit-says a (search ands), digit-says b (search ands), digit-says c (search ands), digit-says d (search ands))
+value-below (a ∷ b ∷ c ∷ d ∷ e ∷ xs) h = absurd (omega (arith, leb-true (length (a ∷ b ∷ c ∷ d ∷ e ∷ xs)) 4 (search ands)))
+
+values-below : (f : ℕ) (fs : List (List ℕ)) → ill-formed (suc f) fs ≡ 0 → (i : ℕ) → getD (values fs) i 0 < 10000
+unfolding ill-formed values
+values-below f [] h i = omega arith
+values-below f (x ∷ xs) h i = go (is-number x) refl (λ e j. values-below (suc f) xs e j) h i
+  where
+    go : (v : Bool) → is-number x ≡ v → (ill-formed (suc (suc f)) xs ≡ 0 → (j : ℕ) → getD (values xs) j 0 < 10000) →
+        cond v (ill-formed (suc (suc f)) xs) (suc f) ≡ 0 → (i : ℕ) → getD (value x ∷ values xs) i 0 < 10000
+    go true e rest h zero = value-below x e
+    go true e rest h (suc i) = rest h i
+    go false e rest h i = absurd (omega arith)
+
+pub numbers-below : (K : Kind) (n : ℕ) (l : Line) → layout K n l .number ≡ 0 → (i : ℕ) → getD (numbers-of l) i 0 < 10000
+unfolding numbers-of
+numbers-below K n l h i = values-below 1 (number-fields l) (layout-says K n l h .numbers) i
 
 -- THE READER of a word and counts
 module _ (w : List ℕ) (d : Counts) (n : ℕ) (l : Line) (r : LineRead) (vs : List ℕ) (m : Line-read l w r vs) (f : ℕ) (e : f ≡ fault-of d (r .count))

@@ -11,7 +11,7 @@ use Rattle.text.specs.Text.{Refusal, refusal, fine, or-else, Check, in-t
 use Rattle.text.specs.Outcome.{number-of, refusal-of, is-accepted}
 use Rattle.text.specs.Kinds.{line-refusal}
 use Rattle.text.specs.declared.Refusal.{Refusal as Why}
-use Rattle.text.specs.declared.Refusal.the-variants.{Overlong, Layout, Crowd, Length, Overhang, Crossing, Narrow, ShortSpace, Broad, Unmet, Count, IllFormed, Empty}
+use Rattle.text.specs.declared.Refusal.the-variants.{Overlong, Layout, Crowd, Length, Overhang, Crossing, Narrow, ShortSpace, Broad, Unmet, Count, IllFormed, Empty, Inverted}
 use Rattle.text.specs.declared.Refused.{Refused as Refused-struct}
 use Rattle.text.specs.declared.Outcome.{Outcome}
 use Rattle.text.specs.declared.Outcome.the-variants.{Accepted, Refused}
@@ -93,6 +93,7 @@ word-number Unmet h = omega arith
 word-number Count h = omega arith
 word-number IllFormed h = omega arith
 word-number Empty h = omega arith
+word-number Inverted h = omega arith
 
 pub refused-number : (o : Outcome) → is-accepted o ≡ false → refusal-of o .number ≡ 0 → ⊥
 unfolding refusal fine

@@ -6,15 +6,16 @@ use Prim.Native.Nat.{ℕ}
 use lib.ListN.{length}
 use Rattle.lines.specs.Lines.{Line, numbers-of}
 use Rattle.lines.specs.Numbers.{in-places}
-use Rattle.text.specs.Text.{Refusal, refusal, or-else, Entry, entry, Kind, kind, exactly, in-pairs, misplaced, layout, Check}
+use Rattle.text.specs.Text.{Refusal, refusal, or-else, Entry, entry, Kind, kind, exactly, one-or-three, in-pairs, misplaced, layout, Check}
 use Rattle.text.specs.Outcome.{refusal-of, is-accepted}
 use Rattle.text.specs.declared.Counts.{Counts}
-use Rattle.text.specs.declared.Counts.the-variants.{Exactly, InPairs, Any}
+use Rattle.text.specs.declared.Counts.the-variants.{Exactly, OneOrThree, InPairs, Any}
 use Rattle.text.specs.declared.KindRead.{KindRead}
 
 -- the field at which a count of numbers is at fault
 abbrev pub fault-of : Counts → (count : ℕ) → ℕ
 fault-of (Exactly due) n = exactly due n
+fault-of OneOrThree n = one-or-three n
 fault-of InPairs n = in-pairs n
 fault-of Any n = 0
 

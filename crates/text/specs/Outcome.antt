@@ -1,9 +1,9 @@
--- TRUSTED. The number, line and field for an outcome. Document 01, "Sent back at the counter"; document 02, P1, P3, P5 and P6. Assumes nothing: these are definitions.
+-- TRUSTED. The number, line and field for an outcome. Document 01, "Sent back at the counter"; document 02, P1, P3 and P5 to P7. Assumes nothing: these are definitions.
 use mathlib.Core.Bool.{Bool, true, false}
 use Prim.Native.Nat.{ℕ}
 use Rattle.text.specs.Text.{Refusal, refusal, fine}
 use Rattle.text.specs.declared.Refusal.{Refusal as Why}
-use Rattle.text.specs.declared.Refusal.the-variants.{Overlong, Layout, Crowd, Length, Overhang, Crossing, Narrow, ShortSpace, Broad, Unmet, Count, IllFormed, Empty}
+use Rattle.text.specs.declared.Refusal.the-variants.{Overlong, Layout, Crowd, Length, Overhang, Crossing, Narrow, ShortSpace, Broad, Unmet, Count, IllFormed, Empty, Inverted}
 use Rattle.text.specs.declared.Outcome.{Outcome}
 use Rattle.text.specs.declared.Outcome.the-variants.{Accepted, Refused}
 
@@ -21,6 +21,7 @@ number-of Unmet = 10
 number-of Count = 11
 number-of IllFormed = 12
 number-of Empty = 13
+number-of Inverted = 14
 
 abbrev pub refusal-of : Outcome → Refusal
 refusal-of Accepted = fine

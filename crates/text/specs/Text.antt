@@ -1,5 +1,5 @@
--- TRUSTED. The stack's text: its kinds of line, the refusals 1 to 6, 11 and 12 at their lines and fields, and the stack in a text.
--- Document 01, "Lines and tabs" and "Sent back at the counter"; document 02, P2 and P5. Assumes nothing: these are definitions.
+-- TRUSTED. The stack's text: its kinds of line, the refusals 1 to 6, 11, 12 and 14 at their lines and fields, and the stack in a text.
+-- Document 01, "Lines and tabs" and "Sent back at the counter"; document 02, P2, P5 and P7. Assumes nothing: these are definitions.
 use mathlib.Core.Bool.{Bool, true, false, _&&_, not, cond}
 use mathlib.Core.List.{List, [], _∷_, _++_, map}
 use Prim.Native.Nat.{ℕ, zero, suc, _+_, _*_, _-_, _%_}
@@ -7,7 +7,7 @@ use lib.Dec.{ltb, leb, eqb}
 use lib.ListN.{length, getD}
 use Rattle.numbers.specs.Lists.{tabulate}
 use Rattle.lines.specs.Lines.{Line, lines, line-at, number-fields, has-word, ill-formed, numbers-of}
-use Rattle.stack.specs.Stack.{Stack, stack, Pair, pair, channel}
+use Rattle.stack.specs.Stack.{Stack, stack, Pair, pair, channel, Window, free, held, Strip, strip}
 
 -- a REFUSAL carries its number, line and field; number 0 is none
 pub record Refusal : Type 0 where
@@ -53,6 +53,9 @@ first-of e = getD (e .numbers) 0 0
 unfoldable pub second-of : Entry → ℕ
 second-of e = getD (e .numbers) 1 0
 
+unfoldable pub third-of : Entry → ℕ
+third-of e = getD (e .numbers) 2 0
+
 -- a fault at a field of an entry, where that field was supplied
 unfoldable pub fault-at : Entry → (number field : ℕ) → Refusal
 fault-at e m f = refusal m (e .origin) (e .shift + f)
@@ -69,6 +72,10 @@ kind w f c = record { word = w; fault = f; content = c }
 -- so many numbers are due, the first of them in field 2: the first field missing or extra
 unfoldable pub exactly : (due count : ℕ) → ℕ
 exactly m n = cond (ltb n m) (n + 2) (cond (ltb m n) (m + 2) 0)
+
+-- one number is due, or three
+unfoldable pub one-or-three : (count : ℕ) → ℕ
+one-or-three n = cond (leb n 1) (exactly 1 n) (exactly 3 n)
 
 -- numbers come in pairs: the missing partner of the last
 unfoldable pub in-pairs : (count : ℕ) → ℕ
@@ -94,9 +101,10 @@ layout K n l =
 unfoldable pub stack-content : Entry → Refusal
 stack-content e = cond (leb 1 (first-of e) && leb (first-of e) 8) fine (fault-at e 3 2)
 
--- PART: length, 4, at field 2
+-- PART: length, 4, at field 2; then a least position above the greatest, 14, at field 4. Without a window both are 0.
 unfoldable pub part-content : Entry → Refusal
-part-content e = cond (leb 1 (first-of e) && leb (first-of e) 1000) fine (fault-at e 4 2)
+part-content e =
+    cond (leb 1 (first-of e) && leb (first-of e) 1000) (cond (ltb (third-of e) (second-of e)) (fault-at e 14 4) fine) (fault-at e 4 2)
 
 -- the fields of NETS from left to right, each for overhang, 5, and then crossing, 6
 unfoldable pub terminals-refusal : (at : ℕ) → (first : Bool) → (before-p before-q lower upper : ℕ) → (lines-number : ℕ) → List ℕ → Refusal
@@ -128,7 +136,7 @@ unfoldable pub stack-kind : Kind
 stack-kind = kind stack-word (λ n. exactly 1 n) (λ e. stack-content e)
 
 unfoldable pub part-kind : Kind
-part-kind = kind part-word (λ n. exactly 1 n) (λ e. part-content e)
+part-kind = kind part-word (λ n. one-or-three n) (λ e. part-content e)
 
 unfoldable pub nets-kind : (lower upper : ℕ) → Kind
 nets-kind lo hi = kind nets-word (λ n. in-pairs n) (λ e. nets-content lo hi e)
@@ -219,7 +227,16 @@ file-in bs =
     file (tabulate (suc (k-of ls)) 1 (λ i. supplied ls i .numbers)) (tabulate (k-of ls) (k-of ls + 2) (λ i. supplied ls i .numbers))
     (tabulate (tail-count ls) (tail-at ls) (λ i. supplied ls i .numbers))
 
--- THE STACK in a file, and in a text that is not refused
+-- THE STACK in a file, and in a text that is not refused; a strip is free without its two positions
+unfoldable pub window-in : List ℕ → Window
+window-in [] = free
+window-in (l ∷ []) = free
+window-in (l ∷ a ∷ []) = free
+window-in (l ∷ a ∷ e ∷ ns) = held a e
+
+unfoldable pub strip-in : List ℕ → Strip
+strip-in ns = strip (getD ns 0 0) (window-in ns)
+
 unfoldable pub pairs-of : List ℕ → List Pair
 pairs-of [] = []
 pairs-of (x ∷ []) = []
@@ -232,7 +249,7 @@ floor-in (g ∷ gs) c = cond (eqb (getD g 0 0) c) (getD g 1 0) (floor-in gs c)
 
 unfoldable pub stack-in-file : File → Stack
 stack-in-file f =
-    stack (map (λ ns. getD ns 0 0) (f .parts))
+    stack (map strip-in (f .parts))
     (tabulate (length (f .nets)) 0 (λ c. channel (pairs-of (getD (f .nets) c [])) (floor-in (f .gaps) (suc c))))
 
 unfoldable pub stack-in : List ℕ → Stack

@@ -3,7 +3,7 @@ ghost use mathlib.Core.Path.{_≡_};
 ghost use Prim.Native.Nat.{_^_, _≤_, _<_};
 ghost use lib.ListN.{length, replicate};
 ghost use Rattle.lines.specs.Lines.{line};
-ghost use Rattle.text.specs.Text.{or-else, exactly, in-pairs, misplaced};
+ghost use Rattle.text.specs.Text.{or-else, exactly, one-or-three, in-pairs, misplaced};
 ghost use Rattle.text.specs.Outcome.{number-of, refusal-of, is-accepted, refused};
 ghost use Rattle.text.specs.Kinds.{fault-of, layout-found, Kind-read};
 use lines::KEPT;
@@ -24,6 +24,7 @@ pub enum Refusal {
     Count,
     IllFormed,
     Empty,
+    Inverted,
 }
 
 impl Refusal {
@@ -44,6 +45,7 @@ impl Refusal {
             Refusal::Count => 11,
             Refusal::IllFormed => 12,
             Refusal::Empty => 13,
+            Refusal::Inverted => 14,
         }
     }
 }
@@ -101,6 +103,17 @@ fn exactly(due: usize, count: usize) -> usize
     0
 }
 
+// The same where one number is due, or three.
+fn one_or_three(count: usize) -> usize
+    requires { ⌜ count < 2 ^ 63 ⌝ }
+    ensures { λ r. ⌜ r ≡ one-or-three count ⌝ }
+{
+    if count <= 1 {
+        return exactly(1, count);
+    }
+    exactly(3, count)
+}
+
 // The same where numbers come in pairs: the missing partner.
 fn in_pairs(numbers: usize) -> usize
     requires { ⌜ numbers < 2 ^ 63 ⌝ }
@@ -115,6 +128,7 @@ fn in_pairs(numbers: usize) -> usize
 // How many numbers a kind of line may have.
 pub enum Counts {
     Exactly(usize),
+    OneOrThree,
     InPairs,
     Any,
 }
@@ -127,6 +141,7 @@ impl Counts {
     {
         match self {
             Counts::Exactly(due) => exactly(due, count),
+            Counts::OneOrThree => one_or_three(count),
             Counts::InPairs => in_pairs(count),
             Counts::Any => 0,
         }

@@ -123,6 +123,15 @@ slice-aggregate-word-before-13 c = search needs
 word-before-requires-13 : tie.Need-word-before-requires-13
 word-before-requires-13 c κs = search needs
 
+enum-told-14 : tie.Need-enum-told-14
+enum-told-14 c = search needs
+
+slice-aggregate-word-before-14 : tie.Need-slice-aggregate-word-before-14
+slice-aggregate-word-before-14 c = search needs
+
+word-before-requires-14 : tie.Need-word-before-requires-14
+word-before-requires-14 c κs = search needs
+
 same-length : tie.Need-same-length
 same-length c = search needs
 
@@ -227,6 +236,14 @@ unfolding bytes meaning
 returns-13 c =
     rw (c .before .before .before .before .before .enum-told13 .given .1) (prepended-looser (omega arith) (c .before .before .word-before13 .ensures))
 
+same-length-14 : tie.Need-same-length-14
+same-length-14 c = search needs
+
+returns-14 : tie.Need-returns-14
+unfolding bytes meaning
+returns-14 c =
+    rw (c .before .before .before .before .before .enum-told14 .given .1) (prepended-looser (omega arith) (c .before .before .word-before14 .ensures))
+
 pub meaning-before-spec : {M : Type 1} → statement M
 meaning-before-spec =
     tie.close
@@ -270,6 +287,9 @@ meaning-before-spec =
     enum-told-13
     slice-aggregate-word-before-13
     word-before-requires-13
+    enum-told-14
+    slice-aggregate-word-before-14
+    word-before-requires-14
     same-length
     returns
     same-length-2
@@ -295,4 +315,6 @@ meaning-before-spec =
     same-length-12
     returns-12
     same-length-13
-    returns-13)
+    returns-13
+    same-length-14
+    returns-14)

@@ -1,5 +1,5 @@
 -- head_content meets its contract. Assumes nothing.
-use Rattle.kinds.proofs.Singles.{content-sized, content-oversized}
+use Rattle.kinds.proofs.Heads.{content-sized, content-oversized}
 use borrow.Author.Needs.{needs}
 use Rattle.kinds.proofs.head_content.Statement.{statement}
 use Rattle.kinds.proofs.head_content.Tie as tie

@@ -3,7 +3,7 @@ use mathlib.Core.Path.{sym, _∙_}
 use borrow.Author.Tests.{not-true, not-false}
 use Rattle.lines.specs.Lines.{line}
 use Rattle.text.specs.Text.{stack-word}
-use Rattle.kinds.proofs.Singles.{head-ill, head-there}
+use Rattle.kinds.proofs.Heads.{head-ill, head-there}
 use borrow.Author.Needs.{needs}
 use Rattle.kinds.proofs.read_head.Statement.{statement}
 use Rattle.kinds.proofs.read_head.Tie as tie

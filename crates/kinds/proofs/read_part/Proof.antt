@@ -3,7 +3,7 @@ use mathlib.Core.Path.{sym, _∙_}
 use borrow.Author.Tests.{not-true, not-false}
 use Rattle.lines.specs.Lines.{line}
 use Rattle.text.specs.Text.{part-word}
-use Rattle.kinds.proofs.Singles.{part-ill, part-there}
+use Rattle.kinds.proofs.Parts.{part-ill, part-free, part-held}
 use borrow.Author.Needs.{needs}
 use Rattle.kinds.proofs.read_part.Statement.{statement}
 use Rattle.kinds.proofs.read_part.Tie as tie
@@ -37,11 +37,33 @@ part-content-requires c κs = search needs
 returns-2 : tie.Need-returns-2
 unfolding part-word
 returns-2 c =
-    let start = c .before .before .before .before .before .before .before in
-    let read = c .before .before .before .read-kind in
-    let accepted = c .before .before .is-accepted in
-    let content = c .part-content in
-    part-there (start .args .n) (line (start .args .bytes .now) (start .args .ended)) (read .result) _ (read .ensures) (content .result) (sym (accepted .ensures) ∙ not-false _ (c .before .if1 .left)) (content .ensures)
+    let start = c .before .before .before .before .before .before .before .before .before in
+    let read = c .before .before .before .before .before .read-kind in
+    let accepted = c .before .before .before .before .is-accepted in
+    part-free (start .args .n) (line (start .args .bytes .now) (start .args .ended)) (read .result) _ (read .ensures) (c .part-content .result) (sym (accepted .ensures) ∙ not-false _ (c .before .before .before .if1 .left)) (c .before .if2 .taken) (c .part-content .ensures)
+
+array-read-held : tie.Need-array-read-held
+array-read-held c = search needs
+
+array-read-held-2 : tie.Need-array-read-held-2
+array-read-held-2 c = search needs
+
+array-read-held-3 : tie.Need-array-read-held-3
+array-read-held-3 c = search needs
+
+held-requires : tie.Need-held-requires
+held-requires c κs = search needs
+
+part-made-requires : tie.Need-part-made-requires
+part-made-requires c κs = search needs
+
+returns-3 : tie.Need-returns-3
+unfolding part-word
+returns-3 c =
+    let start = c .before .before .before .before .before .before .before .before .before .before in
+    let read = c .before .before .before .before .before .before .read-kind in
+    let accepted = c .before .before .before .before .before .is-accepted in
+    part-held (start .args .n) (line (start .args .bytes .now) (start .args .ended)) (read .result) _ (read .ensures) (c .part-made .result) (sym (accepted .ensures) ∙ not-false _ (c .before .before .before .before .if1 .left)) (c .before .before .if2 .left) (rw (← c .before .held .ensures) (c .part-made .ensures))
 
 pub read-part-spec : {M : Type 1} → statement M
 read-part-spec =
@@ -54,4 +76,10 @@ read-part-spec =
     returns
     array-read-part-content
     part-content-requires
-    returns-2)
+    returns-2
+    array-read-held
+    array-read-held-2
+    array-read-held-3
+    held-requires
+    part-made-requires
+    returns-3)

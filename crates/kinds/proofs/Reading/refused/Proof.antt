@@ -1,6 +1,6 @@
 -- Reading::refused meets its contract. Assumes nothing.
 use mathlib.Core.Path.{refl}
-use Rattle.kinds.proofs.Singles.{one-channel}
+use Rattle.kinds.proofs.Heads.{one-channel}
 use borrow.Author.Needs.{needs}
 use Rattle.kinds.proofs.Reading.refused.Statement.{statement}
 use Rattle.kinds.proofs.Reading.refused.Tie as tie

@@ -23,7 +23,7 @@ single-total-requires c κs = search needs
 returns-2 : tie.Need-returns-2
 returns-2 c =
     let a = c .before .before .before .before in
-    total-both _ _ (a .pre) _ (single-total-says (a .args .t1) _ _ (c .before .before .if2 .taken) (c .single-total .ensures))
+    total-both _ _ (a .pre) _ (single-total-says (a .args .t1) _ _ (a .pre) (c .before .before .if2 .taken) (c .single-total .ensures))
 
 stack-requires : tie.Need-stack-requires
 stack-requires c κs = search needs

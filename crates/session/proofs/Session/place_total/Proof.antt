@@ -25,7 +25,7 @@ single-placement-requires c κs = search needs
 returns-2 : tie.Need-returns-2
 returns-2 c =
     let a = c .before .before .before .before in
-    placement-both _ _ (a .pre) _ _ (single-placement-says (a .args .t1) _ _ _ (c .before .before .if2 .taken) (c .single-placement .ensures))
+    placement-both _ _ (a .pre) _ _ (single-placement-says (a .args .t1) _ _ _ (a .pre) (c .before .before .if2 .taken) (c .single-placement .ensures))
 
 stack-requires : tie.Need-stack-requires
 stack-requires c κs = search needs

@@ -1,5 +1,4 @@
 -- top meets its contract. Assumes nothing.
-use mathlib.Core.Path.{refl}
 use Rattle.session.proofs.Values.{top-none, top-many, top-there}
 use borrow.Author.Needs.{needs}
 use Rattle.session.proofs.Session.top.Statement.{statement}
@@ -24,7 +23,7 @@ element-copy-out-result-3 : tie.Need-element-copy-out-result-3
 element-copy-out-result-3 c = search needs
 
 returns-3 : tie.Need-returns-3
-returns-3 c = top-there (c .before .before .before .args .t1) _ (c .before .before .if1 .left) refl
+returns-3 c = top-there (c .before .before .before .args .t1) (c .before .before .if1 .left)
 
 pub top-spec : {M : Type 1} → statement M
 top-spec =

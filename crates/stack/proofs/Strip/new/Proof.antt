@@ -1,6 +1,7 @@
 -- Strip::new meets its contract: its two tests are those of strip-made. Assumes nothing.
 use borrow.Author.Tests.{le-leb, lt-leb}
-use Rattle.stack.specs.Made.{strip-made}
+use Rattle.stack.specs.Limits.{window-within}
+use Rattle.stack.specs.Made.{strip-with, strip-made}
 use Rattle.stack.proofs.Strip.new.Statement.{statement}
 use Rattle.stack.proofs.Strip.new.Tie as tie
 
@@ -13,7 +14,7 @@ unfolding strip-made
 returns-2 c = rw (le-leb _ _ (c .before .if1 .left), lt-leb _ _ (c .if2 .taken))
 
 returns-3 : tie.Need-returns-3
-unfolding strip-made
+unfolding strip-made window-within strip-with
 returns-3 c = rw (le-leb _ _ (c .before .if1 .left), le-leb _ _ (c .if2 .left))
 
 pub new-spec : {M : Type 1} → statement M

@@ -1,5 +1,5 @@
--- STACK and PART: what the readers answer is what document 01 says of the line, case by case of the tests that the code makes. Assumes nothing.
-use mathlib.Core.Path.{_≡_, refl, ap, sym, _∙_}
+-- STACK: what the reader answers is what document 01 says of the line, case by case of the test that the code makes. Assumes nothing.
+use mathlib.Core.Path.{_≡_, refl, sym, _∙_}
 use mathlib.Core.Bool.{Bool, true, false, _&&_, cond}
 use mathlib.Core.List.{List, [], _∷_}
 use Prim.Native.Nat.{ℕ}
@@ -7,22 +7,19 @@ use native.Mathlib.Omega.{arith}
 use lib.Dec.{leb}
 use lib.ListN.{getD}
 use Rattle.lines.specs.Lines.{Line, line-at, numbers-of}
-use Rattle.stack.specs.Value.{strip, stack-of}
-use Rattle.stack.specs.Made.{bare, strip-made, stack-found, channels-made, Stack-made}
-use Rattle.stack.specs.declared.Strip.{Strip}
-use Rattle.stack.specs.declared.StripMade.the-variants.{Made, Length}
+use Rattle.stack.specs.Value.{stack-of}
+use Rattle.stack.specs.Made.{bare, stack-found, channels-made, Stack-made}
 use Rattle.stack.specs.declared.StackFound.the-variants.{Sized, Oversized}
 use Rattle.stack.specs.declared.StackMade.{StackMade}
-use Rattle.text.specs.Text.{refusal, stack-word, part-word, entry, first-of, fault-at, kind, exactly, stack-content, part-content, stack-kind, part-kind, check, supplied, line-check, k-of, head-refusal}
+use Rattle.text.specs.Text.{refusal, stack-word, entry, first-of, fault-at, kind, exactly, stack-content, stack-kind, check, supplied, line-check, k-of, head-refusal}
 use Rattle.text.specs.Outcome.{refusal-of, is-accepted, refused}
 use Rattle.text.specs.Kinds.{Kind-read, kind-refusal}
-use Rattle.kinds.specs.Readers.{Head-content, Head-read, Part-content, Part-read}
+use Rattle.kinds.specs.Readers.{Head-content, Head-read}
 use Rattle.text.specs.declared.Refusal.the-variants as why
 use Rattle.text.specs.declared.Outcome.{Outcome}
 use Rattle.text.specs.declared.Outcome.the-variants.{Accepted}
 use Rattle.text.specs.declared.KindRead.{KindRead}
 use Rattle.kinds.specs.declared.Reading.{Reading}
-use Rattle.kinds.specs.declared.PartRead.{PartRead}
 use Rattle.text.proofs.Refusals.{not-fine, refused-number}
 use Rattle.text.proofs.Layouts.{layout-refused, layout-then, number-kept}
 
@@ -89,52 +86,3 @@ module _ (l : Line) (r : KindRead) (vs : List ℕ) (m : Kind-read stack-word (λ
       let says : refusal-of (q .outcome) ≡ head-refusal (l ∷ []) =
       h .outcome ∙ (rw first (head-by-first l) ∙ sym (head-is l ∙ layout-then stack-kind 1 l r vs m a)) in
       record { outcome = says; count = λ z. h .count (rw says z) ∙ first; bare = λ z. h .bare (rw says z) ∙ rw first }
-
-made-says : (v : ℕ) (s : Strip) → strip-made v ≡ Made s → ((leb 1 v && leb v 1000) ≡ true) × (s .length .0 ≡ v)
-unfolding strip-made
-made-says v s e = go (leb 1 v && leb v 1000) refl e
-  where
-    go : (b : Bool) → (leb 1 v && leb v 1000) ≡ b → cond b (Made (strip v)) Length ≡ Made s → ((leb 1 v && leb v 1000) ≡ true) × (s .length .0 ≡ v)
-    go true q e = let same : strip v ≡ s = cc in (q, ap (λ (x : Strip). x .length .0) (sym same))
-    go false q e = let z : _≡_ {A = ℕ} 0 1 = cc in absurd (omega arith)
-
-length-says : (v : ℕ) → strip-made v ≡ Length → (leb 1 v && leb v 1000) ≡ false
-unfolding strip-made
-length-says v e = go (leb 1 v && leb v 1000) refl e
-  where
-    go : (b : Bool) → (leb 1 v && leb v 1000) ≡ b → cond b (Made (strip v)) Length ≡ Length → (leb 1 v && leb v 1000) ≡ false
-    go true q e = let z : _≡_ {A = ℕ} 0 1 = cc in absurd (omega arith)
-    go false q e = q
-
--- PART: its content, and then the line
-pub content-made : (v n : ℕ) (s : Strip) → strip-made v ≡ Made s → Part-content v n (record { outcome = Accepted; strip = s })
-unfolding part-content first-of entry
-content-made v n s e = record { outcome = rw (made-says v s e .0); strip = λ z. made-says v s e .1 }
-
-pub content-length : (v n : ℕ) (o : Outcome) (r : PartRead) → strip-made v ≡ Length → o ≡ refused why.Length n 2 → r .outcome ≡ o → Part-content v n r
-unfolding part-content first-of entry fault-at
-content-length v n o r e w s =
-    let is : refusal-of (r .outcome) ≡ refusal 4 n 2 = rw (s, w) in
-    record { outcome = is ∙ rw (length-says v e); strip = λ z. absurd (not-fine 3 n 2 (refusal-of (r .outcome)) is z) }
-
--- the content of a line's numbers is that of the first
-by-first : (n : ℕ) (l : Line) → part-content (entry n 0 (getD (numbers-of l) 0 0 ∷ [])) ≡ part-content (entry n 0 (numbers-of l))
-unfolding part-content first-of entry fault-at
-by-first n l = refl
-
-module _ (n : ℕ) (l : Line) (r : KindRead) (vs : List ℕ) (m : Kind-read part-word (λ n. exactly 1 n) n l r vs) where
-  pub part-ill : (q : PartRead) → is-accepted (r .layout) ≡ false → q .outcome ≡ r .layout → Part-read n l q
-  unfolding part-kind kind
-  part-ill q a s = record {
-    outcome = rw s (layout-refused part-kind n l r vs m a);
-    strip = λ z. absurd (refused-number (r .layout) a (rw s at z));
-  }
-
-  pub part-there : (q : PartRead) → is-accepted (r .layout) ≡ true → Part-content (getD vs 0 0) n q → Part-read n l q
-  unfolding part-kind kind
-  part-there q a h =
-      let first : getD vs 0 0 ≡ getD (numbers-of l) 0 0 = number-kept part-kind n l r vs m a 0 (omega arith) in
-      record {
-        outcome = h .outcome ∙ (rw first (by-first n l) ∙ sym (layout-then part-kind n l r vs m a));
-        strip = λ z. h .strip z ∙ first;
-      }
