@@ -1,14 +1,13 @@
 -- One least total, one placement for a total, and the answer is both together. Assumes nothing.
 use mathlib.Core.Path.{_≡_, refl, sym, ap, _∙_}
-use mathlib.Core.Bool.{Bool, true, false, cond}
+use mathlib.Core.Bool.{true}
 use mathlib.Core.List.{List, [], _∷_}
-use Prim.Native.Nat.{ℕ, suc, _+_, _≤_}
+use Prim.Native.Nat.{ℕ, suc, _+_, _≤_, max}
 use native.Mathlib.Omega.{arith}
-use lib.Dec.{ltb}
 use lib.ListN.{length}
 use borrow.Author.Tests.{leb-true}
 use Rattle.numbers.proofs.Bools.{ands, impossible}
-use Rattle.stack.specs.Stack.{Channel, Stack, in-spread, channels-good, legal, sum, longest, Total-met, Least-total, Placement, Answer}
+use Rattle.stack.specs.Stack.{Channel, Window, free, held, Strip, strip, Stack, in-window, stands, in-spread, channels-good, legal, sum, greatest-of, least-position, reach, first-spread, Total-met, Least-total, Placement, Answer}
 use Rattle.spans.proofs.Order.{not-later-both}
 
 -- a placement's lengths
@@ -20,7 +19,7 @@ good-length (c ∷ cs) [] xs g = impossible g
 good-length (c ∷ cs) (t ∷ ts) [] g = impossible g
 good-length (c ∷ cs) (t ∷ ts) (x ∷ xs) g = ap suc (good-length cs ts xs (search ands))
 
-spread-length : (s : ℕ) (ls xs : List ℕ) → in-spread s ls xs ≡ true → length xs ≡ length ls
+spread-length : (s : ℕ) (ls : List Strip) (xs : List ℕ) → in-spread s ls xs ≡ true → length xs ≡ length ls
 unfolding in-spread
 spread-length s [] [] i = refl
 spread-length s [] (x ∷ xs) i = impossible i
@@ -32,20 +31,24 @@ pub legal-lengths : (k : Stack) (s : ℕ) (ts xs : List ℕ) → legal k s ts xs
 unfolding legal
 legal-lengths k s ts xs e = (good-length (k .channels) ts xs (search ands), spread-length s (k .strips) xs (search ands))
 
--- and it is in a spread from the longest strip upward
-spread-wide : (s : ℕ) (ls xs : List ℕ) → in-spread s ls xs ≡ true → longest ls ≤ s
-unfolding in-spread longest
+-- and it is in a spread from the first one on: each strip takes its length from its least position or from further right
+strip-reach : (s n x : ℕ) (w : Window) → stands s (strip n w) x ≡ true → n + least-position w ≤ s
+unfolding stands in-window least-position
+strip-reach s n x free i = let h : x + n ≤ s = leb-true (x + n) s (search ands) in omega arith
+strip-reach s n x (held a e) i =
+    let h : x + n ≤ s = leb-true (x + n) s (search ands) in
+    let j : a ≤ x = leb-true a x (search ands) in
+    omega arith
+
+spread-wide : (s : ℕ) (ls : List Strip) (xs : List ℕ) → in-spread s ls xs ≡ true → first-spread ls ≤ s
+unfolding in-spread first-spread greatest-of
 spread-wide s [] [] i = omega arith
 spread-wide s [] (x ∷ xs) i = impossible i
 spread-wide s (l ∷ ls) [] i = impossible i
-spread-wide s (l ∷ ls) (x ∷ xs) i = go (ltb l (longest ls)) (spread-wide s ls xs (search ands))
-  where
-    go : (v : Bool) → longest ls ≤ s → cond v (longest ls) l ≤ s
-    go true r = r
-    go false r = let h : x + l ≤ s = leb-true (x + l) s (search ands) in omega arith
+spread-wide s (l ∷ ls) (x ∷ xs) i = omega (arith, strip-reach s (l .length) x (l .window) (search ands), spread-wide s ls xs (search ands))
 
 module _ (k : Stack) (s : ℕ) where
-  pub legal-wide : (ts xs : List ℕ) → legal k s ts xs ≡ true → longest (k .strips) ≤ s
+  pub legal-wide : (ts xs : List ℕ) → legal k s ts xs ≡ true → first-spread (k .strips) ≤ s
   unfolding legal
   legal-wide ts xs e = spread-wide s (k .strips) xs (search ands)
 

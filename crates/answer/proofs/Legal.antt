@@ -1,18 +1,17 @@
 -- A placement is legal exactly if it is one of the solver's: each strip in its window, each offset between the channel's limits. By induction on the
 -- strips. Assumes nothing.
 use mathlib.Core.Path.{_≡_, refl, sym, _∙_}
-use mathlib.Core.Bool.{Bool, true, false, _&&_, cond}
+use mathlib.Core.Bool.{Bool, true, false, _&&_}
 use mathlib.Core.List.{List, [], _∷_}
 use mathlib.Core.Logic.{_⊎_, inl, inr}
-use Prim.Native.Nat.{ℕ, suc, _+_, _*_, _-_, _≤_, _<_, min}
+use Prim.Native.Nat.{ℕ, zero, suc, _+_, _*_, _-_, _≤_, _<_, min}
 use native.Mathlib.Omega.{arith}
-use lib.Dec.{ltb, leb}
 use lib.ListN.{length}
-use borrow.Author.Tests.{leb-true, le-leb, ltb-true, ltb-false}
+use borrow.Author.Tests.{leb-true, le-leb}
 use Rattle.numbers.proofs.Bools.{ands, and-right, impossible}
 use Rattle.numbers.proofs.Orders.{le-or-lt}
-use Rattle.stack.specs.Stack.{Channel, feasible, in-spread, channels-good, longest}
-use Rattle.stack.specs.Limits.{pairs-within, channel-within, channels-within}
+use Rattle.stack.specs.Stack.{Channel, Window, free, held, Strip, strip, feasible, in-window, stands, in-spread, channels-good, greatest-of, least-position, first-spread}
+use Rattle.stack.specs.Limits.{pairs-within, channel-within, channels-within, window-within, strip-within, strips-within}
 use Rattle.stack.proofs.OnStrips.{terminals-on}
 use Rattle.limits.specs.Limits.{low-limit, low-term, low-floored, high-floored, Floored-between}
 use Rattle.limits.proofs.Between.{Biased, greatest-at-most}
@@ -22,7 +21,7 @@ use Rattle.spans.specs.Placed.{Placed, alone, under, Widens, Widening, none, mo
 use Rattle.arrays.specs.Arrays.{limits-from}
 use Rattle.spans.proofs.Limits.{low-capped, high-capped}
 use Rattle.arrays.proofs.Levels.{last-is, low-at-of, high-at-of}
-use Rattle.answer.specs.Solve.{last-use, window, channel-limits, stack-levels}
+use Rattle.answer.specs.Solve.{last-use, window-span, window, channel-limits, stack-levels}
 
 -- past the last separation of use the limits are those at it
 past : (b : ℕ) (c : Channel) (t : ℕ) → last-use c < t → min t (last (channel-limits b c)) ≡ last-use c
@@ -61,13 +60,22 @@ pairs-bounded b s l u t c w h e =
 pub low-bounded : (b s l u t : ℕ) (c : Channel) → s + 32 ≤ b → l ≤ s → channel-within l u c ≡ true → low-floored b c t ≤ 2 * b
 low-bounded b s l u t c w h e = low-floored-bounded b c t (pairs-bounded b s l u (t - 1) c w h e)
 
-pub longest-bounds : (l : ℕ) (ls : List ℕ) (s : ℕ) → longest (l ∷ ls) ≤ s → (l ≤ s) × (longest ls ≤ s)
-unfolding longest
-longest-bounds l ls s h = go (ltb l (longest ls)) refl h
-  where
-    go : (v : Bool) → ltb l (longest ls) ≡ v → cond v (longest ls) l ≤ s → (l ≤ s) × (longest ls ≤ s)
-    go true e k = omega (arith, ltb-true)
-    go false e k = omega (arith, ltb-false)
+-- from the first spread on every strip can STAND somewhere: its window has a position, and it is no longer than the spread
+unfoldable pub Stand : (s : ℕ) → List Strip → Type 0
+Stand s [] = zero ≡ zero
+Stand s (l ∷ ls) = (l .length ≤ s) × (window s l .from < window s l .upto) × Stand s ls
+
+window-stands : (s n : ℕ) (w : Window) → window-within w ≡ true → n + least-position w ≤ s → window-span s n w .from < window-span s n w .upto
+unfolding window-within least-position window-span
+window-stands s n free e h = omega arith
+window-stands s n (held a e) g h = let i : a ≤ e = leb-true a e (search ands) in omega arith
+
+pub stand : (s : ℕ) (ls : List Strip) → strips-within ls ≡ true → first-spread ls ≤ s → Stand s ls
+unfolding strips-within strip-within first-spread greatest-of Stand
+stand s [] e h = refl
+stand s (l ∷ ls) e h =
+    let here : l .length + least-position (l .window) ≤ s = omega arith in
+    (omega arith, window-stands s (l .length) (l .window) (search ands) here, stand s ls (search ands) (omega arith))
 
 joined : (a i f g : Bool) → a ≡ true → f ≡ true → (i && g) ≡ true → ((a && i) && (f && g)) ≡ true
 joined true i true g ha hf h = h
@@ -101,53 +109,65 @@ module _ (b s : ℕ) (wide : s + 32 ≤ b) where
   fits-feasible l u x y t c e hu hx hy f =
       between-feasible b c t x y (biased l u x y c e hu hx hy) (omega arith) (omega (arith, channel-low b c t, channel-high b c t, f .left, f .right))
 
-  -- a position within the spread is in the strip's window
-  pub in-window : (l x : ℕ) → x + l ≤ s → In (window s l) x
-  unfolding window
-  in-window l x h = omega arith
+  -- a strip stands within the spread and inside its window exactly if its position is one of the solver's window
+  window-holds : (n x : ℕ) (w : Window) → stands s (strip n w) x ≡ true → In (window-span s n w) x
+  unfolding stands in-window window-span
+  window-holds n x free e = let h : x + n ≤ s = leb-true (x + n) s (search ands) in omega arith
+  window-holds n x (held a g) e =
+      let h : x + n ≤ s = leb-true (x + n) s (search ands) in
+      let i : a ≤ x = leb-true a x (search ands) in
+      let j : x ≤ g = leb-true x g (search ands) in
+      omega arith
 
-  window-in : (l x : ℕ) → In (window s l) x → x + l ≤ s
-  unfolding window
-  window-in l x i = omega (arith, i .below)
+  window-only : (n x : ℕ) (w : Window) → In (window-span s n w) x → stands s (strip n w) x ≡ true
+  unfolding stands in-window window-span
+  window-only n x free i = rw (le-leb (x + n) s (omega (arith, i .below)))
+  window-only n x (held a g) i = rw (le-leb (x + n) s (omega (arith, i .below)), le-leb a x (omega (arith, i .above)), le-leb x g (omega (arith, i .below)))
 
-  pub legal-placed : (l : ℕ) (ls : List ℕ) (cs : List Channel) (ts : List ℕ) (x : ℕ) (xs : List ℕ) → channels-within (l ∷ ls) cs ≡ true →
+  fits-spread : (l : Strip) (x : ℕ) → stands s l x ≡ true → x + l .length ≤ s
+  unfolding stands
+  fits-spread l x e = leb-true (x + l .length) s (search ands)
+
+  pub legal-placed : (l : Strip) (ls : List Strip) (cs : List Channel) (ts : List ℕ) (x : ℕ) (xs : List ℕ) → channels-within (l ∷ ls) cs ≡ true →
       in-spread s (l ∷ ls) (x ∷ xs) ≡ true → channels-good cs ts (x ∷ xs) ≡ true → Placed b (window s l) (stack-levels b s ls cs) ts x xs
   unfolding channels-within in-spread channels-good stack-levels
-  legal-placed l [] [] [] x [] e i g = alone (in-window l x (leb-true (x + l) s (search ands)))
-  legal-placed l [] [] [] x (y ∷ xs) e i g = impossible (and-right (leb (x + l) s) false i)
+  legal-placed l [] [] [] x [] e i g = alone (window-holds (l .length) x (l .window) (search ands))
+  legal-placed l [] [] [] x (y ∷ xs) e i g = impossible (and-right (stands s l x) false i)
   legal-placed l [] [] (t ∷ ts) x xs e i g = impossible g
   legal-placed l [] (c ∷ cs) ts x xs e i g = impossible e
   legal-placed l (u ∷ ls) [] ts x xs e i g = impossible e
   legal-placed l (u ∷ ls) (c ∷ cs) [] x xs e i g = impossible g
-  legal-placed l (u ∷ ls) (c ∷ cs) (t ∷ ts) x [] e i g = impossible (and-right (leb (x + l) s) false i)
+  legal-placed l (u ∷ ls) (c ∷ cs) (t ∷ ts) x [] e i g = impossible (and-right (stands s l x) false i)
   legal-placed l (u ∷ ls) (c ∷ cs) (t ∷ ts) x (y ∷ xs) e i g =
-      let here : x + l ≤ s = leb-true (x + l) s (search ands) in
-      let above : y + u ≤ s = leb-true (y + u) s (search ands) in
-      under (in-window l x here) (feasible-fits l u x y t c (search ands) (omega arith) (omega arith) (omega arith) (search ands))
+      let here : stands s l x ≡ true = search ands in
+      let above : stands s u y ≡ true = search ands in
+      let m = fits-spread l x here in
+      let n = fits-spread u y above in
+      under (window-holds (l .length) x (l .window) here) (feasible-fits (l .length) (u .length) x y t c (search ands) (omega arith) (omega arith) (omega arith) (search ands))
       (legal-placed u ls cs ts y xs (search ands) (search ands) (search ands))
 
-  pub placed-legal : (l : ℕ) (ls : List ℕ) (cs : List Channel) (ts : List ℕ) (x : ℕ) (xs : List ℕ) → channels-within (l ∷ ls) cs ≡ true →
+  pub placed-legal : (l : Strip) (ls : List Strip) (cs : List Channel) (ts : List ℕ) (x : ℕ) (xs : List ℕ) → channels-within (l ∷ ls) cs ≡ true →
       Placed b (window s l) (stack-levels b s ls cs) ts x xs → (in-spread s (l ∷ ls) (x ∷ xs) && channels-good cs ts (x ∷ xs)) ≡ true
   unfolding channels-within in-spread channels-good stack-levels
-  placed-legal l [] [] [] x [] e (alone i) = rw (le-leb (x + l) s (window-in l x i))
+  placed-legal l [] [] [] x [] e (alone i) = rw (window-only (l .length) x (l .window) i)
   placed-legal l [] (c ∷ cs) ts x xs e p = impossible e
   placed-legal l (u ∷ ls) [] ts x xs e p = impossible e
   placed-legal l (u ∷ ls) (c ∷ cs) (t ∷ ts) x (y ∷ xs) e (under i f r) =
-      let here : x + l ≤ s = window-in l x i in
+      let here : stands s l x ≡ true = window-only (l .length) x (l .window) i in
       let rest = placed-legal u ls cs ts y xs (search ands) r in
-      let above : y + u ≤ s = leb-true (y + u) s (search ands) in
-      joined (leb (x + l) s) (in-spread s (u ∷ ls) (y ∷ xs)) (feasible c t x y) (channels-good cs ts (y ∷ xs)) (le-leb (x + l) s here)
-      (fits-feasible l u x y t c (search ands) (omega arith) (omega arith) (omega arith) f) rest
+      let above : stands s u y ≡ true = search ands in
+      let m = fits-spread l x here in
+      let n = fits-spread u y above in
+      joined (stands s l x) (in-spread s (u ∷ ls) (y ∷ xs)) (feasible c t x y) (channels-good cs ts (y ∷ xs)) here
+      (fits-feasible (l .length) (u .length) x y t c (search ands) (omega arith) (omega arith) (omega arith) f) rest
 
   -- limits widen where terminals rise
-  pub stack-widening : (l : ℕ) (ls : List ℕ) (cs : List Channel) → l ≤ s → longest ls ≤ s → channels-within (l ∷ ls) cs ≡ true → Widening (stack-levels b s ls cs)
-  unfolding channels-within stack-levels
-  stack-widening l [] [] h n e = none
-  stack-widening l [] (c ∷ cs) h n e = impossible e
-  stack-widening l (u ∷ ls) [] h n e = impossible e
-  stack-widening l (u ∷ ls) (c ∷ cs) h n e =
-      let up = longest-bounds u ls s n in
-      more (channel-widens l u c h (search ands)) (stack-widening u ls cs (up .0) (up .1) (search ands))
+  pub stack-widening : (l : Strip) (ls : List Strip) (cs : List Channel) → Stand s (l ∷ ls) → channels-within (l ∷ ls) cs ≡ true → Widening (stack-levels b s ls cs)
+  unfolding channels-within stack-levels Stand
+  stack-widening l [] [] h e = none
+  stack-widening l [] (c ∷ cs) h e = impossible e
+  stack-widening l (u ∷ ls) [] h e = impossible e
+  stack-widening l (u ∷ ls) (c ∷ cs) h e = more (channel-widens (l .length) (u .length) c (h .0) (search ands)) (stack-widening u ls cs (h .2) (search ands))
 
   -- at the last separation of use every offset is within the limits
   pub channel-fits-open : (c : Channel) (x y : ℕ) → x ≤ s → y ≤ s → Fits b (low-at (channel-limits b c) (last-use c)) (high-at (channel-limits b c) (last-use c)) x y

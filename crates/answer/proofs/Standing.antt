@@ -13,13 +13,13 @@ use Rattle.numbers.specs.Lists.{padded}
 use Rattle.numbers.proofs.Bools.{ands}
 use Rattle.numbers.proofs.Lists.{getD-tabulate}
 use Rattle.numbers.proofs.Orders.{lt-or-eq, eq-or-not, le-or-lt}
-use Rattle.stack.specs.Stack.{no-channel, channel-in, Stack, longest}
-use Rattle.stack.specs.Limits.{pairs-within, channel-within, channels-within, strips-within, within-limits}
-use Rattle.stack.specs.Value.{strip, no-terminals, floor-at, channel-at, stack-of}
+use Rattle.stack.specs.Stack.{no-channel, channel-in, Window, free, held, Strip, no-strip, Stack, greatest-of, least-position, first-spread}
+use Rattle.stack.specs.Limits.{pairs-within, channel-within, channels-within, strip-within, strips-within, within-limits}
+use Rattle.stack.specs.Value.{no-terminals, strip-at, floor-at, channel-at, stack-of}
 use Rattle.stack.specs.declared.Stack.{Stack as Stack-struct}
 use Rattle.stack.specs.Sizes.{channels-held, strips-held, separations-held, totals-held}
 use Rattle.stack.proofs.Values.{channel-length, stack-channel}
-use Rattle.stack.proofs.Within.{strips-length, channel-in-limits, few-channels, few-pairs, small-floor, stack-channels, stack-strip}
+use Rattle.stack.proofs.Within.{strips-length, strip-in-limits, channel-in-limits, few-channels, few-pairs, small-floor, stack-channels, stack-strip}
 use Rattle.limits.specs.Limits.{low-floored, high-floored, open-from}
 use Rattle.channel.specs.Seeking.{Limits-of}
 use Rattle.limits.proofs.Floors.{high-floored-bounded}
@@ -37,9 +37,9 @@ use Rattle.arrays.proofs.Levels.{most-small, most-fewer, above-at}
 use Rattle.arrays.specs.Arrays.{bias, entry, sides, lasts-in, sums-in, Given, given, low-of, high-of, last-of, window-of, limits-from, level-of, levels, Sized, span-in, Plan-is, Stack-asks, Filled, In-band, Banded}
 use Rattle.separations.specs.Separations.{Separate-asks}
 use Rattle.solver.specs.Placing.{separations-of, Place-asks, Placement-is}
-use Rattle.answer.specs.Solve.{last-use, window, channel-limits, stack-levels, bottom, levels-of, total-with, separations-with, positions-with, answer-total, separations-for}
-use Rattle.answer.specs.Arrays.{strip-in, Limits-sized, Limits-in, Held, Windows-in, Placed-is, Answer-is}
-use Rattle.answer.proofs.Legal.{longest-bounds, low-bounded}
+use Rattle.answer.specs.Solve.{last-use, window-span, window, channel-limits, stack-levels, bottom, levels-of, total-with, separations-with, positions-with, answer-total, separations-for}
+use Rattle.answer.specs.Arrays.{strip-in, window-ends, Limits-sized, Limits-in, Held, Windows-in, Placed-is, Answer-is}
+use Rattle.answer.proofs.Legal.{low-bounded}
 use Rattle.answer.proofs.Answers.{total-most, widening-with, exactly-with, total-any-bias, placement-any-bias}
 
 -- the arrays as they are at first
@@ -108,9 +108,8 @@ limits-step k n last limits lasts r h few s l e =
 pub windows-start : (k : Stack) (s : ℕ) (windows : List (List ℕ)) → length windows ≡ strips-held → Windows-in k 0 s windows
 windows-start k s windows a = record { sized = a; windows-are = λ i h. absurd (omega arith) }
 
-pub windows-step : (k : Stack-struct) (n s x : ℕ) (windows : List (List ℕ)) → n < suc (k .count) → k .count ≤ channels-held → Windows-in (stack-of k) n s windows →
-    x ≡ suc s - getD (k .strips) n (strip 0) .length .0 → Windows-in (stack-of k) (n + 1) s (set windows n (0 ∷ x ∷ []))
-unfolding window
+pub windows-step : (k : Stack-struct) (n s : ℕ) (x : List ℕ) (windows : List (List ℕ)) → n < suc (k .count) → k .count ≤ channels-held → Windows-in (stack-of k) n s windows →
+    x ≡ window-ends (window s (strip-at k n)) → Windows-in (stack-of k) (n + 1) s (set windows n x)
 windows-step k n s x windows h few w e =
     record {
       sized = length-set windows n _ ∙ w .sized;
@@ -140,7 +139,7 @@ module _ (k : Stack) (s : ℕ) (g : Given) (st : Stands k s g) where
   unfolding within-limits
   within = let e = st .good in search ands
 
-  channel-good : (i : ℕ) → i < m → channel-within (strip-in k i) (strip-in k (suc i)) (channel-in k i) ≡ true
+  channel-good : (i : ℕ) → i < m → channel-within (strip-in k i .length) (strip-in k (suc i) .length) (channel-in k i) ≡ true
   channel-good i h = channel-in-limits (k .strips) (k .channels) i within h
 
   last-small : (i : ℕ) → i < m → last-use (channel-in k i) < separations-held
@@ -171,7 +170,7 @@ module _ (k : Stack) (s : ℕ) (g : Given) (st : Stands k s g) where
       rw none
   levels-from i (suc n) e =
       let long = strips-length (k .strips) (k .channels) within in
-      rw (drop-cons (k .strips) (suc i) 0 (omega arith), drop-cons (k .channels) i no-channel (omega arith))
+      rw (drop-cons (k .strips) (suc i) no-strip (omega arith), drop-cons (k .channels) i no-channel (omega arith))
       (ap₂ _∷_ (level-is i (omega arith)) (levels-from (suc i) n (omega arith)))
 
   -- the solver's stack is the stack's
@@ -183,32 +182,39 @@ module _ (k : Stack) (s : ℕ) (g : Given) (st : Stands k s g) where
   unfolding bottom
   bottom-is = window-is 0 (omega arith)
 
-longest-most : (ls : List ℕ) (i : ℕ) → getD ls i 0 ≤ longest ls
-longest-most [] i = omega arith
-longest-most (l ∷ ls) zero = longest-bounds l ls (longest (l ∷ ls)) (omega arith) .0
-longest-most (l ∷ ls) (suc i) = omega (arith, longest-most ls i, longest-bounds l ls (longest (l ∷ ls)) (omega arith) .1)
+-- from the first spread on no strip, nor its least position, is beyond the spread
+length-most : (s : ℕ) (ls : List Strip) (i : ℕ) → first-spread ls ≤ s → i < length ls → getD ls i no-strip .length + least-position (getD ls i no-strip .window) ≤ s
+unfolding first-spread greatest-of
+length-most s [] i h l = absurd (omega arith)
+length-most s (l ∷ ls) zero h m = omega arith
+length-most s (l ∷ ls) (suc i) h m = length-most s ls i (omega arith) (omega arith)
 
-strip-some : (ls : List ℕ) (i : ℕ) → strips-within ls ≡ true → i < length ls → 1 ≤ getD ls i 0
-unfolding strips-within
-strip-some [] i e h = absurd (omega arith)
-strip-some (l ∷ ls) zero e h = leb-true 1 l (search ands)
-strip-some (l ∷ ls) (suc i) e h = strip-some ls i (search ands) (omega arith)
+window-within-spread : (s n : ℕ) (w : Window) → 1 ≤ n → n + least-position w ≤ s → (window-span s n w .from ≤ s) × (window-span s n w .upto ≤ s)
+unfolding window-span least-position
+window-within-spread s n free h i = (omega arith, omega arith)
+window-within-spread s n (held a e) h i = (omega arith, omega arith)
 
 -- what the solver asks
-module _ (k : Stack) (s : ℕ) (g : Given) (st : Stands k s g) (fits : s < 4294967296) (wide : longest (k .strips) ≤ s) where
+module _ (k : Stack) (s : ℕ) (g : Given) (st : Stands k s g) (fits : s < 4294967296) (wide : first-spread (k .strips) ≤ s) where
   abbrev n : ℕ
   n = length (k .channels)
 
   last-right : (i : ℕ) → i < n → last-of g i ≡ last-use (channel-in k i)
   last-right i h = st .limits .lasts-are i h
 
+  strips-many : length (k .strips) ≡ suc n
+  strips-many = strips-length (k .strips) (k .channels) (within k s g st)
+
+  strip-most : (i : ℕ) → i ≤ n → strip-in k i .length + least-position (strip-in k i .window) ≤ s
+  strip-most i h = length-most s (k .strips) i wide (omega (arith, strips-many))
+
   -- windows lie within the spread
   window-small : (i : ℕ) → i ≤ n → (window-of g i .from ≤ s) × (window-of g i .upto ≤ s)
-  unfolding window within-limits
+  unfolding within-limits strip-within
   window-small i h =
       let e = st .good in
-      let some = strip-some (k .strips) i (search ands) (omega (arith, strips-length (k .strips) (k .channels) (within k s g st))) in
-      rw (st .windows .windows-are i (omega arith)) (omega arith)
+      let good = strip-in-limits (k .strips) i (search ands) (omega (arith, strips-many)) in
+      rw (st .windows .windows-are i (omega arith)) (window-within-spread s (strip-in k i .length) (strip-in k i .window) (leb-true 1 (strip-in k i .length) (search ands)) (strip-most i h))
 
   pub asks : Stack-asks g n
   unfolding within-limits
@@ -222,7 +228,7 @@ module _ (k : Stack) (s : ℕ) (g : Given) (st : Stands k s g) (fits : s < 42949
         starts = λ i h. omega (arith, window-small i h);
         ends = λ i h. omega (arith, window-small i h);
         lows = λ i q h l.
-            omega (arith, low-is k s g st i q h (omega (arith, last-right i h)), low-bounded bias s (strip-in k i) (strip-in k (suc i)) q (channel-in k i) (omega arith) (omega (arith, longest-most (k .strips) i)) (channel-good k s g st i h));
+            omega (arith, low-is k s g st i q h (omega (arith, last-right i h)), low-bounded bias s (strip-in k i .length) (strip-in k (suc i) .length) q (channel-in k i) (omega arith) (omega (arith, strip-most i (omega arith))) (channel-good k s g st i h));
         highs = λ i q h l. omega (arith, high-is k s g st i q h (omega (arith, last-right i h)), high-floored-bounded bias (channel-in k i) q);
       }
 
@@ -298,7 +304,7 @@ module _ (k : Stack-struct) (limits : List (List (List ℕ))) (lasts : List ℕ)
   held-made plan p = record { good = e; filled = rw (p .kept) l; planned = p .plan-is }
 
 -- the arrays as the code has them, with the struct's count of channels
-module _ (k : Stack-struct) (s : ℕ) (limits : List (List (List ℕ))) (plan windows : List (List ℕ)) (fits : s < 4294967296) (wide : longest (stack-of k .strips) ≤ s) (held : Held k limits plan)
+module _ (k : Stack-struct) (s : ℕ) (limits : List (List (List ℕ))) (plan windows : List (List ℕ)) (fits : s < 4294967296) (wide : first-spread (stack-of k .strips) ≤ s) (held : Held k limits plan)
     (filled : Windows-in (stack-of k) (suc (k .count)) s windows) where
   abbrev made : Given
   made = given limits plan windows

@@ -6,7 +6,7 @@ use Prim.Native.Nat.{ℕ, _<_}
 use lib.ListN.{length, getD}
 use Rattle.stack.specs.Value.{tracks-of, columns-of, stack-of}
 use Rattle.numbers.specs.Lists.{tabulate, padded}
-use Rattle.stack.specs.Stack.{Channel, channel-in, Stack}
+use Rattle.stack.specs.Stack.{Channel, channel-in, Strip, no-strip, Stack}
 use Rattle.stack.specs.Limits.{within-limits}
 use Rattle.stack.specs.declared.Stack.{Stack as Stack-struct}
 use Rattle.stack.specs.Sizes.{channels-held, strips-held, separations-held}
@@ -16,8 +16,8 @@ use Rattle.arrays.specs.Arrays.{bias, entry, row, sides, lasts-in, Plan-is}
 use Rattle.solver.specs.declared.Placement.{Placement}
 use Rattle.answer.specs.Solve.{last-use, window, answer-total, separations-for, positions-for}
 
-abbrev pub strip-in : Stack → (i : ℕ) → ℕ
-strip-in k i = getD (k .strips) i 0
+abbrev pub strip-in : Stack → (i : ℕ) → Strip
+strip-in k i = getD (k .strips) i no-strip
 
 -- a channel's limits, in a row of lows and a row of highs
 abbrev pub limit-rows : Channel → List (List ℕ)

@@ -1,17 +1,21 @@
 -- The least total of a stack in a spread and the placement for a total as executable definitions: the stack's windows and limits handed to the solver. Assumes
 -- nothing: these are definitions. They are proved to be Stack.antt's Least-total and Placement; nobody has to believe them.
 use mathlib.Core.List.{List, [], _∷_}
-use Prim.Native.Nat.{ℕ, suc, _+_, _-_, max}
+use Prim.Native.Nat.{ℕ, suc, _+_, _-_, min, max}
 use lib.ListN.{length, getD, drop}
-use Rattle.stack.specs.Stack.{Channel, Stack}
+use Rattle.stack.specs.Stack.{Channel, Window, free, held, Strip, no-strip, Stack}
 use Rattle.limits.specs.Limits.{low-floored, high-floored, open-from}
 use Rattle.spans.specs.Spans.{Span, span, Limit}
 use Rattle.spans.specs.Solver.{Level, level, least-total, separations, positions}
 use Rattle.arrays.specs.Arrays.{limits-from}
 
--- the WINDOW of a strip: its positions within the spread
-unfoldable pub window : (s length : ℕ) → Span
-window s l = span 0 (suc s - l)
+-- the positions of a strip within the spread and inside its window
+unfoldable pub window-span : (s length : ℕ) → Window → Span
+window-span s l free = span 0 (suc s - l)
+window-span s l (held a e) = span a (min (suc e) (suc s - l))
+
+abbrev pub window : (s : ℕ) → Strip → Span
+window s l = window-span s (l .length) (l .window)
 
 -- the last separation of use in a channel, the greater of its floor and of that from which on its pairs leave every offset open
 abbrev pub last-use : Channel → ℕ
@@ -22,13 +26,13 @@ unfoldable pub channel-limits : (b : ℕ) → Channel → List Limit
 channel-limits b c = limits-from (low-floored b c) (high-floored b c) 0 (suc (last-use c))
 
 -- each channel with the strip on top of it
-unfoldable pub stack-levels : (b s : ℕ) → (upper-strips : List ℕ) → List Channel → List Level
+unfoldable pub stack-levels : (b s : ℕ) → (upper-strips : List Strip) → List Channel → List Level
 stack-levels b s [] cs = []
 stack-levels b s (l ∷ ls) [] = []
 stack-levels b s (l ∷ ls) (c ∷ cs) = level (channel-limits b c) (window s l) ∷ stack-levels b s ls cs
 
 unfoldable pub bottom : Stack → (s : ℕ) → Span
-bottom k s = window s (getD (k .strips) 0 0)
+bottom k s = window s (getD (k .strips) 0 no-strip)
 
 unfoldable pub levels-of : (b : ℕ) → Stack → (s : ℕ) → List Level
 levels-of b k s = stack-levels b s (drop 1 (k .strips)) (k .channels)

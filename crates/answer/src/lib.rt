@@ -6,11 +6,11 @@ ghost use lib.Dec.{ltb, leb};
 ghost use lib.ListN.{length, replicate};
 ghost use Rattle.stack.specs.Sizes.{channels-held, strips-held};
 ghost use Rattle.stack.specs.Limits.{within-limits};
-ghost use Rattle.stack.specs.Value.{tracks-of, columns-of, stack-of};
-ghost use Rattle.stack.specs.Stack.{longest};
+ghost use Rattle.stack.specs.Value.{tracks-of, columns-of, strip-of, stack-of};
+ghost use Rattle.stack.specs.Stack.{first-spread};
 ghost use Rattle.limits.specs.Limits.{open-from};
-ghost use Rattle.answer.specs.Arrays.{Limits-in, Windows-in, Limits-sized, Held, Placed-is, Answer-is};
-ghost use Rattle.answer.specs.Solve.{answer-total};
+ghost use Rattle.answer.specs.Arrays.{Limits-in, window-ends, Windows-in, Limits-sized, Held, Placed-is, Answer-is};
+ghost use Rattle.answer.specs.Solve.{window, answer-total};
 use arrays::ABOVE;
 use arrays::FROM;
 use arrays::HIGH;
@@ -18,6 +18,7 @@ use arrays::LOW;
 use arrays::Plan;
 use arrays::StackLimits;
 use arrays::UPTO;
+use arrays::Window;
 use arrays::Windows;
 use band::fill_band;
 use channel::channel_limits;
@@ -30,6 +31,7 @@ use solver::Placement;
 use solver::place_in;
 use stack::Columns;
 use stack::Stack;
+use stack::Strip;
 use stack::Tracks;
 
 // The last separation of use in a channel with so many pairs and this floor: there its limits leave every offset open.
@@ -61,10 +63,16 @@ pub fn fill_limits(stack: Stack, limits: &mut StackLimits, lasts: &mut [usize; S
     }
 }
 
-fn wide(c: Columns) -> u64
-    ensures { λ r. ⌜ r ≡ c .0 ⌝ }
+// A strip's window in a spread: within the spread, and inside its own where it is held.
+fn window(strip: Strip, spread: u32) -> Window
+    ensures { λ r. ⌜ r ≡ window-ends (window spread (strip-of strip)) ⌝ }
 {
-    c.0 as u64
+    let end = difference(spread as u64 + 1, strip.length.0 as u64);
+    if strip.held {
+        let last = lesser(strip.greatest.0 as u64 + 1, end);
+        return [strip.least.0 as u64, last];
+    }
+    [0, end]
 }
 
 // The strips' windows in a spread.
@@ -75,8 +83,8 @@ pub fn fill_windows(stack: Stack, spread: u32, windows: &mut Windows)
 {
     let strips = stack.count + 1;
     for i in 0..strips {
-        let strip = stack.strips[i];
-        windows[i] = [0, difference(spread as u64 + 1, wide(strip.length))];
+        let ends = window(stack.strips[i], spread);
+        windows[i] = ends;
     }
 }
 
@@ -91,10 +99,10 @@ fn fill_arrays(stack: Stack, spread: u32, limits: &mut StackLimits, windows: &mu
     plan_for(limits, lasts, stack.count)
 }
 
-// The least total in a spread from the longest strip upward.
+// The least total in a spread from the first one on.
 pub fn total_in(stack: Stack, spread: u32) -> Tracks
     requires { ⌜ within-limits (stack-of stack) ≡ true ⌝ }
-    requires { ⌜ longest (stack-of stack .strips) ≤ spread ⌝ }
+    requires { ⌜ first-spread (stack-of stack .strips) ≤ spread ⌝ }
     ensures { λ r. ⌜ r .0 ≡ answer-total (stack-of stack) spread ⌝ }
 {
     let mut limits = [[[0u64; Stack::SEPARATIONS]; 2]; Stack::MAX_CHANNELS];
@@ -106,10 +114,10 @@ pub fn total_in(stack: Stack, spread: u32) -> Tracks
     Tracks(scan.total as u32)
 }
 
-// The placement for the least total in a spread from the longest strip upward.
+// The placement for the least total in a spread from the first one on.
 pub fn answer_in(stack: Stack, spread: u32) -> Placement
     requires { ⌜ within-limits (stack-of stack) ≡ true ⌝ }
-    requires { ⌜ longest (stack-of stack .strips) ≤ spread ⌝ }
+    requires { ⌜ first-spread (stack-of stack .strips) ≤ spread ⌝ }
     ensures { λ r. ⌜ Answer-is (stack-of stack) spread r ⌝ }
 {
     let k = stack.count;
@@ -146,11 +154,11 @@ pub struct StatedPlacement {
     pub placement: Placement,
 }
 
-// The placement for a stated total in a spread from the longest strip upward, if some legal placement there has that total. The least total is not looked for: the
+// The placement for a stated total in a spread from the first one on, if some legal placement there has that total. The least total is not looked for: the
 // total is met exactly if the bottom strip has a position for it.
 pub fn placement_in(stack: Stack, spread: u32, total: Tracks) -> StatedPlacement
     requires { ⌜ within-limits (stack-of stack) ≡ true ⌝ }
-    requires { ⌜ longest (stack-of stack .strips) ≤ spread ⌝ }
+    requires { ⌜ first-spread (stack-of stack .strips) ≤ spread ⌝ }
     ensures { λ r. ⌜ (r .met ≡ leb (answer-total (stack-of stack) spread) (total .0)) × (r .met ≡ true → Placed-is (stack-of stack) spread (total .0) (r .placement)) ⌝ }
 {
     let k = stack.count;

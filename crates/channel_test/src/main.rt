@@ -110,6 +110,9 @@ fn longest() -> Strip
 {
     Strip {
         length: Columns(Strip::MAX_LENGTH),
+        held: false,
+        least: Columns(0),
+        greatest: Columns(0),
     }
 }
 

@@ -10,7 +10,7 @@ use lib.Dec.{leb, ltb, eqb}
 use lib.ListN.{length}
 use borrow.Author.Tests.{eqb-true, eqb-false, ne-eqb, leb-true, leb-false, lt-ltb, le-ltb}
 use Rattle.numbers.proofs.Bools.{ands, impossible}
-use Rattle.stack.specs.Stack.{Stack, stack, Total-met, Least-total, Placement, Answer, longest}
+use Rattle.stack.specs.Stack.{Stack, stack, Total-met, Least-total, Placement, Answer, free, strip, greatest-of, least-position, first-spread}
 use Rattle.stack.specs.Limits.{within-limits}
 use Rattle.lines.specs.Lines.{same-bytes}
 use Rattle.spans.specs.Solver as solver
@@ -95,7 +95,7 @@ record Solved (k : Stack) (s : ℕ) : Type 0 where
   pub no-other : (v : ℕ) → is-met k s v ≡ false → Total-met k s v → ⊥
 
 -- of a stack
-stack-solved : (k : Stack) (s : ℕ) → within-limits k ≡ true → longest (k .strips) ≤ s → Solved k s
+stack-solved : (k : Stack) (s : ℕ) → within-limits k ≡ true → first-spread (k .strips) ≤ s → Solved k s
 unfolding is-met within-limits
 stack-solved k s w h =
     let some : eqb (length (k .channels)) 0 ≡ false = ne-eqb (length (k .channels)) 0 (λ e. omega (arith, leb-true 1 (length (k .channels)) (search ands))) in
@@ -110,12 +110,12 @@ text-solved : (bs : List ℕ) (s : ℕ) → spread-refusal bs s .number ≡ 0 �
 text-solved bs s e = stack-solved (stack-in bs) s (spread-within bs s e) (spread-wide bs s e)
 
 -- of a single strip
-single-solved : (l s : ℕ) → longest (l ∷ []) ≤ s → Solved (one-strip l) s
-unfolding longest is-met stack solve.answer-total solve.total-with solve.separations-for solve.separations-with solve.positions-for solve.positions-with
-    solve.bottom solve.window solve.levels-of solve.stack-levels solver.least-total solver.first-total solver.first solver.back solver.most solver.separations
+single-solved : (l s : ℕ) → first-spread (strip l free ∷ []) ≤ s → Solved (one-strip l) s
+unfolding first-spread greatest-of least-position is-met stack solve.answer-total solve.total-with solve.separations-for solve.separations-with solve.positions-for solve.positions-with
+    solve.bottom solve.window-span solve.levels-of solve.stack-levels solver.least-total solver.first-total solver.first solver.back solver.most solver.separations
     solver.positions solver.lowest solver.fixed solver.positions-on
 single-solved l s h =
-    let fits : l ≤ s = rw (le-ltb l 0 (omega arith)) at h in
+    let fits : l ≤ s = omega arith in
     let room : ltb 0 (suc s - l) ≡ true = lt-ltb 0 (suc s - l) (omega arith) in
     record {
       least = rw room (least-zero l s fits);
@@ -124,7 +124,7 @@ single-solved l s h =
     }
 
 -- of what steps leave
-session-wide : (k : Stack) (s : ℕ) → session-refusal k s .number ≡ 0 → longest (k .strips) ≤ s
+session-wide : (k : Stack) (s : ℕ) → session-refusal k s .number ≡ 0 → first-spread (k .strips) ≤ s
 unfolding session-refusal or-else fine refusal
 session-wide k s e = fine-wide fine k s (when-fine (eqb (length (k .strips)) 0) 12 0 0 _ e .1)
 

@@ -1,5 +1,5 @@
 -- Wrong versions break the promises, each on a specimen: what such a version returns is not the specimen's reply. Document 01, "Reviewer's checklist" and
--- "Traps in the work"; document 02, P1 to P6. Assumes nothing.
+-- "Traps in the work"; document 02, P1 to P7. Assumes nothing.
 use mathlib.Core.Path.{_≡_, refl, sym, ap, _∙_}
 use mathlib.Core.Bool.{true, false}
 use mathlib.Core.List.{List, [], _∷_, _++_}
@@ -11,10 +11,10 @@ use borrow.Author.Tests.{eq-eqb}
 use Rattle.numbers.specs.Lists.{padded}
 use Rattle.stack.specs.Value.{tracks-of, columns-of}
 use Rattle.numbers.proofs.Bools.{impossible}
-use Rattle.stack.specs.Stack.{Stack, in-spread, legal, longest, sum, Answer}
+use Rattle.stack.specs.Stack.{Stack, in-spread, stands, in-window, legal, greatest-of, least-position, first-spread, sum, Answer}
 use Rattle.stack.specs.Limits.{rises-above, rising, all-rising}
 use Rattle.answer.proofs.Alone.{answer-total-is, answer-placed}
-use Rattle.answer.proofs.Answers.{zeros-of}
+use Rattle.answer.proofs.Answers.{leasts-of}
 use Rattle.rows.proofs.Floored.{floors-of, all-covered, floors-answer}
 use Rattle.reading.proofs.Within.{accepted-within}
 use Rattle.routing.proofs.Drawable.{drawable-legal, legal-drawable}
@@ -36,7 +36,7 @@ use Rattle.reply.specs.declared.PlacementAnswer.{PlacementAnswer}
 use Rattle.reply.specs.declared.TableAnswer.{TableAnswer}
 use Rattle.spread.specs.declared.TotalAnswer.{TotalAnswer}
 use Rattle.nabetsu.specs.declared.TrialAnswer.{TrialAnswer}
-use Rattle.evidence.specs.Specimens.{text-shown, Specimen, spread-gives, spread-refused, place-gives, place-refused, table-gives, table-refused, trial-gives, page-gives, session-gives, session-refused, page-shown, page-a, Holds, All-hold, text-a, table-a, text-b, text-c, table-c, text-d, table-d, text-e, text-between, text-moved, text-a-4, text-b-3-5, text-512, with-lines, headed, parted, netted, beginning, adding, steps-one, steps-a, added, then-a, nine-strips, specimens, Specimens-right}
+use Rattle.evidence.specs.Specimens.{text-shown, Specimen, spread-gives, spread-refused, place-gives, place-refused, table-gives, table-refused, trial-gives, page-gives, session-gives, session-refused, page-shown, page-a, Holds, All-hold, text-a, table-a, text-b, text-c, table-c, text-d, table-d, text-e, text-held, table-held, text-past, table-past, text-between, text-moved, text-a-4, text-b-3-5, text-512, with-lines, headed, parted, netted, beginning, adding, steps-one, steps-a, added, then-a, nine-strips, specimens, Specimens-right}
 use Rattle.evidence.proofs.Opened.{reading, replying, showing}
 use Rattle.evidence.proofs.Replies.{least-told, placement-told}
 use Rattle.evidence.proofs.Specimens.{specimens-right}
@@ -173,7 +173,7 @@ zero-one-at-100 : Holds (spread-refused (headed "STACK 01 1") 100 11 1 3)
 unfolding specimens Entry-holds
 zero-one-at-100 = specimen 151
 
-three-extra-at-100 : Holds (spread-refused (parted "PART 4 4 4 4") 100 11 2 3)
+three-extra-at-100 : Holds (spread-refused (parted "PART 4 4 4 4 4 4") 100 11 2 5)
 unfolding specimens Entry-holds
 three-extra-at-100 = specimen 155
 
@@ -204,6 +204,27 @@ long-and-odd-at-4 = specimen 243
 tenth-at-1 : Holds (session-refused (adding nine-strips "PART 1001" "NETS") 1 3 0 0)
 unfolding specimens Entry-holds
 tenth-at-1 = specimen 253
+
+-- A with windows: rows, a window's last position, a spread between two rows, and 4 before 14
+held-in-50 : Holds (table-gives text-held 50 table-held)
+unfolding specimens Entry-holds
+held-in-50 = specimen 269
+
+held-last-at-7 : Holds (trial-gives text-held 7 (3 ∷ []) (3 ∷ 0 ∷ []) true)
+unfolding specimens Entry-holds
+held-last-at-7 = specimen 277
+
+held-left-at-5 : Holds (trial-gives text-held 5 (3 ∷ []) (0 ∷ 0 ∷ []) false)
+unfolding specimens Entry-holds
+held-left-at-5 = specimen 279
+
+past-in-60 : Holds (table-gives text-past 60 table-past)
+unfolding specimens Entry-holds
+past-in-60 = specimen 284
+
+short-inverted-at-100 : Holds (spread-refused (parted "PART 0 3 2") 100 4 2 2)
+unfolding specimens Entry-holds
+short-inverted-at-100 = specimen 296
 
 -- bytes that differ
 bytes-same : (a : List ℕ) → same-bytes a a ≡ true
@@ -238,13 +259,13 @@ unfolding Holds padded same-bytes
 full-count-breaks r w a = other-separations _ _ (2 ∷ []) (0 ∷ []) _ r refl w (a-at-100 .1 r .0 a)
 
 a-drawn : Drawable (stack-in (text-shown text-a)) 100 (0 ∷ []) (2 ∷ 0 ∷ [])
-unfolding reading in-spread point paths.same-column paths.same-point paths.chain paths.is-path paths.on-path paths.apart paths.apart-from-all
+unfolding reading in-spread stands in-window point paths.same-column paths.same-point paths.chain paths.is-path paths.on-path paths.apart paths.apart-from-all
     paths.none-meet paths.all-paths paths.Channels-drawn
 a-drawn =
     record { within = refl; drawn = (omega arith, record { paths = (point (pos 2) 0 ∷ []) ∷ (point (pos 4) 0 ∷ []) ∷ []; led = refl; clear = refl }, refl) }
 
 pub full-count-not-least : (r : TotalAnswer) → r .total .0 ≡ 2 → Total-best (text-shown text-a) 100 r → ⊥
-unfolding reading spread-refusal narrow-refusal longest sum
+unfolding reading spread-refusal narrow-refusal first-spread greatest-of least-position sum
 full-count-not-least r w b = omega (arith, b .none-smaller refl (0 ∷ []) (2 ∷ 0 ∷ []) a-drawn)
 
 -- FIRST ROW RIGHT and then repeated
@@ -401,7 +422,7 @@ floor-added-breaks r w a = other-separations _ _ (7 ∷ []) (4 ∷ []) _ r refl 
 
 -- THE GREATEST TOTAL: eight channels with floor 64. It is a specimen too, but one that takes too long to compute: the floors are the answer
 floors-answered : Answer (stack-in (text-shown text-512)) 1 (replicate 8 64) (replicate 9 0)
-unfolding reading replying floors-of all-covered zeros-of
+unfolding reading replying floors-of all-covered leasts-of
 floors-answered = floors-answer (stack-in (text-shown text-512)) 1 (accepted-within (text-shown text-512) refl) (omega arith) refl
 
 pub greatest-total : Holds (spread-gives text-512 1 512 (replicate 8 64) (replicate 9 0))
@@ -552,10 +573,10 @@ pub numbers-first-breaks : (r : TotalAnswer) → refusal-of (r .outcome) .number
 unfolding Holds total-told
 numbers-first-breaks r w a = omega (arith, number-told 11 1 3 _ (zero-one-at-100 .0 r .0 a .0))
 
--- ANOTHER FIELD: the last of three extra ones, and the odd terminal's own
-pub last-extra-breaks : (r : TotalAnswer) → refusal-of (r .outcome) .field ≡ 5 → Total-says (text-shown (parted "PART 4 4 4 4")) 100 r → ⊥
+-- ANOTHER FIELD: the last of three extra ones, 7, and the odd terminal's own
+pub last-extra-breaks : (r : TotalAnswer) → refusal-of (r .outcome) .field ≡ 7 → Total-says (text-shown (parted "PART 4 4 4 4 4 4")) 100 r → ⊥
 unfolding Holds total-told
-last-extra-breaks r w a = omega (arith, field-told 11 2 3 _ (three-extra-at-100 .0 r .0 a .0))
+last-extra-breaks r w a = omega (arith, field-told 11 2 5 _ (three-extra-at-100 .0 r .0 a .0))
 
 pub own-field-breaks : (r : TotalAnswer) → refusal-of (r .outcome) .field ≡ 4 → Total-says (text-shown (netted "NETS 0 2 2")) 100 r → ⊥
 unfolding Holds total-told
@@ -596,3 +617,34 @@ field-off-by-one-breaks r w a = omega (arith, field-told 5 0 4 _ (third-terminal
 pub single-refused-breaks : (r : TotalAnswer) → refusal-of (r .outcome) .number ≡ 13 → Steps-total-says (text-shown steps-one) 4 r → ⊥
 unfolding Holds total-told
 single-refused-breaks r w a = omega (arith, number-told 0 0 0 _ (one-strip-at-4 .0 r .0 a .0))
+
+-- WINDOWS. THE LAST POSITION of a window not allowed, and a strip allowed to its left
+pub last-position-breaks : (r : TrialAnswer) → r .legal ≡ false → Trial-says (text-shown text-held) 7 (padded 8 (3 ∷ [])) (padded 9 (3 ∷ 0 ∷ [])) r → ⊥
+unfolding Holds
+last-position-breaks r w a = impossible (sym w ∙ held-last-at-7 r .0 a .1)
+
+pub window-ignored-breaks : (r : TrialAnswer) → r .legal ≡ true → Trial-says (text-shown text-held) 5 (padded 8 (3 ∷ [])) (padded 9 (0 ∷ 0 ∷ [])) r → ⊥
+unfolding Holds
+window-ignored-breaks r w a = impossible (sym (held-left-at-5 r .0 a .1) ∙ w)
+
+-- THE FIRST ROW at the longest strip, as where the least position is ignored
+pub first-row-at-longest-breaks : (r : TableAnswer) (o x : List ℕ) → length o ≡ 50 →
+    x ≡ text-shown table-a → Table-says (text-shown text-held) r o x → ⊥
+unfolding Holds reading
+first-row-at-longest-breaks r o x l w a = differ _ _ refl (sym w ∙ held-in-50 r o x l .0 a .1)
+
+-- A ROW SKIPPED, as where an end that grows is counted as held; and no row past the lengths together
+pub row-skipped-breaks : (r : TableAnswer) (o x : List ℕ) → length o ≡ 60 →
+    x ≡ text-shown ("TABLE 1" ∷ "ROW 12 3 3 5 8" ∷ "ROW 14 0 0 10 8" ∷ []) ++ replicate 22 0 → Table-says (text-shown text-past) r o x → ⊥
+unfolding Holds reading
+row-skipped-breaks r o x l w a = differ _ _ refl (sym w ∙ past-in-60 r o x l .0 a .1)
+
+pub tail-cut-breaks : (r : TableAnswer) (o x : List ℕ) → length o ≡ 60 →
+    x ≡ text-shown ("TABLE 1" ∷ "ROW 12 3 3 5 8" ∷ []) ++ replicate 37 0 → Table-says (text-shown text-past) r o x → ⊥
+unfolding Holds reading
+tail-cut-breaks r o x l w a = differ _ _ refl (sym w ∙ past-in-60 r o x l .0 a .1)
+
+-- 14 BEFORE 4
+pub window-before-length-breaks : (r : TotalAnswer) → refusal-of (r .outcome) .number ≡ 14 → Total-says (text-shown (parted "PART 0 3 2")) 100 r → ⊥
+unfolding Holds total-told
+window-before-length-breaks r w a = omega (arith, number-told 4 2 2 _ (short-inverted-at-100 .0 r .0 a .0))

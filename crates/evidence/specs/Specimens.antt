@@ -1,6 +1,6 @@
 -- TRUSTED. Document 01's specimen cards: one table of texts, questions and replies, and what each says of an entry's result. proofs/Specimens.antt proves all
 -- of them. Document 01, "Specimen cards"; document 02: their pages by P1, floors by P2, stated totals by P3, all by P4's rule, refusals by P5, built by steps as in
--- P6. Assumes nothing: these are definitions.
+-- P6, held by windows as in P7. Assumes nothing: these are definitions.
 use mathlib.Core.Path.{_≡_}
 use mathlib.Core.Bool.{Bool, true, false, cond}
 use mathlib.Core.List.{List, [], _∷_, _++_}
@@ -319,6 +319,36 @@ nine-strips = adding (adding (adding six-strips "PART 1" "NETS") "PART 1" "NETS"
 abbrev pub nine-less-eight : List String
 nine-less-eight = with-lines (adding nine-strips "PART 1" "NETS") ("OFF" ∷ "OFF" ∷ "OFF" ∷ "OFF" ∷ "OFF" ∷ "OFF" ∷ "OFF" ∷ "OFF" ∷ [])
 
+-- STRIPS HELD BY WINDOWS: A with a window for its lower strip; a window of one position; windows that keep its strips apart in every spread; rows past the lengths
+-- together; a strip at the last position of all
+abbrev pub text-held : List String
+text-held = parted "PART 4 1 3"
+
+abbrev pub table-held : List String
+table-held = "TABLE 1" ∷ "ROW 5 2 2 1 0" ∷ "ROW 6 0 0 2 0" ∷ []
+
+abbrev pub text-fixed : List String
+text-fixed = parted "PART 4 0 0"
+
+abbrev pub text-apart : List String
+text-apart = "STACK 1" ∷ "PART 4 0 0" ∷ "PART 4 9 9" ∷ "NETS 0 2 2 4" ∷ []
+
+abbrev pub text-past : List String
+text-past = "STACK 1" ∷ "PART 4 5 10" ∷ "PART 4 8 8" ∷ "NETS 0 2 2 4" ∷ []
+
+abbrev pub table-past : List String
+table-past = "TABLE 1" ∷ "ROW 12 3 3 5 8" ∷ "ROW 13 2 2 9 8" ∷ "ROW 14 0 0 10 8" ∷ []
+
+abbrev pub text-9999 : List String
+text-9999 = parted "PART 4 9999 9999"
+
+-- B with free strips above and below one that is held
+abbrev pub text-between-free : List String
+text-between-free = "STACK 2" ∷ "PART 4" ∷ "PART 4 1 1" ∷ "PART 4" ∷ "NETS 0 2 2 4" ∷ "NETS 0 2 2 4" ∷ []
+
+abbrev pub table-between-free : List String
+table-between-free = "TABLE 2" ∷ "ROW 5 5 3 2 0 1 0" ∷ "ROW 6 4 2 2 2 1 0" ∷ "ROW 7 2 0 2 3 1 0" ∷ []
+
 -- THE SPECIMENS
 unfoldable pub specimens : List Specimen
 specimens =
@@ -505,8 +535,8 @@ specimens =
     ∷ table-refused (headed "STACK 01") 50 12 1 2
     ∷ table-refused (headed "STACK 9") 50 3 1 2
     ∷ table-refused (parted "PART") 50 11 2 2
-    ∷ spread-refused (parted "PART 4 4 4 4") 100 11 2 3
-    ∷ table-refused (parted "PART 4 ") 50 11 2 3
+    ∷ spread-refused (parted "PART 4 4 4 4 4 4") 100 11 2 5
+    ∷ table-refused (parted "PART 4 ") 50 11 2 4
     ∷ table-refused (parted "PART ") 50 12 2 2
     ∷ table-refused (parted "PART 01001") 50 12 2 2
     ∷ table-refused (netted "NETS 0") 50 11 4 3
@@ -635,6 +665,48 @@ specimens =
     ∷ session-refused (added "PART 4" "NETS 0 x") 4 2 5 0
     ∷ session-refused (with-lines steps-one ("OPEN" ∷ "OFF" ∷ [])) 4 2 3 0
     ∷ session-refused (with-lines (beginning "PART 0") ("OPEN" ∷ [])) 4 2 3 0
+    -- windows: the first row is at the greatest length plus least position, and narrow is below it
+    ∷ table-gives text-held 50 table-held
+    ∷ spread-refused text-held 4 7 0 0
+    ∷ spread-gives text-held 5 2 (2 ∷ []) (1 ∷ 0 ∷ [])
+    ∷ spread-gives text-held 100 0 (0 ∷ []) (2 ∷ 0 ∷ [])
+    ∷ place-gives text-held 5 4 (4 ∷ []) (1 ∷ 0 ∷ [])
+    ∷ place-refused text-held 5 1 10 0 0
+    ∷ page-gives text-held 5 1 207 page-a-5
+    ∷ page-refused text-held 4 1 207 7 0 0
+    -- a trial inside and outside of the window; below the first spread nothing is legal
+    ∷ trial-gives text-held 7 (3 ∷ []) (3 ∷ 0 ∷ []) true
+    ∷ trial-gives text-held 8 (3 ∷ []) (4 ∷ 0 ∷ []) false
+    ∷ trial-gives text-held 5 (3 ∷ []) (0 ∷ 0 ∷ []) false
+    ∷ trial-gives text-held 4 (3 ∷ []) (1 ∷ 0 ∷ []) false
+    -- one position, strips apart, rows past the lengths together, free strips beside one that is held, the last position of all
+    ∷ table-gives text-fixed 50 ("TABLE 1" ∷ "ROW 4 3 3 0 0" ∷ [])
+    ∷ table-gives text-apart 50 ("TABLE 1" ∷ "ROW 13 3 3 0 9" ∷ [])
+    ∷ spread-gives text-apart 4294967295 3 (3 ∷ []) (0 ∷ 9 ∷ [])
+    ∷ table-gives text-past 60 table-past
+    ∷ spread-gives text-past 13 2 (2 ∷ []) (9 ∷ 8 ∷ [])
+    ∷ table-gives text-between-free 70 table-between-free
+    ∷ table-gives text-9999 50 ("TABLE 1" ∷ "ROW 10003 0 0 9999 9997" ∷ [])
+    ∷ spread-refused text-9999 10002 7 0 0
+    ∷ table-refused text-9999 31 8 0 0
+    -- with a floor
+    ∷ table-gives (with-lines text-held ("GAP 1 1" ∷ [])) 50 ("TABLE 1" ∷ "ROW 5 2 2 1 0" ∷ "ROW 6 1 1 2 0" ∷ [])
+    -- PART: one or three numbers, then each number, then length, 4, then a least position above the greatest, 14
+    ∷ table-refused (parted "PART 4 1") 50 11 2 4
+    ∷ table-refused (parted "PART 4 x") 50 11 2 4
+    ∷ table-refused (parted "PART 4 1 3 5") 50 11 2 5
+    ∷ table-refused (parted "PART 4 x 02") 50 12 2 3
+    ∷ table-refused (parted "PART 4 3 10000") 50 12 2 4
+    ∷ spread-refused (parted "PART 0 3 2") 100 4 2 2
+    ∷ table-refused (parted "PART 4 3 2") 50 14 2 4
+    ∷ spread-refused (parted "PART 4 3 2") 1 14 2 4
+    ∷ trial-refused (parted "PART 4 3 2") 4 (3 ∷ []) (0 ∷ 0 ∷ []) 14 2 4
+    ∷ page-refused (parted "PART 4 3 2") 64 2 0 14 2 4
+    -- a line further up first
+    ∷ table-refused ("STACK 1" ∷ "PART 4 3 2" ∷ "PART" ∷ []) 50 14 2 4
+    ∷ table-refused ("STACK 1" ∷ "PART 4" ∷ "PART 4 1 0" ∷ "NETS 0 2 2 5" ∷ []) 50 14 3 4
+    -- a strip of a session has no window
+    ∷ session-refused (beginning "PART 4 1 3") 10 2 2 0
     ∷ []
 
 -- every one of them holds

@@ -32,7 +32,7 @@ pub fits-fine : (t : List ℕ) (r : TableAnswer) (o x : List ℕ) → length t �
 unfolding Fits table-told refusal
 fits-fine t r o x h f = let told = rw (le-leb (length t) (length o) h) at f in ap (λ (f : Refusal). f .number) (told .0 .0)
 
-pub space-enough : (bs : List ℕ) (r : TableAnswer) (o x : List ℕ) → Table-says bs r o x → Space-enough 21738 bs r o
+pub space-enough : (bs : List ℕ) (r : TableAnswer) (o x : List ℕ) → Table-says bs r o x → Space-enough 24388 bs r o
 unfolding Table-says Tabled Space-enough table-bytes row-bytes rows-most
 space-enough bs r o x says z l =
     let t = rw z at says in

@@ -5,7 +5,7 @@ use mathlib.Core.List.{List}
 use Prim.Native.Nat.{ℕ, _≤_}
 use lib.Dec.{eqb}
 use borrow.Author.Tests.{eqb-true}
-use Rattle.stack.specs.Stack.{longest}
+use Rattle.stack.specs.Stack.{first-spread}
 use Rattle.stack.specs.Limits.{all-rising, within-limits}
 use Rattle.stack.specs.Value.{stack-of}
 use Rattle.stack.proofs.Within.{within-rising, strips-count}
@@ -33,7 +33,7 @@ module _ (bs : List ℕ) (s : ℕ) (e : spread-refusal bs s .number ≡ 0) where
   pub spread-within : within-limits (stack-in bs) ≡ true
   spread-within = accepted-within bs spread-accepted
 
-  pub spread-wide : longest (stack-in bs .strips) ≤ s
+  pub spread-wide : first-spread (stack-in bs .strips) ≤ s
   unfolding spread-refusal
   spread-wide = fine-wide (text-refusal bs) (stack-in bs) s e
 

@@ -6,7 +6,7 @@ use mathlib.Core.List.{List, [], _∷_}
 use mathlib.Core.Logic.{_↔_}
 use Prim.Native.Nat.{ℕ, _≤_}
 use lib.Dec.{ltb, eqb}
-use Rattle.stack.specs.Stack.{Total-met, Least-total, Placement, Answer, Row, Rows-are, sum, longest}
+use Rattle.stack.specs.Stack.{Total-met, Least-total, Placement, Answer, Row, Rows-are, sum, first-spread}
 use Rattle.routing.specs.Paths.{Drawable}
 use Rattle.text.specs.Text.{text-refusal, stack-in}
 use Rattle.reply.specs.declared.PlacementAnswer.{PlacementAnswer}
@@ -18,14 +18,14 @@ unfoldable pub all-bytes : List ℕ → Bool
 all-bytes [] = true
 all-bytes (x ∷ xs) = ltb x 256 && all-bytes xs
 
--- ACCEPTED: none of the conditions 1 to 6, 11 and 12 applies
+-- ACCEPTED: none of the conditions 1 to 6, 11, 12 and 14 applies
 unfoldable pub accepted : List ℕ → Bool
 accepted bs = all-bytes bs && eqb (text-refusal bs .number) 0
 
 -- THE THIRD DEMAND: the answer is drawable, and no drawable placement in that spread has a smaller total
 unfoldable pub Answer-drawable : Type 0
 Answer-drawable =
-    (bs : List ℕ) (s : ℕ) (ts xs : List ℕ) → accepted bs ≡ true → longest (stack-in bs .strips) ≤ s → Answer (stack-in bs) s ts xs →
+    (bs : List ℕ) (s : ℕ) (ts xs : List ℕ) → accepted bs ≡ true → first-spread (stack-in bs .strips) ≤ s → Answer (stack-in bs) s ts xs →
     Drawable (stack-in bs) s ts xs
 
 unfoldable pub None-smaller : Type 0
@@ -33,10 +33,10 @@ None-smaller =
     (bs : List ℕ) (s : ℕ) (ts xs us ys : List ℕ) → accepted bs ≡ true → Answer (stack-in bs) s ts xs → Drawable (stack-in bs) s us ys →
     sum ts ≤ sum us
 
--- every spread from the longest strip upward has an answer, and but one; every accepted stack has rows, and but one list of them
+-- every spread from the first one on has an answer, and but one; every accepted stack has rows, and but one list of them
 unfoldable pub Answer-there : Type 0
 Answer-there =
-    (bs : List ℕ) (s : ℕ) → accepted bs ≡ true → longest (stack-in bs .strips) ≤ s →
+    (bs : List ℕ) (s : ℕ) → accepted bs ≡ true → first-spread (stack-in bs .strips) ≤ s →
     (ts : List ℕ) × (xs : List ℕ) × Answer (stack-in bs) s ts xs
 
 unfoldable pub Answer-alone : Type 0
@@ -44,9 +44,9 @@ Answer-alone =
     (bs : List ℕ) (s : ℕ) (ts xs us ys : List ℕ) → accepted bs ≡ true → Answer (stack-in bs) s ts xs → Answer (stack-in bs) s us ys →
     (ts ≡ us) × (xs ≡ ys)
 
--- every spread from the longest strip upward has a least total, and but one; the totals that are met there are that one and all above it
+-- every spread from the first one on has a least total, and but one; the totals that are met there are that one and all above it
 unfoldable pub Total-there : Type 0
-Total-there = (bs : List ℕ) (s : ℕ) → accepted bs ≡ true → longest (stack-in bs .strips) ≤ s → (v : ℕ) × Least-total (stack-in bs) s v
+Total-there = (bs : List ℕ) (s : ℕ) → accepted bs ≡ true → first-spread (stack-in bs .strips) ≤ s → (v : ℕ) × Least-total (stack-in bs) s v
 
 unfoldable pub Total-alone : Type 0
 Total-alone = (bs : List ℕ) (s v w : ℕ) → accepted bs ≡ true → Least-total (stack-in bs) s v → Least-total (stack-in bs) s w → v ≡ w

@@ -11,10 +11,10 @@ use Rattle.writing.specs.TableText.{table-text}
 use Rattle.reply.specs.declared.TableAnswer.{TableAnswer}
 use Rattle.nabetsu.specs.Promise.{accepted}
 
--- the table of an accepted text has at most 21,738 bytes: 8 of the first line, and at most 265 rows of at most 82, whatever its floors are
+-- the table of an accepted text has at most 24,388 bytes: 8 of the first line, and at most 265 rows of at most 92, whatever its floors and windows are
 unfoldable pub Table-space : Type 0
 Table-space =
-    (bs : List ℕ) (rs : List Row) → accepted bs ≡ true → Rows-are (stack-in bs) rs → length (table-text (length (stack-in bs .channels)) rs) ≤ 21738
+    (bs : List ℕ) (rs : List Row) → accepted bs ≡ true → Rows-are (stack-in bs) rs → length (table-text (length (stack-in bs .channels)) rs) ≤ 24388
 
 -- no total of an answer is above 512: eight channels of at most 64 tracks
 unfoldable pub Total-below : Type 0

@@ -64,8 +64,8 @@ pub fn place_total(text: &[u8], spread: u32, total: Tracks) -> PlacementAnswer
     placement_of(outcome, stack, spread, total)
 }
 
-// Enough bytes for the table of every text, whatever its floors: a first line of 8, and at most 265 rows of at most 82.
-pub const TABLE_BYTES: usize = 21738;
+// Enough bytes for the table of every text, whatever its floors and windows: a first line of 8, and at most 265 rows of at most 92.
+pub const TABLE_BYTES: usize = 24388;
 
 // Document 01, "Sent back at the counter": the table of the stack in a text with zeros behind it, or the first refusal that applies, the text's, then 8, and
 // zeros in the whole output.

@@ -9,7 +9,7 @@ use lib.Dec.{leb}
 use lib.IntN.{pos}
 use lib.ListN.{length, getD}
 use Rattle.numbers.proofs.Bools.{ands, and-both, or-left, or-right, impossible}
-use Rattle.stack.specs.Stack.{Pair, Channel, no-channel, channel-in, Stack, p-at, q-at, edge-clear, in-spread, channels-good, legal}
+use Rattle.stack.specs.Stack.{Pair, Channel, no-channel, channel-in, Strip, no-strip, Stack, p-at, q-at, edge-clear, stands, in-spread, channels-good, legal}
 use Rattle.stack.specs.Limits.{on-strips, pairs-within, channel-within, channels-within, within-limits}
 use Rattle.stack.proofs.Within.{channel-in-limits, strips-count}
 use Rattle.stack.proofs.Feasible.{feasible-says}
@@ -31,11 +31,11 @@ clear-at (c ∷ cs) (t ∷ ts) [] i g l = impossible g
 clear-at (c ∷ cs) (t ∷ ts) (x ∷ xs) zero g l = feasible-says c t x (getD xs 0 0) (search ands) .1
 clear-at (c ∷ cs) (t ∷ ts) (x ∷ xs) (suc i) g l = clear-at cs ts xs i (search ands) (omega arith)
 
-fits-at : (s : ℕ) (ls xs : List ℕ) (i : ℕ) → in-spread s ls xs ≡ true → i < length ls → getD xs i 0 + getD ls i 0 ≤ s
-unfolding in-spread
+fits-at : (s : ℕ) (ls : List Strip) (xs : List ℕ) (i : ℕ) → in-spread s ls xs ≡ true → i < length ls → getD xs i 0 + getD ls i no-strip .length ≤ s
+unfolding in-spread stands
 fits-at s [] xs i e l = absurd (omega arith)
 fits-at s (m ∷ ls) [] i e l = impossible e
-fits-at s (m ∷ ls) (x ∷ xs) zero e l = let h : leb (x + m) s ≡ true = search ands in omega (arith, leb-true)
+fits-at s (m ∷ ls) (x ∷ xs) zero e l = let h : leb (x + m .length) s ≡ true = search ands in omega (arith, leb-true)
 fits-at s (m ∷ ls) (x ∷ xs) (suc i) e l = fits-at s ls xs i (search ands) (omega arith)
 
 -- INSIDE, point by point
@@ -76,7 +76,7 @@ channel-placed k s ts xs i w e l =
     let shape : channels-within (k .strips) (k .channels) ≡ true = search ands in
     let n = strips-count k w in
     let limits = channel-in-limits (k .strips) (k .channels) i shape l in
-    let o : on-strips (getD (k .strips) i 0) (getD (k .strips) (suc i) 0) c ≡ true = search ands in
+    let o : on-strips (getD (k .strips) i no-strip .length) (getD (k .strips) (suc i) no-strip .length) c ≡ true = search ands in
     record {
       rises = search ands;
       good = clear-at (k .channels) ts xs i good l;

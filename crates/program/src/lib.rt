@@ -111,6 +111,8 @@ session reads the steps of a session instead, and prints behind each step the ro
 for a first strip; ADD, a PART line and a NETS line for a strip on top with its channel; OFF to take the top strip off. A line that is no line of a step is said
 on standard error and passed over, with what was begun of that step.
 A line GAP, a channel and a floor behind the stack's NETS lines is a least separation of that channel.
+A PART line may have two numbers behind the length, the least and the greatest position of that strip, up to 9999: it is held there. The first row of a table, and
+the least spread that is answered, is the greatest, over all strips, of length plus least position.
 In a channel with separation T paths run along tracks 1 to T - 1 only: the tracks of both strips' edges, 0 and T, stay clear.
 Where the stack, the spread, the total or the channel is refused it prints the refusal's number, line and field, and says on standard error in words what is
 wrong and where.
@@ -128,7 +130,7 @@ Example: two strips of 4 columns and two pairs, in a spread of 5
 fn print_version() -> u32
     ensures { λ r. ⌜ Passed-on 0 r ⌝ }
 {
-    print(b"stacktable 1.6\n", ANSWERED, Outcome::Accepted)
+    print(b"stacktable 1.7\n", ANSWERED, Outcome::Accepted)
 }
 
 // Says what is wrong with the arguments, and how the program is used.

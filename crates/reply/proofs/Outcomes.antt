@@ -7,7 +7,7 @@ use lib.Dec.{leb, ltb}
 use lib.ListN.{length}
 use borrow.Author.Tests.{le-leb, lt-leb, lt-ltb, le-ltb, leb-true, ltb-false}
 use Rattle.numbers.proofs.Bools.{and-left, and-right}
-use Rattle.stack.specs.Stack.{Stack, longest}
+use Rattle.stack.specs.Stack.{Stack, first-spread}
 use Rattle.text.specs.Text.{refusal, fine, or-else}
 use Rattle.text.specs.Outcome.{refusal-of, is-accepted, refused}
 use Rattle.text.specs.declared.Outcome.{Outcome}
@@ -21,19 +21,19 @@ module _ (o : Outcome) (k : Stack) (s : ℕ) where
   outcome-first h = sym (or-else-refused (refusal-of o) (narrow-refusal k s) (refused-number o h))
 
   module _ (a : is-accepted o ≡ true) where
-    pub outcome-narrow : (u : Outcome) → s < longest (k .strips) → u ≡ refused Narrow 0 0 → refusal-of u ≡ or-else (refusal-of o) (narrow-refusal k s)
+    pub outcome-narrow : (u : Outcome) → s < first-spread (k .strips) → u ≡ refused Narrow 0 0 → refusal-of u ≡ or-else (refusal-of o) (narrow-refusal k s)
     unfolding narrow-refusal
-    outcome-narrow u h e = rw e (sym (or-else-next (refusal-of o) (narrow-refusal k s) (accepted-fine o a) ∙ rw (lt-ltb s (longest (k .strips)) h)))
+    outcome-narrow u h e = rw e (sym (or-else-next (refusal-of o) (narrow-refusal k s) (accepted-fine o a) ∙ rw (lt-ltb s (first-spread (k .strips)) h)))
 
-    pub outcome-wide : longest (k .strips) ≤ s → refusal-of o ≡ or-else (refusal-of o) (narrow-refusal k s)
+    pub outcome-wide : first-spread (k .strips) ≤ s → refusal-of o ≡ or-else (refusal-of o) (narrow-refusal k s)
     unfolding narrow-refusal
-    outcome-wide h = accepted-fine o a ∙ sym (or-else-next (refusal-of o) (narrow-refusal k s) (accepted-fine o a) ∙ rw (le-ltb s (longest (k .strips)) h))
+    outcome-wide h = accepted-fine o a ∙ sym (or-else-next (refusal-of o) (narrow-refusal k s) (accepted-fine o a) ∙ rw (le-ltb s (first-spread (k .strips)) h))
 
--- WHAT MAY BE ASKED: a channel from 1 to k, and a spread from the longest strip to 63
+-- WHAT MAY BE ASKED: a channel from 1 to k, and a spread from the first one to 63
 pub record Asked (k : Stack) (s n : ℕ) : Type 0 where
   pub some : 1 ≤ n
   pub within : n ≤ length (k .channels)
-  pub wide : longest (k .strips) ≤ s
+  pub wide : first-spread (k .strips) ≤ s
   pub shown : s ≤ 63
 
 pub asked-fine : (k : Stack) (s n : ℕ) → asked-refusal k s n .number ≡ 0 → Asked k s n
@@ -45,7 +45,7 @@ asked-fine k s n e =
     record {
       some = leb-true 1 n (and-left (leb 1 n) (leb n (length (k .channels))) c);
       within = leb-true n (length (k .channels)) (and-right (leb 1 n) (leb n (length (k .channels))) c);
-      wide = ltb-false s (longest (k .strips)) (when-fine (ltb s (longest (k .strips))) 6 0 0 fine (b .0) .0);
+      wide = ltb-false s (first-spread (k .strips)) (when-fine (ltb s (first-spread (k .strips))) 6 0 0 fine (b .0) .0);
       shown = ltb-false 63 s (when-fine (ltb 63 s) 8 0 0 fine (b .1) .0);
     }
 
@@ -60,14 +60,14 @@ module _ (k : Stack) (s n : ℕ) where
   asked-past h = rw (le-leb 1 n (omega arith), lt-leb n (length (k .channels)) h)
 
   module _ (some : 1 ≤ n) (within : n ≤ length (k .channels)) where
-    pub asked-narrow : s < longest (k .strips) → refusal 7 0 0 ≡ asked-refusal k s n
+    pub asked-narrow : s < first-spread (k .strips) → refusal 7 0 0 ≡ asked-refusal k s n
     unfolding asked-refusal channel-refusal narrow-refusal or-else refusal fine
-    asked-narrow h = rw (le-leb 1 n some, le-leb n (length (k .channels)) within, lt-ltb s (longest (k .strips)) h)
+    asked-narrow h = rw (le-leb 1 n some, le-leb n (length (k .channels)) within, lt-ltb s (first-spread (k .strips)) h)
 
-    pub asked-broad : longest (k .strips) ≤ s → 63 < s → refusal 9 0 0 ≡ asked-refusal k s n
+    pub asked-broad : first-spread (k .strips) ≤ s → 63 < s → refusal 9 0 0 ≡ asked-refusal k s n
     unfolding asked-refusal channel-refusal narrow-refusal broad-refusal or-else refusal fine
-    asked-broad h l = rw (le-leb 1 n some, le-leb n (length (k .channels)) within, le-ltb s (longest (k .strips)) h, lt-ltb 63 s l)
+    asked-broad h l = rw (le-leb 1 n some, le-leb n (length (k .channels)) within, le-ltb s (first-spread (k .strips)) h, lt-ltb 63 s l)
 
-    pub asked-all : longest (k .strips) ≤ s → s ≤ 63 → fine ≡ asked-refusal k s n
+    pub asked-all : first-spread (k .strips) ≤ s → s ≤ 63 → fine ≡ asked-refusal k s n
     unfolding asked-refusal channel-refusal narrow-refusal broad-refusal or-else refusal fine
-    asked-all h l = rw (le-leb 1 n some, le-leb n (length (k .channels)) within, le-ltb s (longest (k .strips)) h, le-ltb 63 s l)
+    asked-all h l = rw (le-leb 1 n some, le-leb n (length (k .channels)) within, le-ltb s (first-spread (k .strips)) h, le-ltb 63 s l)

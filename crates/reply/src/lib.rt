@@ -44,7 +44,7 @@ pub fn spread_outcome(outcome: Outcome, stack: Stack, spread: u32) -> Outcome
     if !outcome.is_accepted() {
         return outcome;
     }
-    if stack.longest() <= spread {
+    if stack.first_spread() <= spread as u64 {
         return outcome;
     }
     Outcome::refused(Refusal::Narrow, 0, 0)
@@ -92,8 +92,8 @@ pub fn page_outcome(stack: Stack, spread: u32, channel: u32) -> Outcome
     if stack.count < channel as usize {
         return Outcome::refused(Refusal::Crowd, 0, 0);
     }
-    let longest = stack.longest();
-    if spread < longest {
+    let first = stack.first_spread();
+    if (spread as u64) < first {
         return Outcome::refused(Refusal::Narrow, 0, 0);
     }
     if PAGE_SPREAD < spread {

@@ -1,8 +1,9 @@
--- What the scan of one spread asks, and that a total found gives the answer. Assumes nothing.
+-- What the scan of one spread asks, and the jump behind it; that a total found gives the answer. Assumes nothing.
 use mathlib.Core.Path.{_≡_}
 use mathlib.Core.List.{List}
-use Prim.Native.Nat.{ℕ, suc, _≤_, _<_}
-use Rattle.stack.specs.Stack.{longest}
+use Prim.Native.Nat.{ℕ, suc, _≤_, _<_, min}
+use native.Mathlib.Omega.{arith}
+use Rattle.stack.specs.Stack.{first-spread}
 use Rattle.stack.specs.Value.{stack-of}
 use Rattle.stack.specs.declared.Stack.{Stack as Stack-struct}
 use Rattle.stack.proofs.Within.{stack-channels}
@@ -14,10 +15,42 @@ use Rattle.scan.specs.declared.Scan.{Scan}
 use Rattle.solver.specs.declared.Placement.{Placement}
 use Rattle.answer.specs.Solve.{answer-total}
 use Rattle.answer.specs.Arrays.{Held, Windows-in, Answer-is}
-use Rattle.answer.proofs.Standing.{held-stands, cap-used, found-place-asks, found-placed}
-use Rattle.rows.proofs.Steps.{scan-finds}
+use Rattle.answer.proofs.Standing.{held-stands, held-asks, cap-used, cap-small, found-place-asks, found-placed}
+use Rattle.growth.specs.Growth.{None-less, Growth-asks}
+use Rattle.growth.proofs.Levels.{scan-none-less}
+use Rattle.rows.specs.Growths.{Growths-in}
+use Rattle.rows.specs.Evaluate.{Evaluated}
+use Rattle.rows.proofs.Growths.{growths-below, growths-whole}
+use Rattle.rows.proofs.Steps.{scan-finds, scan-most}
 
-module _ (k : Stack-struct) (s : ℕ) (limits : List (List (List ℕ))) (plan windows : List (List ℕ)) (fits : s < 4294967296) (wide : longest (stack-of k .strips) ≤ s) (held : Held k limits plan)
+module _ (k : Stack-struct) (s : ℕ) (limits : List (List (List ℕ))) (plan windows : List (List ℕ)) (fits : s < 4294967296) (wide : first-spread (stack-of k .strips) ≤ s) (held : Held k limits plan)
+    (filled : Windows-in (stack-of k) (suc (k .count)) s windows) (cap : ℕ) (t : List (List (List ℕ))) (r : Scan) (i : Scan-is (given limits plan windows) (k .count) cap t r)
+    (capped : cap ≤ entry (sums-in plan) 0) (hs : List ℕ) (least : ℕ) (w : Growths-in (stack-of k) (suc (k .count)) s hs least) where
+  -- what the jump by growing ends asks
+  pub growth-asks : Growth-asks (given limits plan windows) hs (k .count) (r .total) t
+  growth-asks =
+      let upto = scan-most (stack-of k) s (given limits plan windows) (held-stands k s limits plan windows fits wide held filled) fits wide cap t r (rw (stack-channels k) i) in
+      record {
+        stack = held-asks k s limits plan windows fits wide held filled;
+        held = omega (arith, cap-small k s limits plan windows fits wide held filled cap capped);
+        cap = min (r .total) cap;
+        table = i .table;
+        within = omega arith;
+        below = λ j h. growths-below (stack-of k) (suc (k .count)) s (given limits plan windows) hs least filled w j (omega arith);
+      }
+
+  -- where every window's end grows, the scan's jump serves
+  pub grown-none-less : 0 < least → None-less (given limits plan windows) hs (k .count) (r .total) 0 (r .jump)
+  grown-none-less p =
+      scan-none-less (given limits plan windows) hs (k .count) (r .total) (r .jump) (held-asks k s limits plan windows fits wide held filled)
+      (λ j h. growths-whole (stack-of k) (suc (k .count)) s (given limits plan windows) hs least filled w p j (omega arith)) (i .jump-is)
+
+  -- one spread worked out, with a jump that serves
+  pub evaluated : (jump : ℕ) → 0 < jump → None-less (given limits plan windows) hs (k .count) (r .total) 0 jump → Evaluated k s cap limits plan windows t (record { total = r .total; jump = jump })
+  evaluated jump p n =
+      record { spread-windows = filled; short = r .jump; scanned = i; growths = hs; least = least; spread-growths = w; jump-some = p; none-less = n }
+
+module _ (k : Stack-struct) (s : ℕ) (limits : List (List (List ℕ))) (plan windows : List (List ℕ)) (fits : s < 4294967296) (wide : first-spread (stack-of k .strips) ≤ s) (held : Held k limits plan)
     (filled : Windows-in (stack-of k) (suc (k .count)) s windows) (cap : ℕ) (t : List (List (List ℕ))) (r : Scan) (i : Scan-is (given limits plan windows) (k .count) cap t r)
     (capped : cap ≤ entry (sums-in plan) 0) (found : r .total ≤ cap) where
   -- a total found is the least

@@ -1,112 +1,61 @@
--- Between one event and the next the least total stays: in a spread wider by less than every shortfall nothing that was impossible becomes possible.
--- Assumes nothing.
-use mathlib.Core.Path.{_≡_, refl, ap}
-use mathlib.Core.Bool.{Bool, true}
-use mathlib.Core.Logic.{_⊎_, inl, inr}
+-- Between one event and the next the least total stays: in a spread wider by less than every lack nothing that was impossible becomes possible. Windows of the
+-- wider spread end no further than their growing ends say. Assumes nothing.
+use mathlib.Core.Path.{_≡_, refl}
+use mathlib.Core.Bool.{Bool, true, false, cond}
 use mathlib.Core.List.{List, [], _∷_}
-use Prim.Native.Nat.{ℕ, zero, suc, _+_, _≤_, _<_}
+use Prim.Native.Nat.{ℕ, zero, suc, _+_, _-_, _≤_, _<_, min}
 use native.Mathlib.Nat.{add-zero, zero-add}
 use native.Mathlib.Omega.{arith}
-use borrow.Author.Tests.{lt-ltb, le-ltb}
+use lib.Dec.{ltb}
+use borrow.Author.Tests.{ltb-true, ltb-false, le-ltb}
 use Rattle.numbers.proofs.Bools.{ands, impossible}
-use Rattle.numbers.proofs.Orders.{le-or-lt}
-use Rattle.stack.specs.Stack.{Channel, Stack, stack, sum, longest, in-spread, legal}
+use Rattle.stack.specs.Stack.{Channel, Window, free, held, Strip, Stack, stack, first-spread}
 use Rattle.stack.specs.Limits.{channels-within, within-limits}
-use Rattle.spans.specs.Spans.{Span, span, In, nonempty}
-use Rattle.spans.specs.Solver.{Level, most, back, first, first-total, least-total}
-use Rattle.spans.specs.Placed.{Placed}
-use Rattle.spans.specs.Jump.{widened, widened-levels, Grows, Roomy, None-within}
-use Rattle.spans.proofs.First.{first-least}
-use Rattle.spans.proofs.Total.{least-total-at-most}
-use Rattle.spans.proofs.Back.{back-complete}
-use Rattle.spans.proofs.Jump.{back-grows}
-use Rattle.answer.specs.Solve.{window, stack-levels, bottom, levels-of, total-with, answer-total, answer-separations, answer-positions}
-use Rattle.answer.proofs.Legal.{longest-bounds, channel-low, low-bounded, legal-placed, stack-widening}
-use Rattle.answer.proofs.Answers.{lasts-of, zeros-of, some-placed, answer-there, answer-sum, total-any-bias}
+use Rattle.spans.specs.Spans.{span}
+use Rattle.spans.specs.Solver.{most}
+use Rattle.spans.specs.Growth.{Window-grows, Wider, Lows, None-lacks}
+use Rattle.spans.proofs.Growths.{total-stays}
+use Rattle.answer.specs.Solve.{window-span, window, stack-levels, bottom, levels-of, total-with, answer-total, answer-separations, answer-positions}
+use Rattle.answer.proofs.Legal.{Stand, channel-low, low-bounded}
+use Rattle.answer.proofs.Answers.{all-stand, total-most, answer-there, answer-sum, total-any-bias}
 use Rattle.rows.specs.Walk.{rows-walk}
+use Rattle.rows.specs.Growths.{window-growth, growth, growths-of, bottom-growth, upper-growths}
 use Rattle.rows.proofs.Settled.{legal-wider}
 
--- windows in a spread wider by d
-window-wider : (s d l : ℕ) → l ≤ s → window (s + d) l ≡ widened d (window s l)
-unfolding window
-window-wider s d l h = ap (span 0) (omega arith)
-
-levels-wider : (b s d : ℕ) (ls : List ℕ) (cs : List Channel) → longest ls ≤ s → stack-levels b (s + d) ls cs ≡ widened-levels d (stack-levels b s ls cs)
-unfolding stack-levels widened-levels
-levels-wider b s d [] cs h = refl
-levels-wider b s d (l ∷ ls) [] h = refl
-levels-wider b s d (l ∷ ls) (c ∷ cs) h =
-    let n = longest-bounds l ls s h in
-    rw (window-wider s d l (n .0), levels-wider b s d ls cs (n .1))
-
-roomy : (b s d l : ℕ) (ls : List ℕ) (cs : List Channel) → s + d + 32 ≤ b → l ≤ s → longest ls ≤ s → channels-within (l ∷ ls) cs ≡ true →
-    Roomy b b d (window s l) (stack-levels b s ls cs)
-unfolding Roomy stack-levels channels-within window
-roomy b s d l [] [] w h n e = omega arith
-roomy b s d l [] (c ∷ cs) w h n e = impossible e
-roomy b s d l (u ∷ ls) [] w h n e = impossible e
-roomy b s d l (u ∷ ls) (c ∷ cs) w h n e =
-    let m = longest-bounds u ls s n in
-    (omega arith, (λ q. omega (arith, channel-low b c q, low-bounded b s l u q c (omega arith) h (search ands))), roomy b s d u ls cs w (m .0) (m .1) (search ands))
-
--- a span that is not empty in the wider spread was not empty before
-filled-before : (d : ℕ) (s t : Span) (x : ℕ) → Grows d s t → In t x → nonempty s ≡ true
-filled-before d s t x g i = go (le-or-lt (s .upto) (s .from))
+-- a window in a spread wider by d
+window-grows : (b d far s n : ℕ) (w : Window) → n ≤ s → s + d < far → Window-grows b d far (window-growth b s n w) (window-span s n w) (window-span (s + d) n w)
+unfolding window-span window-growth
+window-grows b d far s n free h k = omega arith
+window-grows b d far s n (held a e) h k = go (ltb e (suc s - n)) refl
   where
-    go : (s .upto ≤ s .from) ⊎ (s .from < s .upto) → nonempty s ≡ true
-    go (inl h) = absurd (omega (arith, g .empty h, i .above, i .below))
-    go (inr h) = lt-ltb (s .from) (s .upto) h
+    go : (r : Bool) → ltb e (suc s - n) ≡ r → Window-grows b d far (cond r 0 (suc s - n + b)) (span a (min (suc e) (suc s - n))) (span a (min (suc e) (suc (s + d) - n)))
+    go true i = let j = ltb-true e (suc s - n) i in omega arith
+    go false i = let j = ltb-false e (suc s - n) i in omega arith
 
-module _ (b s d l : ℕ) (ls : List ℕ) (cs : List Channel) (wide : s + d + 32 ≤ b) (h : l ≤ s) (n : longest ls ≤ s) (e : channels-within (l ∷ ls) cs ≡ true) where
-  abbrev w : Span
-  w = window s l
+wider-in : (b d far s : ℕ) (l : Strip) (ls : List Strip) (cs : List Channel) → s + d < far → Stand s (l ∷ ls) → channels-within (l ∷ ls) cs ≡ true →
+    Wider b d far (window s l) (window (s + d) l) (growth b s l) (stack-levels b s ls cs) (stack-levels b (s + d) ls cs) (growths-of b s ls)
+unfolding Wider Stand stack-levels growths-of channels-within
+wider-in b d far s l [] [] f k e = (window-grows b d far s (l .length) (l .window) (k .0) f, k .1)
+wider-in b d far s l [] (c ∷ cs) f k e = impossible e
+wider-in b d far s l (u ∷ ls) [] f k e = impossible e
+wider-in b d far s l (u ∷ ls) (c ∷ cs) f k e = (window-grows b d far s (l .length) (l .window) (k .0) f, refl, wider-in b d far s u ls cs f (k .2) (search ands))
 
-  abbrev up : List Level
-  up = stack-levels b s ls cs
+lows-in : (b s : ℕ) (l : Strip) (ls : List Strip) (cs : List Channel) → s + 32 ≤ b → Stand s (l ∷ ls) → channels-within (l ∷ ls) cs ≡ true → Lows b (stack-levels b s ls cs)
+unfolding Lows Stand stack-levels channels-within
+lows-in b s l [] [] w k e = refl
+lows-in b s l [] (c ∷ cs) w k e = impossible e
+lows-in b s l (u ∷ ls) [] w k e = impossible e
+lows-in b s l (u ∷ ls) (c ∷ cs) w k e =
+    ((λ q. omega (arith, channel-low b c q, low-bounded b s (l .length) (u .length) q c w (k .0) (search ands))), lows-in b s u ls cs w (k .2) (search ands))
 
-  -- what is possible with a total of at most v in the wider spread was possible before
-  possible-before : (v u y : ℕ) (us zs : List ℕ) → None-within b b d v w up → u ≤ v → u ≤ most up → Placed b (window (s + d) l) (stack-levels b (s + d) ls cs) us y zs → sum us ≡ u →
-      nonempty (back b w up u) ≡ true
-  possible-before v u y us zs clear i j p t =
-      let there : In (back b (window (s + d) l) (stack-levels b (s + d) ls cs) u) y =
-      back-complete b (stack-levels b (s + d) ls cs) (stack-widening b (s + d) wide l ls cs (omega arith) (omega arith) e) (window (s + d) l) u us y zs p (omega arith) in
-      filled-before d (back b w up u) (back b (widened d w) (widened-levels d up) u) y
-      (back-grows b b d v w up (roomy b s d l ls cs wide h n e) clear u i j)
-      (rw (window-wider s d l h, levels-wider b s d ls cs n) at there)
-
-  no-fall : (v y : ℕ) (us zs : List ℕ) → None-within b b d v w up → least-total b w up ≤ suc v → least-total b w up ≤ most up →
-      Placed b (window (s + d) l) (stack-levels b (s + d) ls cs) us y zs → least-total b w up ≤ sum us
-  unfolding least-total first-total
-  no-fall v y us zs clear i j p = go (le-or-lt (first placeable 0 (suc (most up))) (sum us))
-    where
-      placeable : ℕ → Bool
-      placeable u = nonempty (back b w up u)
-
-      go : (first placeable 0 (suc (most up)) ≤ sum us) ⊎ (sum us < first placeable 0 (suc (most up))) → first placeable 0 (suc (most up)) ≤ sum us
-      go (inl m) = m
-      go (inr m) =
-          absurd (omega (arith, first-least placeable 0 (suc (most up)) (sum us) (omega arith) (omega arith) (possible-before v (sum us) y us zs clear (omega arith) (omega arith) p refl)))
-
-  no-fall-legal : (v : ℕ) (us ys : List ℕ) → None-within b b d v w up → least-total b w up ≤ suc v → least-total b w up ≤ most up → legal (stack (l ∷ ls) cs) (s + d) us ys ≡ true →
-      least-total b w up ≤ sum us
-  unfolding legal stack in-spread
-  no-fall-legal v us [] clear i j g = impossible g
-  no-fall-legal v us (y ∷ zs) clear i j g = no-fall v y us zs clear i j (legal-placed b (s + d) wide l ls cs us y zs e (search ands) (search ands))
-
--- the least total is one of use
-most-total : (b s l : ℕ) (ls : List ℕ) (cs : List Channel) → s + 32 ≤ b → l ≤ s → longest ls ≤ s → channels-within (l ∷ ls) cs ≡ true →
-    least-total b (window s l) (stack-levels b s ls cs) ≤ most (stack-levels b s ls cs)
-most-total b s l ls cs wide h n e =
-    least-total-at-most b (window s l) (stack-levels b s ls cs) (stack-widening b s wide l ls cs h n e) (lasts-of cs) 0 (zeros-of cs) (some-placed b s wide l ls cs e h n)
-
-no-fall-strips : (b s d v : ℕ) (ls : List ℕ) (cs : List Channel) (us ys : List ℕ) → s + d + 32 ≤ b → longest ls ≤ s → channels-within ls cs ≡ true →
-    None-within b b d v (bottom (stack ls cs) s) (levels-of b (stack ls cs) s) → total-with b (stack ls cs) s ≤ suc v → legal (stack ls cs) (s + d) us ys ≡ true →
-    total-with b (stack ls cs) s ≤ sum us
+no-fall : (b s d v : ℕ) (ls : List Strip) (cs : List Channel) → s + d + 32 ≤ b → Stand s ls → channels-within ls cs ≡ true →
+    None-lacks b b d v (bottom (stack ls cs) s) (bottom-growth b (stack ls cs) s) (levels-of b (stack ls cs) s) (upper-growths b (stack ls cs) s) →
+    total-with b (stack ls cs) s ≤ suc v → total-with b (stack ls cs) s ≤ most (levels-of b (stack ls cs) s) → total-with b (stack ls cs) s ≤ total-with b (stack ls cs) (s + d)
 unfolding channels-within total-with bottom levels-of stack
-no-fall-strips b s d v [] cs us ys wide n e clear i g = impossible e
-no-fall-strips b s d v (l ∷ ls) cs us ys wide n e clear i g =
-    let m = longest-bounds l ls s n in
-    no-fall-legal b s d l ls cs wide (m .0) (m .1) e v us ys clear i (most-total b s l ls cs (omega arith) (m .0) (m .1) e) g
+no-fall b s d v [] cs wide k e n i m = impossible e
+no-fall b s d v (l ∷ ls) cs wide k e n i m =
+    total-stays b d b v (omega arith) (window s l) (window (s + d) l) (growth b s l) (stack-levels b s ls cs) (stack-levels b (s + d) ls cs) (growths-of b s ls)
+    (wider-in b d b s l ls cs (omega arith) k e) (lows-in b s l ls cs (omega arith) k e) n i m
 
 -- a spread counted from the next one
 pub moved : (s i : ℕ) → suc s + i ≡ s + suc i
@@ -114,24 +63,23 @@ moved s i = omega arith
 
 module _ (k : Stack) (good : within-limits k ≡ true) where
   -- the least total never rises with the spread
-  pub total-never-rises : (s r : ℕ) → longest (k .strips) ≤ s → s ≤ r → answer-total k r ≤ answer-total k s
+  pub total-never-rises : (s r : ℕ) → first-spread (k .strips) ≤ s → s ≤ r → answer-total k r ≤ answer-total k s
   total-never-rises s r h i =
       let a = answer-there k s good h in
       let c = answer-there k r good (omega arith) in
       omega (arith, answer-sum k s good h, answer-sum k r good (omega arith), c .least (answer-separations k s) (answer-positions k s) (legal-wider k s r (answer-separations k s) (answer-positions k s) i (a .is-legal)))
 
-  -- IN A SPREAD WIDER BY LESS THAN EVERY SHORTFALL THE LEAST TOTAL STAYS
-  pub jump-stays : (b s d v : ℕ) → s + d + 32 ≤ b → longest (k .strips) ≤ s → None-within b b d v (bottom k s) (levels-of b k s) → answer-total k s ≤ suc v →
-      answer-total k (s + d) ≡ answer-total k s
+  -- IN A SPREAD WIDER BY LESS THAN EVERY LACK THE LEAST TOTAL STAYS
+  pub jump-stays : (b s d v : ℕ) → s + d + 32 ≤ b → first-spread (k .strips) ≤ s → None-lacks b b d v (bottom k s) (bottom-growth b k s) (levels-of b k s) (upper-growths b k s) →
+      answer-total k s ≤ suc v → answer-total k (s + d) ≡ answer-total k s
   unfolding within-limits stack
   jump-stays b s d v wide h clear i =
-      let a = answer-there k (s + d) good (omega arith) in
-      let same = total-any-bias k s good h b (omega arith) in
+      let here = total-any-bias k s good h b (omega arith) in
+      let there = total-any-bias k (s + d) good (omega arith) b wide in
       omega (
         arith,
         total-never-rises s (s + d) h (omega arith),
-        answer-sum k (s + d) good (omega arith),
-        no-fall-strips b s d v (k .strips) (k .channels) (answer-separations k (s + d)) (answer-positions k (s + d)) wide h (search ands) clear (omega arith) (a .is-legal),
+        no-fall b s d v (k .strips) (k .channels) wide (all-stand b s (omega arith) k good h) (search ands) clear (omega arith) (total-most b s (omega arith) k good h),
       )
 
   -- spreads at which the total stays have no row

@@ -1,5 +1,5 @@
--- The rows that the walk finds are Stack.antt's rows, and there is only one list of rows. The walk goes on to the sum of the lengths, past which nothing
--- falls. Assumes nothing.
+-- The rows that the walk finds are Stack.antt's rows, and there is only one list of rows. The walk goes on to the greatest spread of use, past which
+-- nothing falls. Assumes nothing.
 use mathlib.Core.Path.{_≡_, refl, sym, ap, _∙_}
 use mathlib.Core.Bool.{Bool, true, false, cond}
 use mathlib.Core.Logic.{_⊎_, inl, inr}
@@ -9,7 +9,7 @@ use native.Mathlib.Omega.{arith}
 use lib.Dec.{ltb}
 use borrow.Author.Tests.{ltb-true, ltb-false}
 use Rattle.numbers.proofs.Orders.{le-or-lt, lt-or-eq}
-use Rattle.stack.specs.Stack.{Stack, Row, row, sum, longest, legal, total, Answer, Stays, Stays-on, Rows-after, Rows-are}
+use Rattle.stack.specs.Stack.{Stack, Row, row, sum, first-spread, legal, total, Answer, Stays, Stays-on, Rows-after, Rows-are}
 use Rattle.stack.specs.Limits.{within-limits}
 use Rattle.answer.specs.Solve.{answer-total}
 use Rattle.answer.proofs.Alone.{answer-alone}
@@ -19,11 +19,11 @@ use Rattle.rows.proofs.Settled.{legal-wider, settled}
 
 module _ (k : Stack) (good : within-limits k ≡ true) where
   -- no legal placement has a smaller total than the answer
-  total-least : (s : ℕ) → longest (k .strips) ≤ s → (us ys : List ℕ) → legal k s us ys ≡ true → answer-total k s ≤ sum us
+  total-least : (s : ℕ) → first-spread (k .strips) ≤ s → (us ys : List ℕ) → legal k s us ys ≡ true → answer-total k s ≤ sum us
   total-least s h us ys l = omega (arith, answer-sum k s good h, answer-there k s good h .least us ys l)
 
   -- nothing falls at one spread more
-  stays-more : (a b v : ℕ) → longest (k .strips) ≤ b → v ≤ answer-total k b → Stays k a b v → Stays k a (suc b) v
+  stays-more : (a b v : ℕ) → first-spread (k .strips) ≤ b → v ≤ answer-total k b → Stays k a b v → Stays k a (suc b) v
   unfolding Stays
   stays-more a b v h t st s us ys i j l = go (lt-or-eq s b (omega arith))
     where
@@ -31,33 +31,33 @@ module _ (k : Stack) (good : within-limits k ≡ true) where
       go (inl m) = st s us ys i m l
       go (inr e) = omega (arith, total-least b h us ys (rw e at l))
 
-  stays-at : (s : ℕ) → longest (k .strips) ≤ s → Stays k s (suc s) (answer-total k s)
+  stays-at : (s : ℕ) → first-spread (k .strips) ≤ s → Stays k s (suc s) (answer-total k s)
   unfolding Stays
   stays-at s h r us ys i j l = let e : r ≡ s = omega arith in total-least s h us ys (rw e at l)
 
-  -- from the sum of the lengths on it is enough to have looked there
+  -- from the greatest spread of use on it is enough to have looked there
   stays-on : (a s v : ℕ) → a ≤ s → widest k ≤ s → Stays k a (suc s) v → Stays-on k a v
-  unfolding Stays Stays-on widest
+  unfolding Stays Stays-on
   stays-on a s v h w st r us ys i l = go (le-or-lt r s)
     where
       go : (r ≤ s) ⊎ (s < r) → v ≤ sum us
       go (inl m) = st r us ys i (omega arith) l
       go (inr m) =
           let z = settled k r us ys good l in
-          st s us (z .0) h (omega arith) (legal-wider k (sum (k .strips)) s us (z .0) w (z .1))
+          st s us (z .0) h (omega arith) (legal-wider k (widest k) s us (z .0) w (z .1))
 
-  total-at : (s : ℕ) → longest (k .strips) ≤ s → total (row-at k s) ≡ answer-total k s
+  total-at : (s : ℕ) → first-spread (k .strips) ≤ s → total (row-at k s) ≡ answer-total k s
   unfolding total row-at row
   total-at s h = answer-sum k s good h
 
-  walk-rows : (n s : ℕ) (r : Row) (v : ℕ) → total r ≡ v → longest (k .strips) ≤ s → r .spread ≤ s → widest k ≤ s + n → Stays k (r .spread) (suc s) v →
+  walk-rows : (n s : ℕ) (r : Row) (v : ℕ) → total r ≡ v → first-spread (k .strips) ≤ s → r .spread ≤ s → widest k ≤ s + n → Stays k (r .spread) (suc s) v →
       Rows-after k r (rows-walk k n (suc s) v)
   unfolding Rows-after rows-walk row-at row
   walk-rows zero s r v e h i w st = rw e (stays-on (r .spread) s v i (omega arith) st)
   walk-rows (suc n) s r v e h i w st = go (ltb (answer-total k (suc s)) v) refl (walk-rows n (suc s))
     where
       go : (b : Bool) → ltb (answer-total k (suc s)) v ≡ b
-          → ((q : Row) (u : ℕ) → total q ≡ u → longest (k .strips) ≤ suc s → q .spread ≤ suc s → widest k ≤ suc s + n → Stays k (q .spread) (suc (suc s)) u → Rows-after k q (rows-walk k n (suc (suc s)) u))
+          → ((q : Row) (u : ℕ) → total q ≡ u → first-spread (k .strips) ≤ suc s → q .spread ≤ suc s → widest k ≤ suc s + n → Stays k (q .spread) (suc (suc s)) u → Rows-after k q (rows-walk k n (suc (suc s)) u))
           → Rows-after k r (cond b (row-at k (suc s) ∷ rows-walk k n (suc (suc s)) (answer-total k (suc s))) (rows-walk k n (suc (suc s)) v))
       go true f rest = (
         omega arith,
@@ -72,7 +72,7 @@ module _ (k : Stack) (good : within-limits k ≡ true) where
   pub rows-are : Rows-are k (rows-of k)
   unfolding Rows-are rows-of row-at row
   rows-are =
-      let s = longest (k .strips) in (
+      let s = first-spread (k .strips) in (
         refl,
         answer-there k s good (omega arith),
         walk-rows (widest k - s) s (row-at k s) (answer-total k s) (total-at s (omega arith)) (omega arith) (omega arith) (omega arith) (stays-at s (omega arith)),

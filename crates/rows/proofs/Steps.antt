@@ -7,26 +7,22 @@ use native.Mathlib.Omega.{arith}
 use lib.ListN.{length}
 use Rattle.numbers.proofs.Orders.{le-or-lt}
 use mathlib.Core.Logic.{_⊎_, inl, inr}
-use Rattle.stack.specs.Stack.{Stack, longest}
+use Rattle.stack.specs.Stack.{Stack, first-spread}
 use Rattle.spans.specs.Spans.{nonempty}
 use Rattle.spans.specs.Solver.{most, back, first, first-total, least-total}
-use Rattle.spans.specs.Jump.{None-within}
+use Rattle.spans.specs.Growth.{None-lacks}
 use Rattle.arrays.specs.Arrays.{bias, Given, window-of, levels}
-use Rattle.scan.specs.Scan.{short-of, Scan-is}
+use Rattle.scan.specs.Scan.{Scan-is}
 use Rattle.scan.specs.declared.Scan.{Scan}
 use Rattle.spans.proofs.First.{first-upto, first-holds, first-least}
 use Rattle.answer.specs.Solve.{bottom, levels-of, total-with, answer-total}
 use Rattle.answer.proofs.Answers.{total-most, total-any-bias}
 use Rattle.answer.proofs.Standing.{Stands, levels-are, bottom-is}
+use Rattle.growth.specs.Growth.{None-less}
+use Rattle.growth.proofs.Levels.{none-lacks}
+use Rattle.rows.specs.Growths.{bottom-growth, upper-growths, Growths-in}
+use Rattle.rows.proofs.Growths.{bottom-grown, upper-grown}
 use Rattle.rows.proofs.Jumps.{jump-stays}
-
--- no span is short by d or less
-none-within : (g : Given) (k total jump d v : ℕ) → ((j n u : ℕ) → j + suc n ≡ k → u < total → u ≤ most (levels g j (suc n)) → 0 < short-of g j n u → jump ≤ short-of g j n u) → d < jump → v < total →
-    (j n : ℕ) → j + n ≡ k → None-within bias bias d v (window-of g j) (levels g j n)
-unfolding None-within levels
-none-within g k total jump d v h l t j zero e = refl
-none-within g k total jump d v h l t j (suc n) e =
-    ((λ u a m x. omega (arith, h j n u e (omega arith) m x)), none-within g k total jump d v h l t (suc j) n (omega arith))
 
 -- a search that is cut short finds the same, or has passed all that it looked at
 module _ (f : ℕ → Bool) (cap all : ℕ) (h : cap ≤ all) where
@@ -44,7 +40,7 @@ module _ (f : ℕ → Bool) (cap all : ℕ) (h : cap ≤ all) where
       go (inl i) = omega (arith, first-least f 0 (suc cap) (first f 0 (suc all)) (omega arith) (omega arith) (first-holds f 0 (suc all) (omega arith)))
       go (inr i) = i
 
-module _ (k : Stack) (s : ℕ) (g : Given) (st : Stands k s g) (fits : s < 4294967296) (wide : longest (k .strips) ≤ s) (cap : ℕ) (t : List (List (List ℕ))) (r : Scan)
+module _ (k : Stack) (s : ℕ) (g : Given) (st : Stands k s g) (fits : s < 4294967296) (wide : first-spread (k .strips) ≤ s) (cap : ℕ) (t : List (List (List ℕ))) (r : Scan)
     (i : Scan-is g (length (k .channels)) cap t r) where
   abbrev m : ℕ
   m = length (k .channels)
@@ -68,10 +64,11 @@ module _ (k : Stack) (s : ℕ) (g : Given) (st : Stands k s g) (fits : s < 42949
       omega (arith, total-here, first-past (λ v. nonempty (back bias (window-of g 0) (levels g 0 m) v)) cap (most (levels g 0 m)) h total-use (rw (i .total-is) at l))
 
   -- UNTIL THE JUMP IS REACHED THE LEAST TOTAL STAYS
-  pub scan-stays : (v : ℕ) → answer-total k s ≡ suc v → r .total ≡ suc v → (d : ℕ) → d < r .jump → s + d + 32 ≤ bias → answer-total k (s + d) ≡ suc v
-  scan-stays v e t d j b =
-      let clear : None-within bias bias d v (bottom k s) (levels-of bias k s) =
-      rw (bottom-is k s g st, levels-are k s g st) at (none-within g m (r .total) (r .jump) d v (i .jump-is) j (omega arith) 0 m (omega arith)) in
+  pub scan-stays : (growths : List ℕ) (least jump : ℕ) → Growths-in k (suc m) s growths least → None-less g growths m (r .total) 0 jump → (v : ℕ) → answer-total k s ≡ suc v → r .total ≡ suc v →
+      (d : ℕ) → d < jump → s + d + 32 ≤ bias → answer-total k (s + d) ≡ suc v
+  scan-stays hs least jump w n v e t d j b =
+      let clear : None-lacks bias bias d v (bottom k s) (bottom-growth bias k s) (levels-of bias k s) (upper-growths bias k s) =
+      rw (bottom-is k s g st, levels-are k s g st, bottom-grown k s (st .good) hs least w, upper-grown k s (st .good) hs least w) at (none-lacks g hs m (r .total) jump d v n j (omega arith) 0 m (omega arith)) in
       jump-stays k (st .good) bias s d v b wide clear (omega arith) ∙ e
 
   pub scan-most : r .total ≤ suc cap

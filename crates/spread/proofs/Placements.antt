@@ -10,7 +10,7 @@ use lib.ListN.{length, take, replicate}
 use borrow.Author.Tests.{leb-true, leb-false}
 use Rattle.numbers.specs.Lists.{padded}
 use Rattle.numbers.proofs.Lists.{padded-take}
-use Rattle.stack.specs.Stack.{Stack, Total-met, Placement, sum, longest}
+use Rattle.stack.specs.Stack.{Stack, Total-met, Placement, sum, first-spread}
 use Rattle.stack.specs.Limits.{all-rising, within-limits}
 use Rattle.stack.specs.Value.{tracks-of, columns-of}
 use Rattle.routing.specs.Paths.{Drawable}
@@ -54,7 +54,7 @@ unfolding placed-is padded
 refused-zeros u f r z e = (ap refusal-of (z .outcome-is) ∙ e, z .total-zero, z .separations-zero, z .positions-zero)
 
 -- a total below the least one is not met
-below-unmet : (k : Stack) (s v : ℕ) → within-limits k ≡ true → longest (k .strips) ≤ s → v < answer-total k s → Total-met k s v → ⊥
+below-unmet : (k : Stack) (s v : ℕ) → within-limits k ≡ true → first-spread (k .strips) ≤ s → v < answer-total k s → Total-met k s v → ⊥
 below-unmet k s v w h l m = omega (arith, met-from-least k s w (answer-total k s) v (least-there k s w h) .0 m)
 
 module _ (f : Refusal) (k : Stack) (s v : ℕ) (u : Outcome) (q : refusal-of u ≡ f) (r : PlacementAnswer) where
@@ -62,7 +62,7 @@ module _ (f : Refusal) (k : Stack) (s v : ℕ) (u : Outcome) (q : refusal-of u �
   placement-refused h z =
       placed-refused (f .number) f k s v r (λ e. refused-number u h (ap (λ (g : Refusal). g .number) q ∙ e)) (refused-zeros u f r z q)
 
-  module _ (a : is-accepted u ≡ true) (w : within-limits k ≡ true) (wide : longest (k .strips) ≤ s) where
+  module _ (a : is-accepted u ≡ true) (w : within-limits k ≡ true) (wide : first-spread (k .strips) ≤ s) where
     says : Placed-for k s v r → Placement-or f k s v r
     says p = placed-fine (f .number) f k s v r (accepted-number f u q a) p
 

@@ -2,13 +2,13 @@
 use mathlib.Core.Path.{_≡_, refl, sym, ap, _∙_}
 use mathlib.Core.Bool.{Bool, true, false, cond}
 use mathlib.Core.List.{List, [], _∷_}
-use Prim.Native.Nat.{ℕ, zero, suc, _+_, _≤_, _<_}
+use Prim.Native.Nat.{ℕ, zero, suc, _+_, _≤_, _<_, max}
 use native.Mathlib.Omega.{arith}
 use lib.Dec.{ltb, eqb}
 use borrow.Author.Tests.{le-leb, lt-ltb, le-ltb, ltb-false, eqb-true, eqb-false}
 use Rattle.numbers.specs.Lists.{padded}
 use Rattle.numbers.proofs.Bools.{ands, impossible}
-use Rattle.stack.specs.Stack.{stack, in-spread, channels-good, legal, sum, longest, not-later, Total-met, Least-total, Placement}
+use Rattle.stack.specs.Stack.{stack, in-window, stands, in-spread, channels-good, legal, sum, greatest-of, least-position, first-spread, not-later, Total-met, Least-total, Placement}
 use Rattle.text.specs.Text.{Refusal, refusal, fine, or-else}
 use Rattle.text.specs.Outcome.{refusal-of, refused}
 use Rattle.text.specs.declared.Refusal.the-variants.{Narrow}
@@ -36,7 +36,7 @@ module _ (l s : ℕ) where
 
   module _ (fits : l ≤ s) where
     legal-zero : legal (one-strip l) s [] (0 ∷ []) ≡ true
-    unfolding stack legal channels-good in-spread
+    unfolding stack legal channels-good in-spread stands in-window
     legal-zero = let e : 0 + l ≡ l = omega arith in rw (e, le-leb l s fits)
 
     pub least-zero : Least-total (one-strip l) s 0
@@ -57,8 +57,8 @@ module _ (l s : ℕ) where
 
 -- WHAT IS REFUSED of a spread: 7 below its length
 narrow-one : (l s : ℕ) → narrow-refusal (one-strip l) s ≡ cond (ltb s l) (refusal 7 0 0) fine
-unfolding narrow-refusal longest stack
-narrow-one l s = rw (le-ltb l 0 (omega arith))
+unfolding narrow-refusal first-spread greatest-of least-position stack
+narrow-one l s = let e : max (l + 0) 0 ≡ l = omega arith in rw e
 
 pub narrow-told : (l s : ℕ) (o : Outcome) → s < l → o ≡ refused Narrow 0 0 → refusal-of o ≡ narrow-refusal (one-strip l) s
 narrow-told l s o h e = rw (e, narrow-one l s, lt-ltb s l h)

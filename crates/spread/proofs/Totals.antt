@@ -4,7 +4,7 @@ use mathlib.Core.Bool.{true, false}
 use mathlib.Core.List.{List}
 use Prim.Native.Nat.{ℕ, zero, suc, _≤_}
 use native.Mathlib.Omega.{arith}
-use Rattle.stack.specs.Stack.{Stack, Least-total, sum, longest}
+use Rattle.stack.specs.Stack.{Stack, Least-total, sum, first-spread}
 use Rattle.stack.specs.Limits.{all-rising, within-limits}
 use Rattle.routing.specs.Paths.{Drawable}
 use Rattle.routing.proofs.Drawable.{drawable-legal, legal-drawable}
@@ -43,7 +43,7 @@ module _ (f : Refusal) (k : Stack) (s : ℕ) (u : Outcome) (q : refusal-of u ≡
   total-refused h z =
       totalled-refused (f .number) f k s r (λ e. refused-number u h (ap (λ (g : Refusal). g .number) q ∙ e)) (ap refusal-of o ∙ q, z)
 
-  pub total-answered : is-accepted u ≡ true → within-limits k ≡ true → longest (k .strips) ≤ s → r .total .0 ≡ answer-total k s → Total-or f k s r
+  pub total-answered : is-accepted u ≡ true → within-limits k ≡ true → first-spread (k .strips) ≤ s → r .total .0 ≡ answer-total k s → Total-or f k s r
   unfolding total-told
   total-answered a w h t =
       totalled-fine (f .number) f k s (answer-total k s) r (accepted-number f u q a) (least-there k s w h) (ap refusal-of o ∙ q, t)

@@ -4,7 +4,7 @@ use mathlib.Core.Bool.{true}
 use Prim.Native.Nat.{ℕ, suc, _≤_}
 use lib.ListN.{length, take}
 use Rattle.numbers.proofs.Lists.{padded-take}
-use Rattle.stack.specs.Stack.{row, sum, longest}
+use Rattle.stack.specs.Stack.{row, sum, first-spread}
 use Rattle.stack.specs.Limits.{within-limits}
 use Rattle.stack.specs.Value.{stack-of, tracks-of}
 use Rattle.stack.specs.declared.Stack.{Stack as Stack-struct}
@@ -17,7 +17,7 @@ use Rattle.answer.proofs.Answers.{answer-there, answer-sum}
 use Rattle.rows.specs.Walk.{row-at}
 use Rattle.writing.specs.Output.{row-of, Row-asks}
 
-module _ (k : Stack-struct) (s : ℕ) (p : Placement) (good : within-limits (stack-of k) ≡ true) (wide : longest (stack-of k .strips) ≤ s) (a : Answer-is (stack-of k) s p) where
+module _ (k : Stack-struct) (s : ℕ) (p : Placement) (good : within-limits (stack-of k) ≡ true) (wide : first-spread (stack-of k .strips) ≤ s) (a : Answer-is (stack-of k) s p) where
   lengths : (length (answer-separations (stack-of k) s) ≡ k .count) × (length (answer-positions (stack-of k) s) ≡ suc (k .count))
   lengths =
       let l = legal-lengths (stack-of k) s (answer-separations (stack-of k) s) (answer-positions (stack-of k) s) (answer-there (stack-of k) s good wide .is-legal) in

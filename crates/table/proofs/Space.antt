@@ -1,5 +1,5 @@
 -- A stated number of bytes, table-bytes, is enough for every table of a stack within the limits. A separation above the last one of use could be cut down to
--- that, so in an answer none is; a position is within the spread, and no row's spread is past the sum of the lengths: so each row is within the limits of its
+-- that, so in an answer none is; a position is within the spread, and no row's spread is past the greatest one of use: so each row is within the limits of its
 -- numbers. Each further row has a smaller total than the row before it; the first one's is at most 33 a channel above the sum of the floors, and no row's is below
 -- that sum: so there are at most 265 rows, whatever the floors are. Assumes nothing.
 use mathlib.Core.Path.{_≡_, refl}
@@ -12,14 +12,14 @@ use lib.ListN.{length, getD}
 use borrow.Author.Tests.{leb-true}
 use Rattle.numbers.proofs.Bools.{ands, and-both, impossible}
 use Rattle.numbers.proofs.Orders.{le-or-lt}
-use Rattle.stack.specs.Stack.{Channel, no-channel, channel-in, Stack, Row, row, feasible, in-spread, channels-good, legal, sum, total, Answer, Stays, Rows-after, Rows-are}
+use Rattle.stack.specs.Stack.{Channel, no-channel, channel-in, Strip, Stack, Row, row, feasible, stands, in-spread, channels-good, legal, sum, total, Answer, Stays, Rows-after, Rows-are}
 use Rattle.stack.specs.Limits.{pairs-within, channel-within, within-limits}
 use Rattle.stack.proofs.Within.{channel-in-limits, strips-count, channels-few}
 use Rattle.answer.specs.Solve.{last-use}
 use Rattle.answer.proofs.Alone.{legal-lengths}
 use Rattle.rows.specs.Walk.{widest, rows-of}
 use Rattle.rows.proofs.Floored.{floors-of, floors-first}
-use Rattle.rows.proofs.Settled.{feasible-open, settled, widest-small, longest-widest}
+use Rattle.rows.proofs.Settled.{feasible-open, settled, widest-small, first-widest}
 use Rattle.rows.proofs.Rows.{rows-are}
 use Rattle.writing.specs.Output.{row-bytes, rows-most, table-bytes, Row-limited}
 use Rattle.writing.specs.TableText.{table-text}
@@ -75,12 +75,12 @@ sum-most [] h = omega arith
 sum-most (t ∷ ts) h = omega (arith, h 0 (omega arith), sum-most ts (λ i l. h (suc i) (omega arith)))
 
 -- a position is at most the spread
-position-below : (s : ℕ) (ls xs : List ℕ) → in-spread s ls xs ≡ true → (i : ℕ) → i < length xs → getD xs i 0 ≤ s
-unfolding in-spread
+position-below : (s : ℕ) (ls : List Strip) (xs : List ℕ) → in-spread s ls xs ≡ true → (i : ℕ) → i < length xs → getD xs i 0 ≤ s
+unfolding in-spread stands
 position-below s [] [] e i h = absurd (omega arith)
 position-below s [] (x ∷ xs) e i h = impossible e
 position-below s (l ∷ ls) [] e i h = impossible e
-position-below s (l ∷ ls) (x ∷ xs) e zero h = omega (arith, leb-true (x + l) s (search ands))
+position-below s (l ∷ ls) (x ∷ xs) e zero h = omega (arith, leb-true (x + l .length) s (search ands))
 position-below s (l ∷ ls) (x ∷ xs) e (suc i) h = position-below s ls xs (search ands) i (omega arith)
 
 -- and no legal one is below that sum
@@ -122,7 +122,7 @@ module _ (k : Stack) (good : within-limits k ≡ true) where
         let n = legal-lengths k s ts xs (a .is-legal) in
         omega (arith, sum-most ts separations-small, channels-few k good)
 
-  -- a row up to the sum of the lengths is within the limits of its numbers
+  -- a row up to the greatest spread of use is within the limits of its numbers
   row-limited : (r : Row) → r .spread ≤ widest k → Answer k (r .spread) (r .separations) (r .positions) → Row-limited r
   unfolding legal total
   row-limited r h a =
@@ -138,16 +138,16 @@ module _ (k : Stack) (good : within-limits k ≡ true) where
         positions-below = λ i l. omega (arith, position-below (r .spread) (k .strips) (r .positions) (search ands) i l);
       }
 
-  -- past the sum of the lengths nothing falls, so no row stands there
+  -- past the greatest spread of use nothing falls, so no row stands there
   next-within : (r q : Row) → r .spread ≤ widest k → total q < total r → Stays k (r .spread) (q .spread) (total r) → Answer k (q .spread) (q .separations) (q .positions) → q .spread ≤ widest k
-  unfolding Stays total widest
+  unfolding Stays total
   next-within r q h f st a = go (le-or-lt (q .spread) (widest k))
     where
-      go : (q .spread ≤ sum (k .strips)) ⊎ (sum (k .strips) < q .spread) → q .spread ≤ sum (k .strips)
+      go : (q .spread ≤ widest k) ⊎ (widest k < q .spread) → q .spread ≤ widest k
       go (inl m) = m
       go (inr m) =
           let z = settled k (q .spread) (q .separations) (q .positions) good (a .is-legal) in
-          absurd (omega (arith, st (sum (k .strips)) (q .separations) (z .0) h m (z .1)))
+          absurd (omega (arith, st (widest k) (q .separations) (z .0) h m (z .1)))
 
   -- each further row has a smaller total, and none is below the sum of the floors
   rows-few : (r : Row) (qs : List Row) → Answer k (r .spread) (r .separations) (r .positions) → Rows-after k r qs → sum (floors-of (k .channels)) + length qs ≤ total r
@@ -170,7 +170,7 @@ module _ (k : Stack) (good : within-limits k ≡ true) where
       omega (arith, table-below (length (k .channels)) (r ∷ qs) (omega (arith, channels-few k good)) (λ i l. each i l), rows-few r qs (a .1) (a .2), channels-few k good)
     where
       near : r .spread ≤ widest k
-      near = omega (arith, a .0, longest-widest k)
+      near = omega (arith, a .0, first-widest k good)
 
       first : Row-limited r
       first = row-limited r near (a .1)

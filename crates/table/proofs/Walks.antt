@@ -5,11 +5,11 @@ use mathlib.Core.List.{List, [], _++_, append-assoc, append-nil}
 use Prim.Native.Nat.{ℕ, suc, _+_, _-_, _^_, _≤_, _<_}
 use native.Mathlib.Omega.{arith}
 use lib.ListN.{length, length-append}
-use Rattle.stack.specs.Stack.{Stack, Row, longest}
+use Rattle.stack.specs.Stack.{Stack, Row, first-spread}
 use Rattle.stack.specs.Limits.{within-limits}
 use Rattle.answer.specs.Solve.{answer-total}
 use Rattle.rows.specs.Walk.{row-at, rows-walk, widest, rows-of}
-use Rattle.rows.proofs.Settled.{longest-widest}
+use Rattle.rows.proofs.Settled.{first-widest}
 use Rattle.rows.proofs.Walks.{walk-zero, walk-on, walk-falls, walk-ends}
 use Rattle.writing.specs.Output.{written, written-at, Written, row-bytes, rows-most, table-bytes, Line-put, Line-put-at}
 use Rattle.writing.specs.TableText.{table-text, row-text, rows-text}
@@ -29,13 +29,13 @@ written-line s t before after at r e w p =
 
 module _ (k : Stack) (good : within-limits k ≡ true) where
   -- THE FIRST ROW, behind the first line
-  begun : (total jump head at : ℕ) (o₀ o₁ o₂ : List ℕ) → longest (k .strips) ≤ widest k → answer-total k (longest (k .strips)) ≡ total → 0 < jump →
-      ((d : ℕ) → d < jump → longest (k .strips) + d ≤ widest k → total ≤ answer-total k (longest (k .strips) + d)) →
-      Line-put (table-text (length (k .channels)) []) o₀ o₁ head → Line-put-at head (row-text (row-at k (longest (k .strips)))) o₁ o₂ at →
-      Walking k o₂ (record { spread = longest (k .strips); total = total; jump = jump; at = at })
+  begun : (total jump head at : ℕ) (o₀ o₁ o₂ : List ℕ) → first-spread (k .strips) ≤ widest k → answer-total k (first-spread (k .strips)) ≡ total → 0 < jump →
+      ((d : ℕ) → d < jump → first-spread (k .strips) + d ≤ widest k → total ≤ answer-total k (first-spread (k .strips) + d)) →
+      Line-put (table-text (length (k .channels)) []) o₀ o₁ head → Line-put-at head (row-text (row-at k (first-spread (k .strips)))) o₁ o₂ at →
+      Walking k o₂ (record { spread = first-spread (k .strips); total = total; jump = jump; at = at })
   unfolding rows-of rows-text
   begun total jump head at o₀ o₁ o₂ w t j st h r =
-      let s = longest (k .strips) in
+      let s = first-spread (k .strips) in
       let n = length (k .channels) in
       let first : Written (table-text n []) o₀ o₁ = rw (h .stands, ← written-at-start (table-text n []) o₀) (written-steps {s = []} (table-text n []) (written-starts o₀)) in
       let both = written-line (table-text n []) (row-text (row-at k s)) o₁ o₂ head at (h .counted) (record { stands = first .stands; same-length = refl }) r in
@@ -51,13 +51,13 @@ module _ (k : Stack) (good : within-limits k ≡ true) where
         written = both .1;
       }
 
-  -- the same with the count of channels and the longest strip's length as the code has them
-  pub begun-at : (n s : ℕ) → n ≡ length (k .channels) → s ≡ longest (k .strips) → (total jump head at : ℕ) (o₀ o₁ o₂ : List ℕ) → answer-total k s ≡ total → 0 < jump →
+  -- the same with the count of channels and the first spread as the code has them
+  pub begun-at : (n s : ℕ) → n ≡ length (k .channels) → s ≡ first-spread (k .strips) → (total jump head at : ℕ) (o₀ o₁ o₂ : List ℕ) → answer-total k s ≡ total → 0 < jump →
       ((d : ℕ) → d < jump → s + d ≤ widest k → total ≤ answer-total k (s + d)) →
       Line-put (table-text n []) o₀ o₁ head → Line-put-at head (row-text (row-at k s)) o₁ o₂ at →
       Walking k o₂ (record { spread = s; total = total; jump = jump; at = at })
   begun-at n s c e total jump head at o₀ o₁ o₂ t j st h r =
-      rw e (begun total jump head at o₀ o₁ o₂ (longest-widest k) (rw e at t) j (rw e at st) (rw c at h) (rw e at r))
+      rw e (begun total jump head at o₀ o₁ o₂ (first-widest k good) (rw e at t) j (rw e at st) (rw c at h) (rw e at r))
 
   -- the text so far is a part of the table's, so it is short
   pub at-fits : (o : List ℕ) (w : Walk) → Walking k o w → w .at ≤ 2 ^ 32
@@ -112,7 +112,7 @@ module _ (k : Stack) (good : within-limits k ≡ true) where
       let all : table-text (length (k .channels)) (rows-of k) ≡ c .text = c .whole ∙ (rw none (append-nil (c .text))) in
       record { counted = c .at-is ∙ ap length (sym all); written = rw all (c .written); few = rw (c .at-is, ← all) (table-space k good) }
 
-  -- THE END: the next event lies beyond the sum of the lengths, or nothing can fall any more
+  -- THE END: the next event lies beyond the greatest spread of use, or nothing can fall any more
   pub ended-past : (o : List ℕ) (w : Walk) → Walking k o w → widest k < w .spread + w .jump → Table-put k o (w .at)
   ended-past o w c h =
       ended o w c (walk-ends k good (widest k) (w .spread) (w .total) (suc (widest k)) (omega (arith, c .upto)) (omega arith) (λ d l. c .stays d (omega arith) (omega arith)))

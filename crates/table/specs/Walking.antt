@@ -3,7 +3,7 @@ use mathlib.Core.Path.{_≡_}
 use mathlib.Core.List.{List, _++_}
 use Prim.Native.Nat.{ℕ, suc, _+_, _-_, _≤_, _<_}
 use lib.ListN.{length}
-use Rattle.stack.specs.Stack.{Stack, longest}
+use Rattle.stack.specs.Stack.{Stack, first-spread}
 use Rattle.stack.specs.Value.{stack-of}
 use Rattle.stack.specs.declared.Stack.{Stack as Stack-struct}
 use Rattle.stack.specs.Sizes.{strips-held}
@@ -17,7 +17,7 @@ use Rattle.table.specs.declared.Walk.{Walk}
 
 -- at a spread: its total, how far it stays, and the whole table as the text so far and the rows to come
 pub record Walking (k : Stack) (out : List ℕ) (w : Walk) : Type 0 where
-  pub from : longest (k .strips) ≤ w .spread
+  pub from : first-spread (k .strips) ≤ w .spread
   pub upto : w .spread ≤ widest k
   pub total-is : answer-total k (w .spread) ≡ w .total
   pub jump-some : 0 < w .jump
@@ -39,7 +39,7 @@ pub record Stepping (k : Stack-struct) (limits : List (List (List ℕ))) (plan w
   pub walking : Walking (stack-of k) out w
   pub capped : w .total ≤ entry (sums-in plan) 0
 
--- the next event lies within the sum of the lengths
+-- the next event lies within the greatest spread of use
 pub record Step-asks (k : Stack-struct) (w : Walk) (limits : List (List (List ℕ))) (plan windows : List (List ℕ)) (t : List (List (List ℕ))) (out : List ℕ) : Type 0 where
   pub here : Stepping k limits plan windows t out w
   pub some : 0 < w .total

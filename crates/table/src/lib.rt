@@ -4,7 +4,7 @@ ghost use mathlib.Core.Bool.{true};
 ghost use Prim.Native.Nat.{_+_, _^_, _≤_};
 ghost use Rattle.stack.specs.Limits.{within-limits};
 ghost use Rattle.stack.specs.Value.{stack-of};
-ghost use Rattle.stack.specs.Stack.{longest};
+ghost use Rattle.stack.specs.Stack.{first-spread};
 ghost use Rattle.answer.specs.Arrays.{Answer-is};
 ghost use Rattle.rows.specs.Walk.{row-at};
 ghost use Rattle.writing.specs.Output.{Line-put-at};
@@ -34,7 +34,7 @@ struct Walk {
 
 // The row of a spread's answer, written behind the text that ends at a place.
 fn put_placed(stack: Stack, spread: u32, placement: Placement, out: &mut [u8], at: usize) -> usize
-    requires { ⌜ (at ≤ 2 ^ 32) × (within-limits (stack-of stack) ≡ true) × (longest (stack-of stack .strips) ≤ spread) × Answer-is (stack-of stack) spread placement ⌝ }
+    requires { ⌜ (at ≤ 2 ^ 32) × (within-limits (stack-of stack) ≡ true) × (first-spread (stack-of stack .strips) ≤ spread) × Answer-is (stack-of stack) spread placement ⌝ }
     ensures { λ r. ⌜ Line-put-at at (row-text (row-at (stack-of stack) spread)) (now (out .entry)) (now (out .exit)) r ⌝ }
 {
     let k = stack.count;
@@ -44,7 +44,7 @@ fn put_placed(stack: Stack, spread: u32, placement: Placement, out: &mut [u8], a
     put_row_at(out, at, k, spread, total.0, separations, positions)
 }
 
-// The first line, and the row of the longest strip's length.
+// The first line, and the row of the first spread.
 fn begin(
     stack: Stack,
     limits: &StackLimits,
@@ -57,7 +57,7 @@ fn begin(
     ensures { λ w. ⌜ Stepping stack (now (limits .entry)) (now (plan .entry)) (now (windows .exit)) (now (table .exit)) (now (out .exit)) w ⌝ }
 {
     let k = stack.count;
-    let spread = stack.longest();
+    let spread = stack.first_spread() as u32;
     let cap = plan[ABOVE][0];
     let scan = evaluate(stack, spread, cap, limits, plan, windows, table);
     let placement = place_row(stack, spread, scan, limits, plan, windows, table);
@@ -116,7 +116,7 @@ pub fn put_table(stack: Stack, out: &mut [u8]) -> usize
     let plan = plan_for(&limits, lasts, stack.count);
     let mut windows = [[0u64; 2]; Stack::STRIPS];
     let mut table = [[[0u32; Stack::TOTALS]; 2]; Stack::STRIPS];
-    let widest = stack.lengths_sum();
+    let widest = stack.last_position() + stack.lengths_sum();
     let mut w = begin(stack, &limits, &plan, &mut windows, &mut table, out);
     while 0 < w.total {
         let further = widest - w.spread as u64;

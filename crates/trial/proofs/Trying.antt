@@ -7,12 +7,12 @@ use Prim.Native.Nat.{ℕ, suc, _+_, _≤_, _<_}
 use native.Mathlib.Nat.{add-zero}
 use native.Mathlib.Numerals.{add-one}
 use native.Mathlib.Omega.{arith}
-use lib.Dec.{leb, eqb}
+use lib.Dec.{eqb}
 use lib.ListN.{length, getD, drop, drop-of-length-le}
 use lib.Seq.{drop-cons, getD-take, getD-drop, length-take-le}
 use borrow.Author.Tests.{eq-eqb, ne-eqb}
-use Rattle.stack.specs.Stack.{Channel, no-channel, feasible, in-spread, channels-good}
-use Rattle.stack.specs.Value.{strip, tracks, columns, channel-at, stack-of, tracks-of, columns-of}
+use Rattle.stack.specs.Stack.{Channel, no-channel, Strip, no-strip, feasible, stands, in-spread, channels-good}
+use Rattle.stack.specs.Value.{tracks, columns, strip-at, channel-at, stack-of, tracks-of, columns-of}
 use Rattle.stack.specs.declared.Tracks.{Tracks}
 use Rattle.stack.specs.declared.Columns.{Columns}
 use Rattle.stack.specs.declared.Stack.{Stack as Stack-struct}
@@ -41,10 +41,10 @@ unfolding all-zero
 zeros-end xs m n i long h s = sym (s .rest ∙ rw (drop-of-length-le xs {i = i} (omega arith)))
 
 -- THE SPREAD
-spread-next : (s : ℕ) (ls xs : List ℕ) (i : ℕ) → i < length ls → i < length xs →
-    in-spread s (drop i ls) (drop i xs) ≡ (leb (getD xs i 0 + getD ls i 0) s && in-spread s (drop (suc i) ls) (drop (suc i) xs))
+spread-next : (s : ℕ) (ls : List Strip) (xs : List ℕ) (i : ℕ) → i < length ls → i < length xs →
+    in-spread s (drop i ls) (drop i xs) ≡ (stands s (getD ls i no-strip) (getD xs i 0) && in-spread s (drop (suc i) ls) (drop (suc i) xs))
 unfolding in-spread
-spread-next s ls xs i h k = rw (drop-cons ls i 0 h, drop-cons xs i 0 k)
+spread-next s ls xs i h k = rw (drop-cons ls i no-strip h, drop-cons xs i 0 k)
 
 pub spread-start : (k : Stack-struct) (s : ℕ) (xs : List Columns) → Spread-from s (stack-of k .strips) (used-positions k xs) 0
 spread-start k s xs = record { rest = refl }
@@ -56,7 +56,7 @@ module _ (k : Stack-struct) (few : k .count ≤ 8) (xs : List Columns) (long : l
   position-at : (i : ℕ) → i < suc (k .count) → getD (used-positions k xs) i 0 ≡ getD xs i (columns 0) .0
   position-at i h = getD-take (suc (k .count)) (columns-of xs) i 0 h ∙ column-at xs i
 
-  module _ (s i : ℕ) (less : i < k .count + 1) (r : Bool) (is : r ≡ leb (getD xs i (columns 0) .0 + getD (k .strips) i (strip 0) .length .0) s)
+  module _ (s i : ℕ) (less : i < k .count + 1) (r : Bool) (is : r ≡ stands s (strip-at k i) (getD xs i (columns 0) .0))
       (w : Spread-from s (stack-of k .strips) (used-positions k xs) i) where
     spread-split : in-spread s (stack-of k .strips) (used-positions k xs) ≡ (r && in-spread s (drop (suc i) (stack-of k .strips)) (drop (suc i) (used-positions k xs)))
     spread-split =

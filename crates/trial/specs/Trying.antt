@@ -5,7 +5,7 @@ use mathlib.Core.List.{List}
 use Prim.Native.Nat.{ℕ, suc}
 use lib.ListN.{take, drop}
 use Rattle.stack.specs.Value.{tracks-of, columns-of}
-use Rattle.stack.specs.Stack.{Channel, in-spread, channels-good}
+use Rattle.stack.specs.Stack.{Channel, Strip, in-spread, channels-good}
 use Rattle.stack.specs.declared.Tracks.{Tracks}
 use Rattle.stack.specs.declared.Columns.{Columns}
 use Rattle.stack.specs.declared.Stack.{Stack as Stack-struct}
@@ -22,8 +22,8 @@ used-positions k xs = take (suc (k .count)) (columns-of xs)
 pub record Zeros-from (xs : List ℕ) (n i : ℕ) : Type 0 where
   pub rest : all-zero (drop n xs) ≡ all-zero (drop i xs)
 
--- within the spread
-pub record Spread-from (s : ℕ) (strips xs : List ℕ) (i : ℕ) : Type 0 where
+-- within the spread, each strip inside its window
+pub record Spread-from (s : ℕ) (strips : List Strip) (xs : List ℕ) (i : ℕ) : Type 0 where
   pub rest : in-spread s strips xs ≡ in-spread s (drop i strips) (drop i xs)
 
 -- every channel feasible

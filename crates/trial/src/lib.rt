@@ -1,12 +1,10 @@
 // The trial of a placement: legal in a spread, or not.
 ghost use mathlib.Core.Path.{_≡_};
 ghost use mathlib.Core.Bool.{true};
-ghost use Prim.Native.Nat.{_+_};
-ghost use lib.Dec.{leb};
 ghost use lib.ListN.{drop};
-ghost use Rattle.stack.specs.Stack.{in-spread, channels-good};
+ghost use Rattle.stack.specs.Stack.{stands, in-spread, channels-good};
 ghost use Rattle.stack.specs.Limits.{within-limits};
-ghost use Rattle.stack.specs.Value.{stack-of, tracks-of, columns-of};
+ghost use Rattle.stack.specs.Value.{strip-of, stack-of, tracks-of, columns-of};
 ghost use Rattle.trial.specs.Legal.{all-zero, is-legal};
 ghost use Rattle.trial.specs.Trying.{used-separations, used-positions};
 use feasibility::is_feasible;
@@ -39,14 +37,23 @@ fn are_columns_zero(positions: [Columns; Stack::STRIPS], from: usize) -> bool
     true
 }
 
-// A strip at a position ends within the spread.
+// A strip at a position ends within the spread and is inside its window.
 fn is_strip_within(position: Columns, strip: Strip, spread: u32) -> bool
-    ensures { λ r. ⌜ r ≡ leb (position .0 + strip .length .0) spread ⌝ }
+    ensures { λ r. ⌜ r ≡ stands spread (strip-of strip) (position .0) ⌝ }
 {
-    position.0 as u64 + strip.length.0 as u64 <= spread as u64
+    if (spread as u64) < position.0 as u64 + strip.length.0 as u64 {
+        return false;
+    }
+    if strip.held {
+        if position.0 < strip.least.0 {
+            return false;
+        }
+        return position.0 <= strip.greatest.0;
+    }
+    true
 }
 
-// Every strip lies within the spread.
+// Every strip lies within the spread and inside its window.
 fn is_in_spread(stack: Stack, spread: u32, positions: [Columns; Stack::STRIPS]) -> bool
     requires { ⌜ within-limits (stack-of stack) ≡ true ⌝ }
     ensures { λ r. ⌜ r ≡ in-spread spread (stack-of stack .strips) (used-positions stack positions) ⌝ }

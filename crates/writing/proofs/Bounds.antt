@@ -55,10 +55,10 @@ joined-length a b c d e = simp length-append
 pub row-below : (r : Row) → Row-limited r → length (row-text r) ≤ row-bytes
 unfolding row-text row-bytes
 row-below r w =
-    let spread = one-below 4 (r .spread) (omega arith) (omega (arith, w .spread-below)) in
+    let spread = one-below 5 (r .spread) (omega arith) (omega (arith, w .spread-below)) in
     let sum = one-below 3 (total r) (omega arith) (omega (arith, w .total-below)) in
     let ts = tabbed-below 2 (r .separations) (omega arith) (λ i h. omega (arith, w .separations-below i h)) in
-    let xs = tabbed-below 4 (r .positions) (omega arith) (λ i h. omega (arith, w .positions-below i h)) in
+    let xs = tabbed-below 5 (r .positions) (omega arith) (λ i h. omega (arith, w .positions-below i h)) in
     let numbers = row-numbers (r .spread) (total r) (r .separations) (r .positions) in
     let long = joined-length (tabbed (r .spread ∷ [])) (tabbed (total r ∷ [])) (tabbed (r .separations)) (tabbed (r .positions)) (10 ∷ []) in
     rw numbers (omega (arith, long, w .channels, w .strips))

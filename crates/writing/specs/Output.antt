@@ -43,10 +43,10 @@ pub record Written (text before after : List ℕ) : Type 0 where
 abbrev pub line-bytes : ℕ
 line-bytes = 213
 
--- the bytes of the longest row within the limits: the word ROW, a line feed, a spread and nine positions of up to four digits, a total of up to
+-- the bytes of the longest row within the limits: the word ROW, a line feed, a spread and nine positions of up to five digits, a total of up to
 -- three and eight separations of up to two, each behind a tab
 unfoldable pub row-bytes : ℕ
-row-bytes = 82
+row-bytes = 92
 
 -- the most rows of a table: a row for each total from the sum of the floors up to eight times 33 more, since past its floor and 33 tracks no channel gains
 unfoldable pub rows-most : ℕ
@@ -93,7 +93,7 @@ pub record Clearing (from : ℕ) (before : List ℕ) (i : ℕ) (now : List ℕ) 
 pub record Row-limited (r : Row) : Type 0 where
   pub channels : length (r .separations) ≤ 8
   pub strips : length (r .positions) ≤ 9
-  pub spread-below : r .spread ≤ 9999
+  pub spread-below : r .spread ≤ 99999
   pub total-below : total r < totals-held
   pub separations-below : (i : ℕ) → i < length (r .separations) → getD (r .separations) i 0 ≤ 64
-  pub positions-below : (i : ℕ) → i < length (r .positions) → getD (r .positions) i 0 ≤ 9999
+  pub positions-below : (i : ℕ) → i < length (r .positions) → getD (r .positions) i 0 ≤ 99999

@@ -23,42 +23,32 @@ add-strips c = omega (arith, few-channels (c .args .t1) (c .pre .0))
 loop-holds : tie.Need-loop-holds Inv-loop μ-loop
 loop-holds c = (omega arith, c .pre .1)
 
-mul-strip : tie.Need-mul-strip Inv-loop μ-loop
-mul-strip c = omega (arith, few-channels (c .before .before .args .t1) (c .before .before .pre .0))
+mul-window : tie.Need-mul-window Inv-loop μ-loop
+mul-window c = omega (arith, few-channels (c .before .before .args .t1) (c .before .before .pre .0))
 
-element-copy-out-strip : tie.Need-element-copy-out-strip Inv-loop μ-loop
-element-copy-out-strip c = omega (arith, few-channels (c .before .before .args .t1) (c .before .before .pre .0))
+element-copy-out-window : tie.Need-element-copy-out-window Inv-loop μ-loop
+element-copy-out-window c = omega (arith, few-channels (c .before .before .args .t1) (c .before .before .pre .0))
 
-add-difference : tie.Need-add-difference Inv-loop μ-loop
-add-difference c = search needs
+window-requires : tie.Need-window-requires Inv-loop μ-loop
+window-requires c κs = search needs
 
-wide-requires : tie.Need-wide-requires Inv-loop μ-loop
-wide-requires c κs = search needs
+mul-ends : tie.Need-mul-ends Inv-loop μ-loop
+mul-ends c = let a = c .before .before .before .before in omega (arith, c .before .before .loop-test .taken, few-channels (a .args .t1) (a .pre .0))
 
-difference-requires : tie.Need-difference-requires Inv-loop μ-loop
-difference-requires c κs = search needs
-
-mul-t10 : tie.Need-mul-t10 Inv-loop μ-loop
-mul-t10 c =
-    let a = c .before .before .before .before .before in
-    omega (arith, few-channels (a .args .t1) (a .pre .0))
-
-element-set-from-windows : tie.Need-element-set-from-windows Inv-loop μ-loop
-element-set-from-windows c =
-    let a = c .before .before .before .before .before in
-    omega (arith, few-channels (a .args .t1) (a .pre .0))
+element-set-from-ends : tie.Need-element-set-from-ends Inv-loop μ-loop
+element-set-from-ends c = let a = c .before .before .before .before in omega (arith, c .before .before .loop-test .taken, few-channels (a .args .t1) (a .pre .0))
 
 add-i : tie.Need-add-i Inv-loop μ-loop
-add-i c = omega (arith, few-channels (c .before .before .before .before .before .args .t1) (c .before .before .before .before .before .pre .0))
+add-i c = let a = c .before .before .before .before in omega (arith, c .before .before .loop-test .taken, few-channels (a .args .t1) (a .pre .0))
 
 loop-less : tie.Need-loop-less Inv-loop μ-loop
-loop-less c = falls _ _ (c .before .before .before .loop-test .taken)
+loop-less c = falls _ _ (c .before .before .loop-test .taken)
 
 loop-again : tie.Need-loop-again Inv-loop μ-loop
 loop-again c =
-    let b = c .before .before .before .before in
+    let b = c .before .before .before in
     let a = b .before in
-    (omega arith, windows-step (a .args .t1) (b .loop .i) (a .args .spread) (c .difference .result) _ (omega arith) (few-channels (a .args .t1) (a .pre .0)) (b .loop .inv .1) (omega (arith, c .difference .ensures, c .before .wide .ensures)))
+    (omega (arith, c .before .before .loop-test .taken), windows-step (a .args .t1) (b .loop .i) (a .args .spread) (c .window .result) _ (omega (arith, c .before .before .loop-test .taken)) (few-channels (a .args .t1) (a .pre .0)) (b .loop .inv .1) (c .window .ensures))
 
 returns : tie.Need-returns Inv-loop μ-loop
 returns c = let z : c .before .loop .i ≡ suc (c .before .before .args .t1 .count) = omega arith in rw z at (c .before .loop .inv .1)
@@ -71,13 +61,11 @@ fill-windows-spec =
     μ-loop
     add-strips
     loop-holds
-    mul-strip
-    element-copy-out-strip
-    add-difference
-    wide-requires
-    difference-requires
-    mul-t10
-    element-set-from-windows
+    mul-window
+    element-copy-out-window
+    window-requires
+    mul-ends
+    element-set-from-ends
     add-i
     loop-less
     loop-again

@@ -20,7 +20,7 @@ unfolding Space-enough
 returns c =
     let start = c .before .before .before .before .before in
     let table = c .before .before .write-table in
-    let space : 21738 ≤ length (start .args .output .now) = search needs in
+    let space : 24388 ≤ length (start .args .output .now) = search needs in
     table-printed (start .args .text .now) (table .result) _ _ (λ z. table .ensures .1 z space) _ _ (table .ensures .0) (c .put-outcome .ensures)
 
 pub put-table-spec : {M : Type 1} → statement M

@@ -16,8 +16,8 @@ returns c =
     let a = c .before .before in
     outcome-first (a .args .outcome) (stack-of (a .args .stack)) (a .args .spread) (sym (c .before .is-accepted .ensures) ∙ not-true _ (c .if1 .taken))
 
-longest-requires : tie.Need-longest-requires
-longest-requires c κs = let a = c .before .before in few-channels (a .args .stack) (a .pre)
+first-spread-requires : tie.Need-first-spread-requires
+first-spread-requires c κs = let a = c .before .before in few-channels (a .args .stack) (a .pre)
 
 returns-2 : tie.Need-returns-2
 returns-2 c =
@@ -25,7 +25,7 @@ returns-2 c =
     let e = l .before in
     let a = e .before .before in
     outcome-wide (a .args .outcome) (stack-of (a .args .stack)) (a .args .spread) (sym (e .before .is-accepted .ensures) ∙ not-false _ (e .if1 .left))
-    (rw (l .longest .ensures) at (c .if2 .taken))
+    (rw (l .first-spread .ensures .is) at (c .if2 .taken))
 
 refused-requires : tie.Need-refused-requires
 refused-requires c κs = search needs
@@ -36,9 +36,9 @@ returns-3 c =
     let e = l .before in
     let a = e .before .before in
     outcome-narrow (a .args .outcome) (stack-of (a .args .stack)) (a .args .spread) (sym (e .before .is-accepted .ensures) ∙ not-false _ (e .if1 .left)) _
-    (rw (l .longest .ensures) at (c .before .if2 .left)) (c .refused .ensures)
+    (rw (l .first-spread .ensures .is) at (c .before .if2 .left)) (c .refused .ensures)
 
 pub spread-outcome-spec : {M : Type 1} → statement M
 spread-outcome-spec =
     tie.close
-    (tie.spec is-accepted-requires returns longest-requires returns-2 refused-requires returns-3)
+    (tie.spec is-accepted-requires returns first-spread-requires returns-2 refused-requires returns-3)

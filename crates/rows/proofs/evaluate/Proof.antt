@@ -1,6 +1,9 @@
--- evaluate meets its contract. Assumes nothing.
+-- evaluate meets its contract: where every window's end grows by the scan's jump, else by that of the growing ends. Assumes nothing.
+use native.Mathlib.Omega.{arith}
 use Rattle.stack.specs.Value.{stack-of}
 use Rattle.answer.proofs.Standing.{windows-start, held-scan-asks}
+use Rattle.rows.proofs.Evaluating.{growth-asks, grown-none-less, evaluated}
+use borrow.Author.Needs.{needs}
 use Rattle.rows.proofs.evaluate.Statement.{statement}
 use Rattle.rows.proofs.evaluate.Tie as tie
 
@@ -12,8 +15,41 @@ scan-totals-requires c κs =
     let a = c .before .before .before .before in
     held-scan-asks (a .args .stack) (a .args .spread) _ _ _ (a .fits .spread .fits) (a .pre .wide) (a .pre .held) (c .before .before .fill-windows .ensures) (a .args .cap) _ (a .pre .capped) (a .pre .sized)
 
+fill-growths-requires : tie.Need-fill-growths-requires
+fill-growths-requires c κs = search needs
+
 returns : tie.Need-returns
-returns c = record { spread-windows = c .before .before .before .fill-windows .ensures; scanned = c .scan-totals .ensures }
+returns c =
+    let g = c .before in
+    let f = g .before .before in
+    let w = f .before .before .before in
+    let a = w .before .before in
+    evaluated (a .args .stack) (a .args .spread) _ _ _ (a .fits .spread .fits) (a .pre .wide) (a .pre .held) (w .fill-windows .ensures) (a .args .cap) _ _ (f .scan-totals .ensures) (a .pre .capped) _ _ (g .fill-growths .ensures) _ (f .scan-totals .ensures .jump-some)
+    (grown-none-less (a .args .stack) (a .args .spread) _ _ _ (a .fits .spread .fits) (a .pre .wide) (a .pre .held) (w .fill-windows .ensures) (a .args .cap) _ _ (f .scan-totals .ensures) (a .pre .capped) _ _ (g .fill-growths .ensures) (c .if1 .taken))
+
+growth-jump-requires : tie.Need-growth-jump-requires
+growth-jump-requires c κs =
+    let g = c .before .before .before .before in
+    let f = g .before .before in
+    let w = f .before .before .before in
+    let a = w .before .before in
+    growth-asks (a .args .stack) (a .args .spread) _ _ _ (a .fits .spread .fits) (a .pre .wide) (a .pre .held) (w .fill-windows .ensures) (a .args .cap) _ _ (f .scan-totals .ensures) (a .pre .capped) _ _ (g .fill-growths .ensures)
+
+returns-2 : tie.Need-returns-2
+returns-2 c =
+    let g = c .before .before .before .before .before in
+    let f = g .before .before in
+    let w = f .before .before .before in
+    let a = w .before .before in
+    evaluated (a .args .stack) (a .args .spread) _ _ _ (a .fits .spread .fits) (a .pre .wide) (a .pre .held) (w .fill-windows .ensures) (a .args .cap) _ _ (f .scan-totals .ensures) (a .pre .capped) _ _ (g .fill-growths .ensures) _ (c .growth-jump .ensures .some) (c .growth-jump .ensures .none-less)
 
 pub evaluate-spec : {M : Type 1} → statement M
-evaluate-spec = tie.close (tie.spec fill-windows-requires scan-totals-requires returns)
+evaluate-spec =
+    tie.close
+    (tie.spec
+    fill-windows-requires
+    scan-totals-requires
+    fill-growths-requires
+    returns
+    growth-jump-requires
+    returns-2)

@@ -1,4 +1,4 @@
--- put_table meets its contract: the walk from event to event up to the sum of the lengths. Assumes nothing.
+-- put_table meets its contract: the walk from event to event up to the greatest spread of use. Assumes nothing.
 use mathlib.Core.Path.{_≡_, _∙_}
 use Rattle.table.proofs.Events.{sum-widest}
 use Rattle.scan.proofs.Tables.{sized-zeros}
@@ -8,6 +8,7 @@ use Prim.Native.Nat.{_-_}
 use native.Mathlib.Omega.{arith}
 use Rattle.stack.specs.Value.{stack-of}
 use Rattle.stack.proofs.Within.{few-channels}
+use Rattle.rows.proofs.Settled.{widest-small}
 use Rattle.answer.proofs.Standing.{limits-zero, limits-start, filled-lasts, held-made}
 use Rattle.table.specs.Walking.{Stepping}
 use Rattle.table.proofs.Walks.{ended-past, ended-zero}
@@ -30,14 +31,25 @@ plan-for-requires c κs =
     let a = l .before .before .before .before in
     filled-lasts (a .args .stack) _ _ (a .pre) (l .fill-limits .ensures)
 
-lengths-sum-requires : tie.Need-lengths-sum-requires Inv-loop μ-loop
-lengths-sum-requires c κs =
+last-position-requires : tie.Need-last-position-requires Inv-loop μ-loop
+last-position-requires c κs =
     let a = c .before .before .before .before .before .before in
     few-channels (a .args .stack) (a .pre)
 
+lengths-sum-requires : tie.Need-lengths-sum-requires Inv-loop μ-loop
+lengths-sum-requires c κs =
+    let a = c .before .before .before .before .before .before .before in
+    few-channels (a .args .stack) (a .pre)
+
+add-widest : tie.Need-add-widest Inv-loop μ-loop
+add-widest c =
+    let p = c .before in
+    let a = p .before .before .before .before .before .before .before in
+    omega (arith, sum-widest (a .args .stack) (p .last-position .result) (c .lengths-sum .result) (p .last-position .ensures .is) (c .lengths-sum .ensures), widest-small (stack-of (a .args .stack)) (a .pre))
+
 begin-requires : tie.Need-begin-requires Inv-loop μ-loop
 begin-requires c κs =
-    let p = c .before .before .before .before .before .before in
+    let p = c .before .before .before .before .before .before .before in
     let l = p .before .before in
     let a = l .before .before .before .before in
     record { held = held-made (a .args .stack) _ _ (a .pre) (l .fill-limits .ensures) _ (p .plan-for .ensures); sized-windows = refl; sized = sized-zeros }
@@ -52,8 +64,9 @@ sub-further : tie.Need-sub-further Inv-loop μ-loop
 sub-further c =
     let b = c .before .before .before in
     let l = b .before .before .before .before .before .before .before .before .before in
-    let a = l .before .before .before .before .before .before .before in
-    omega (arith, b .loop .inv .0 .walking .upto, sum-widest (a .args .stack) (l .lengths-sum .result) (l .lengths-sum .ensures))
+    let p = l .before in
+    let a = p .before .before .before .before .before .before .before in
+    omega (arith, b .loop .inv .0 .walking .upto, sum-widest (a .args .stack) (p .last-position .result) (l .lengths-sum .result) (p .last-position .ensures .is) (l .lengths-sum .ensures))
 
 same-length : tie.Need-same-length Inv-loop μ-loop
 same-length c = c .before .before .before .before .before .loop .inv .1 ∙ search needs
@@ -62,19 +75,21 @@ returns : tie.Need-returns Inv-loop μ-loop
 returns c =
     let b = c .before .before .before .before .before in
     let l = b .before .before .before .before .before .before .before .before .before in
-    let a = l .before .before .before .before .before .before .before in
+    let p = l .before in
+    let a = p .before .before .before .before .before .before .before in
     ended-past (stack-of (a .args .stack)) (a .pre) _ _ (b .loop .inv .0 .walking)
-    (omega (arith, sum-widest (a .args .stack) (l .lengths-sum .result) (l .lengths-sum .ensures), c .if2))
+    (omega (arith, sum-widest (a .args .stack) (p .last-position .result) (l .lengths-sum .result) (p .last-position .ensures .is) (l .lengths-sum .ensures), c .if2))
 
 step-requires : tie.Need-step-requires Inv-loop μ-loop
 step-requires c κs =
     let b = c .before .before .before .before .before .before .before .before .before .before in
     let l = b .before .before .before .before .before .before .before .before .before in
-    let a = l .before .before .before .before .before .before .before in
+    let p = l .before in
+    let a = p .before .before .before .before .before .before .before in
     record {
       here = b .loop .inv .0;
       some = omega (arith, c .before .before .before .before .before .before .before .before .if1);
-      inside = omega (arith, sum-widest (a .args .stack) (l .lengths-sum .result) (l .lengths-sum .ensures), c .before .before .before .before .before .if2);
+      inside = omega (arith, sum-widest (a .args .stack) (p .last-position .result) (l .lengths-sum .result) (p .last-position .ensures .is) (l .lengths-sum .ensures), c .before .before .before .before .before .if2);
     }
 
 loop-less : tie.Need-loop-less Inv-loop μ-loop
@@ -89,7 +104,7 @@ same-length-2 c = c .before .before .loop .inv .1 ∙ search needs
 returns-2 : tie.Need-returns-2 Inv-loop μ-loop
 returns-2 c =
     let b = c .before .before in
-    let a = b .before .before .before .before .before .before .before .before .before .before .before .before .before .before .before .before in
+    let a = b .before .before .before .before .before .before .before .before .before .before .before .before .before .before .before .before .before in
     ended-zero (stack-of (a .args .stack)) (a .pre) _ _ (b .loop .inv .0 .walking) (omega (arith, c .if1))
 
 pub put-table-spec : {M : Type 1} → statement M
@@ -100,7 +115,9 @@ put-table-spec =
     μ-loop
     fill-limits-requires
     plan-for-requires
+    last-position-requires
     lengths-sum-requires
+    add-widest
     begin-requires
     loop-holds
     cast-further

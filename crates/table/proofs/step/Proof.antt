@@ -2,7 +2,7 @@
 use mathlib.Core.Path.{refl, sym, _∙_}
 use Prim.Native.Nat.{ℕ, _+_, _≤_, _<_}
 use native.Mathlib.Omega.{arith}
-use Rattle.stack.specs.Stack.{longest}
+use Rattle.stack.specs.Stack.{first-spread}
 use Rattle.stack.specs.Value.{stack-of}
 use Rattle.rows.proofs.Settled.{widest-small}
 use Rattle.rows.proofs.Jumps.{total-never-rises}
@@ -46,10 +46,10 @@ returns c =
     let good = a .pre .here .holding .held .good in
     let next : ℕ = a .args .w .spread + a .args .w .jump in
     let fits : next < 4294967296 = omega (arith, a .pre .inside, widest-small (stack-of (a .args .stack)) good) in
-    let wide : longest (stack-of (a .args .stack) .strips) ≤ next = omega (arith, a .pre .here .walking .from) in
+    let wide : first-spread (stack-of (a .args .stack) .strips) ≤ next = omega (arith, a .pre .here .walking .from) in
     let same = event-passed (a .args .stack) next _ _ _ _ _ (found .result) fits wide (a .pre .here .holding .held) (found .ensures) (a .args .w .total) (omega (arith, a .pre .here .capped, a .pre .some)) (omega (arith, a .pre .some)) (omega (arith, a .pre .here .walking .total-is, total-never-rises (stack-of (a .args .stack)) good (a .args .w .spread) next (a .pre .here .walking .from) (omega arith))) (omega (arith, c .if1)) in (
       record {
-        walking = stepped-on (stack-of (a .args .stack)) good _ (a .args .w) (a .pre .here .walking) next (found .result .jump) (found .ensures .scanned .jump-some) refl (a .pre .inside) (same .0) (rw (same .1) at (event-stays (a .args .stack) next _ _ _ _ _ (found .result) fits wide (a .pre .here .holding .held) (found .ensures) (same .0 ∙ sym (same .1))));
+        walking = stepped-on (stack-of (a .args .stack)) good _ (a .args .w) (a .pre .here .walking) next (found .result .jump) (found .ensures .jump-some) refl (a .pre .inside) (same .0) (rw (same .1) at (event-stays (a .args .stack) next _ _ _ _ _ (found .result) fits wide (a .pre .here .holding .held) (found .ensures) (same .0 ∙ sym (same .1))));
         holding = holds-on (a .args .stack) next _ _ _ _ _ (found .result) fits wide (a .pre .here .holding .held) (found .ensures);
         capped = a .pre .here .capped;
       },
@@ -63,7 +63,7 @@ place-row-requires c κs =
     let good = a .pre .here .holding .held .good in
     let next : ℕ = a .args .w .spread + a .args .w .jump in
     let fits : next < 4294967296 = omega (arith, a .pre .inside, widest-small (stack-of (a .args .stack)) good) in
-    let wide : longest (stack-of (a .args .stack) .strips) ≤ next = omega (arith, a .pre .here .walking .from) in
+    let wide : first-spread (stack-of (a .args .stack) .strips) ≤ next = omega (arith, a .pre .here .walking .from) in
     event-place-asks (a .args .stack) next _ _ _ _ _ (found .result) fits wide (a .pre .here .holding .held) (found .ensures) (omega (arith, a .pre .here .capped, a .pre .some)) (omega (arith, c .before .before .if1))
 
 put-placed-requires : tie.Need-put-placed-requires
@@ -81,11 +81,11 @@ returns-2 c =
     let good = a .pre .here .holding .held .good in
     let next : ℕ = a .args .w .spread + a .args .w .jump in
     let fits : next < 4294967296 = omega (arith, a .pre .inside, widest-small (stack-of (a .args .stack)) good) in
-    let wide : longest (stack-of (a .args .stack) .strips) ≤ next = omega (arith, a .pre .here .walking .from) in
+    let wide : first-spread (stack-of (a .args .stack) .strips) ≤ next = omega (arith, a .pre .here .walking .from) in
     let least = event-least (a .args .stack) next _ _ _ _ _ (found .result) fits wide (a .pre .here .holding .held) (found .ensures) (omega (arith, a .pre .here .capped, a .pre .some)) (omega (arith, c .before .before .before .before .before .before .before .if1)) in
     let row = c .before .before .put-placed in (
       record {
-        walking = stepped-down (stack-of (a .args .stack)) good _ (a .args .w) (a .pre .here .walking) next (found .result .jump) (found .ensures .scanned .jump-some) refl (a .pre .inside) (found .result .total) (row .result) _ (sym least) (omega (arith, c .before .before .before .before .before .before .before .if1, a .pre .some)) (event-stays (a .args .stack) next _ _ _ _ _ (found .result) fits wide (a .pre .here .holding .held) (found .ensures) (sym least)) (row .ensures);
+        walking = stepped-down (stack-of (a .args .stack)) good _ (a .args .w) (a .pre .here .walking) next (found .result .jump) (found .ensures .jump-some) refl (a .pre .inside) (found .result .total) (row .result) _ (sym least) (omega (arith, c .before .before .before .before .before .before .before .if1, a .pre .some)) (event-stays (a .args .stack) next _ _ _ _ _ (found .result) fits wide (a .pre .here .holding .held) (found .ensures) (sym least)) (row .ensures);
         holding = holds-on (a .args .stack) next _ _ _ _ _ (found .result) fits wide (a .pre .here .holding .held) (found .ensures);
         capped = omega (arith, c .before .before .before .before .before .before .before .if1, a .pre .here .capped);
       },
