@@ -32,10 +32,10 @@ const NARROW: u32 = 0;
 struct Input {
     name: String,
     text: Vec<u8>,
-    /// The longest strip: there the least total is greatest.
+    /// The first row's: there the least total is greatest.
     spread: u32,
     least: u32,
-    /// The steps that make the stack, without floors, and where the last of them begins.
+    /// The steps that make the stack, if it has neither floors nor windows, and where the last of them begins.
     steps: Vec<u8>,
     last_step: usize,
 }
@@ -66,8 +66,7 @@ fn steps(text: &[u8]) -> (Vec<u8>, usize) {
 
 fn input(path: &str) -> Input {
     let text = std::fs::read(path).expect("a stack to read");
-    let lengths = text.split(|b| *b == 10).filter_map(|l| l.strip_prefix(b"PART\t"));
-    let spread = lengths.map(|l| std::str::from_utf8(l).unwrap().parse().unwrap()).max().expect("strips");
+    let spread = solver::first_spread(&text).expect("a stack");
     let name = std::path::Path::new(path).file_stem().unwrap().to_string_lossy().into_owned();
     let least = solver::total(&text, spread).expect("a total");
     let (steps, last_step) = steps(&text);
@@ -222,7 +221,7 @@ fn report(counts: &str, paths: &[String], pages: bool) {
     }
 }
 
-/// A line for each stack, which has no floors: an added strip, the least total of the session, both, and the least total from the whole text.
+/// A line for each stack, which has neither floors nor windows: an added strip, the least total of the session, both, and the least total from the whole text.
 fn report_sessions(counts: &str, paths: &[String]) {
     let counts = instructions(counts);
     println!("{:8} {:>15} {:>15} {:>15} {:>15} {:>7}", "stack", "added strip", "total", "both", "text and total", "ratio");

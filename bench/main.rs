@@ -1,4 +1,5 @@
-//! `table`, `total`, `place`, `spread` and `page` print what the proved programs print; `generate` and `sized` make the inputs of the comparison.
+//! `table`, `total`, `place`, `spread` and `page` print what the proved programs print; `evaluations` how many rows a table has and how many spreads are
+//! evaluated for it; `generate` and `sized` make the inputs of the comparison.
 
 mod inputs;
 mod page;
@@ -11,6 +12,7 @@ const USAGE: &str = "usage: plain table < STACK
        plain place SPREAD TOTAL < STACK
        plain spread SPREAD < STACK
        plain page SPREAD CHANNEL < STACK
+       plain evaluations < STACK
        plain generate FOLDER
        plain sized CHANNELS PAIRS LENGTH";
 
@@ -49,6 +51,11 @@ fn place(text: &[u8], spread: u32, total: u32) -> Vec<u8> {
     }
 }
 
+/// The rows of a table and the spreads that are evaluated for it.
+fn evaluations(text: &[u8]) -> Vec<u8> {
+    solver::evaluations(text).map_or_else(refusal_text, |(rows, evaluations)| format!("{}\t{}\n", rows, evaluations).into_bytes())
+}
+
 /// The total and the placement together.
 fn spread(text: &[u8], spread: u32) -> Vec<u8> {
     solver::total(text, spread).map_or_else(refusal_text, |total| place(text, spread, total))
@@ -64,6 +71,7 @@ fn run(words: &[String]) -> Option<Vec<u8>> {
             let (number, channel) = (number.parse().ok()?, channel.parse().ok()?);
             Some(written(|out| page::page(&read_input(), number, channel, out)))
         }
+        [command] if command == "evaluations" => Some(evaluations(&read_input())),
         [command, folder] if command == "generate" => {
             for (name, text) in inputs::all() {
                 std::fs::write(format!("{}/{}.stack", folder, name), text).expect("a folder to write in");

@@ -11,14 +11,15 @@ const LIMITED: usize = PAIRS + 1;
 const TOTALS: usize = CHANNELS * LIMITED + 1;
 const GREATEST_FLOOR: i16 = 64;
 
-// Columns fit sixteen bits, so that a vector holds many: nine strips of 1,000 are 9,000 wide.
+// Columns fit sixteen bits, so that a vector holds many: nine strips of 1,000 beside a position of 9,999 are 18,999 wide. Where a separation may be closed,
+// sums stop at the ends of the sixteen bits.
 
 /// No start of a span that is not empty is greater, shifted back or not.
-const REACH: i16 = 10_000;
+const REACH: i16 = 20_000;
 /// A shift beyond every position, for a separation that is feasible at no offset or, turned about, at every one.
-const CLOSED: i16 = 14_000;
-/// The start of an empty span, which ends as far on the other side. No shift brings it within reach.
-const NOWHERE: i16 = 16_000;
+const CLOSED: i16 = 32_000;
+/// The start of an empty span, which ends as far on the other side. No shift by a strip's length brings it within reach, or beyond the sixteen bits.
+const NOWHERE: i16 = 31_000;
 
 /// Number, line and field.
 pub type Refusal = (u32, u32, u32);
@@ -26,6 +27,8 @@ pub type Refusal = (u32, u32, u32);
 pub struct Stack {
     pub k: usize,
     lengths: [i16; STRIPS],
+    /// The least and the greatest position; that of a free strip is nowhere.
+    windows: [[i16; 2]; STRIPS],
     pub counts: [usize; CHANNELS],
     pub lower: [[i16; PAIRS]; CHANNELS],
     pub upper: [[i16; PAIRS]; CHANNELS],
@@ -98,6 +101,23 @@ fn single<'a>(text: &'a [u8], at: u32, word: &[u8]) -> Result<(i16, &'a [u8]), R
     Ok((kept[0], behind))
 }
 
+/// The window of a strip that is free.
+const FREE: [i16; 2] = [0, NOWHERE];
+
+/// The length and the window of a strip.
+fn part(text: &[u8], at: u32) -> Result<(i16, [i16; 2], &[u8]), Refusal> {
+    let mut kept = [0; 3];
+    let (count, behind) = line(text, at, b"PART", |count| if count < 2 { 1 } else { 3 }, &mut kept)?;
+    let [length, least, greatest] = kept;
+    if !(1..=1000).contains(&length) {
+        return Err((4, at, 2));
+    }
+    if least > greatest {
+        return Err((14, at, 4));
+    }
+    Ok((length, if count == 1 { FREE } else { [least, greatest] }, behind))
+}
+
 /// The floors of k channels, from the lines behind line `at`.
 fn gaps(text: &[u8], k: usize, mut at: u32) -> Result<[usize; CHANNELS], Refusal> {
     let mut floors = [0; CHANNELS];
@@ -134,14 +154,12 @@ pub fn read(text: &[u8]) -> Result<Stack, Refusal> {
     }
     let k = k as usize;
     let none = [[0; PAIRS]; CHANNELS];
-    let mut stack = Stack { k, lengths: [0; STRIPS], counts: [0; CHANNELS], lower: none, upper: none, floors: [0; CHANNELS] };
+    let mut stack =
+        Stack { k, lengths: [0; STRIPS], windows: [FREE; STRIPS], counts: [0; CHANNELS], lower: none, upper: none, floors: [0; CHANNELS] };
     let mut at = 1;
-    for length in &mut stack.lengths[..=k] {
+    for (length, window) in stack.lengths.iter_mut().zip(&mut stack.windows).take(k + 1) {
         at += 1;
-        (*length, rest) = single(rest, at, b"PART")?;
-        if !(1..=1000).contains(length) {
-            return Err((4, at, 2));
-        }
+        (*length, *window, rest) = part(rest, at)?;
     }
     for i in 0..k {
         at += 1;
@@ -183,12 +201,14 @@ struct Limits {
     high: [i16; LIMITED],
     least: usize,
     count: usize,
+    /// Whether separation 0 has limits, and is not closed.
+    straight: bool,
 }
 
 fn limits(p: &[i16], q: &[i16], floor: usize) -> Limits {
     let m = p.len();
     let count = if m == 0 { 0 } else { (m + 1).saturating_sub(floor) };
-    let mut limits = Limits { low: [CLOSED; LIMITED], high: [-CLOSED; LIMITED], least: count, count };
+    let mut limits = Limits { low: [CLOSED; LIMITED], high: [-CLOSED; LIMITED], least: count, count, straight: false };
     for t in (floor.max(1)..=m).rev() {
         // Those that document 01 has for one track less.
         let less = t - 1;
@@ -216,48 +236,92 @@ impl Limits {
     /// Sets the limits of a separation less than all before.
     fn set(&mut self, t: usize, limits: (i16, i16)) {
         self.least = t;
+        self.straight = t == 0;
         (self.low[PAIRS - t], self.high[PAIRS - t]) = limits;
     }
 }
 
-/// The spans of one strip by total, half open: positions from which the strips above can be placed with at most that total.
+/// Positions from a start to below an end, and a growing end: in a spread wider by d the end is no further than it is or than the growing end is by d. The
+/// growing end is known only where strips are held; where all are free, it is the end itself.
+#[derive(Clone, Copy)]
+struct Span {
+    from: i16,
+    upto: i16,
+    grows: i16,
+}
+
+/// No positions, and no end that grows.
+const EMPTY: Span = Span { from: NOWHERE, upto: -NOWHERE, grows: -NOWHERE };
+
+impl Span {
+    fn is_open(&self) -> bool {
+        self.from < self.upto
+    }
+
+    /// What of it lies in a window. The growing end is that of the one that ends first, the window's where both end together.
+    fn within(&self, window: &Span) -> Span {
+        let grows = if self.upto < window.upto { self.grows } else { window.grows };
+        Span { from: self.from.max(window.from), upto: self.upto.min(window.upto), grows }
+    }
+
+    /// By how much the spread must grow before the end may come beyond a position.
+    fn lacks(&self, position: i16) -> i16 {
+        if self.upto > position {
+            return 0;
+        }
+        (position + 1).saturating_sub(self.grows)
+    }
+}
+
+/// The spans of one strip by total: positions from which the strips above can be placed with at most that total.
 /// That of total v is in place PAIRS + v, behind empty ones.
 #[derive(Clone, Copy)]
 struct Spans {
     from: [i16; PAIRS + TOTALS],
     upto: [i16; PAIRS + TOTALS],
+    grows: [i16; PAIRS + TOTALS],
 }
 
 impl Spans {
-    fn at(&self, v: usize) -> (i16, i16) {
-        (self.from[PAIRS + v], self.upto[PAIRS + v])
+    fn at(&self, v: usize) -> Span {
+        let place = PAIRS + v;
+        Span { from: self.from[place], upto: self.upto[place], grows: self.grows[place] }
     }
 
-    fn set(&mut self, v: usize, span: (i16, i16)) {
-        (self.from[PAIRS + v], self.upto[PAIRS + v]) = span;
+    fn set<const HELD: bool>(&mut self, v: usize, span: Span) {
+        let place = PAIRS + v;
+        (self.from[place], self.upto[place]) = (span.from, span.upto);
+        if HELD {
+            self.grows[place] = span.grows;
+        }
     }
 
     fn is_open(&self, v: usize) -> bool {
-        let (from, upto) = self.at(v);
-        from < upto
+        self.at(v).is_open()
     }
 
-    /// The nearest start and the furthest end of the spans for what separations below their count leave of total v, shifted back by the limits. Separation 0,
+    /// The nearest start and the furthest ends of the spans for what separations below their count leave of total v, shifted back by the limits. Separation 0,
     /// feasible in few channels, is left out of the loop, which then has as many turns as there are pairs: whole vectors.
-    fn shifted_back(&self, limits: &Limits, v: usize) -> (i16, i16) {
+    fn shifted_back<const HELD: bool>(&self, limits: &Limits, v: usize) -> Span {
         let from: &[i16; LIMITED] = self.from[v..v + LIMITED].try_into().unwrap();
         let upto: &[i16; LIMITED] = self.upto[v..v + LIMITED].try_into().unwrap();
-        let mut nearest = NOWHERE;
-        let mut furthest = -NOWHERE;
+        let grows: &[i16; LIMITED] = self.grows[v..v + LIMITED].try_into().unwrap();
+        let mut span = EMPTY;
         for place in 0..PAIRS {
-            nearest = nearest.min(from[place] - limits.high[place]);
-            furthest = furthest.max(upto[place] - limits.low[place]);
+            span.from = span.from.min(from[place].saturating_sub(limits.high[place]));
+            span.upto = span.upto.max(upto[place].saturating_sub(limits.low[place]));
+            if HELD {
+                span.grows = span.grows.max(grows[place].saturating_sub(limits.low[place]));
+            }
         }
-        if limits.least == 0 {
-            nearest = nearest.min(from[PAIRS] - limits.high[PAIRS]);
-            furthest = furthest.max(upto[PAIRS] - limits.low[PAIRS]);
+        if limits.straight {
+            span.from = span.from.min(from[PAIRS] - limits.high[PAIRS]);
+            span.upto = span.upto.max(upto[PAIRS] - limits.low[PAIRS]);
+            if HELD {
+                span.grows = span.grows.max(grows[PAIRS].saturating_sub(limits.low[PAIRS]));
+            }
         }
-        (nearest, furthest)
+        span
     }
 }
 
@@ -270,7 +334,9 @@ struct Solver {
     /// No total is less.
     least: usize,
     floors: [usize; CHANNELS],
-    windows: [i16; STRIPS],
+    held: [[i16; 2]; STRIPS],
+    /// The positions of each strip in the spread at hand.
+    windows: [Span; STRIPS],
     spans: [Spans; STRIPS],
 }
 
@@ -282,7 +348,7 @@ pub struct Placement {
 
 impl Solver {
     fn new(stack: &Stack) -> Solver {
-        let none = Limits { low: [0; LIMITED], high: [0; LIMITED], least: 0, count: 0 };
+        let none = Limits { low: [0; LIMITED], high: [0; LIMITED], least: 0, count: 0, straight: false };
         let mut solver = Solver {
             k: stack.k,
             lengths: stack.lengths,
@@ -290,8 +356,9 @@ impl Solver {
             most: [0; STRIPS],
             least: 0,
             floors: stack.floors,
-            windows: [0; STRIPS],
-            spans: [Spans { from: [NOWHERE; PAIRS + TOTALS], upto: [-NOWHERE; PAIRS + TOTALS] }; STRIPS],
+            held: stack.windows,
+            windows: [EMPTY; STRIPS],
+            spans: [Spans { from: [NOWHERE; PAIRS + TOTALS], upto: [-NOWHERE; PAIRS + TOTALS], grows: [-NOWHERE; PAIRS + TOTALS] }; STRIPS],
         };
         for i in (0..stack.k).rev() {
             let m = stack.counts[i];
@@ -302,17 +369,19 @@ impl Solver {
         solver
     }
 
-    fn longest(&self) -> i16 {
-        self.lengths.iter().copied().max().unwrap_or(0)
+    /// The narrowest spread in which every strip can stand.
+    fn first(&self) -> i16 {
+        self.lengths.iter().zip(&self.held).map(|(length, held)| length + held[0]).max().unwrap_or(0)
     }
 
+    /// Leftmost placements never reach beyond: in each run of strips that touch one is at its least position.
     fn widest(&self) -> i16 {
-        self.lengths.iter().sum()
+        self.held.iter().map(|held| held[0]).max().unwrap_or(0) + self.lengths.iter().sum::<i16>()
     }
 
-    /// A spread as far as it matters: leftmost placements never reach beyond the sum of the lengths.
+    /// A spread as far as it matters.
     fn within(&self, spread: u32) -> Result<i16, Refusal> {
-        if spread < self.longest() as u32 {
+        if spread < self.first() as u32 {
             return Err((7, 0, 0));
         }
         Ok(spread.min(self.widest() as u32) as i16)
@@ -320,50 +389,57 @@ impl Solver {
 
     /// Writes the span of strip i for total v. Answers by how much it is short, NOWHERE if it is not or is far from open.
     #[inline(always)]
-    fn cell(&mut self, i: usize, v: usize) -> i16 {
+    fn cell<const HELD: bool>(&mut self, i: usize, v: usize) -> i16 {
         let (own, above) = self.spans.split_at_mut(i + 1);
         let (own, above) = (&mut own[i], &above[0]);
         let limits = &self.limits[i];
-        let window = self.windows[i];
+        let window = &self.windows[i];
         if v > self.most[i] {
             // More than the channels above can use.
-            own.set(v, own.at(v - 1));
+            own.set::<HELD>(v, own.at(v - 1));
             return NOWHERE;
         }
         if v >= limits.count && above.is_open(v - limits.count) {
-            own.set(v, (0, window));
+            own.set::<HELD>(v, *window);
             return NOWHERE;
         }
-        let (nearest, furthest) = above.shifted_back(limits, v);
-        let (from, upto) = (nearest.max(0), furthest.min(window));
-        if from < upto {
-            own.set(v, (from, upto));
+        let reached = above.shifted_back::<HELD>(limits, v);
+        let span = reached.within(window);
+        if span.is_open() {
+            own.set::<HELD>(v, span);
             return NOWHERE;
         }
-        own.set(v, (NOWHERE, -NOWHERE));
-        if from <= REACH {
-            from + 1 - upto
+        own.set::<HELD>(v, EMPTY);
+        if span.from > REACH {
+            return NOWHERE;
+        }
+        if HELD {
+            reached.lacks(span.from).max(window.lacks(span.from))
         } else {
-            NOWHERE
+            span.from + 1 - span.upto
         }
     }
 
+    /// Where the greatest position is reached, a window's end does not grow.
     fn set_windows(&mut self, spread: i16) {
         for i in 0..=self.k {
-            self.windows[i] = spread + 1 - self.lengths[i];
+            let [least, greatest] = self.held[i];
+            let last = spread - self.lengths[i];
+            let upto = last.min(greatest) + 1;
+            self.windows[i] = Span { from: least, upto, grows: if last < greatest { upto } else { -NOWHERE } };
         }
     }
 
-    /// The first total that fits in a spread, and by how much the spread must grow before a smaller one may.
-    fn scan(&mut self, spread: i16) -> (usize, i16) {
+    /// The first total that fits in a spread, and by how much the spread must grow before a smaller one may: that needs the growing ends where strips are held.
+    fn scan<const HELD: bool>(&mut self, spread: i16) -> (usize, i16) {
         self.set_windows(spread);
-        let top = (0, self.windows[self.k]);
+        let top = self.windows[self.k];
         let mut jump = NOWHERE;
         for v in 0..=self.most[0] {
             let mut short = NOWHERE;
-            self.spans[self.k].set(v, top);
+            self.spans[self.k].set::<HELD>(v, top);
             for i in (0..self.k).rev() {
-                short = short.min(self.cell(i, v));
+                short = short.min(self.cell::<HELD>(i, v));
             }
             if self.spans[0].is_open(v) {
                 return (v, jump);
@@ -379,21 +455,21 @@ impl Solver {
         if total >= self.most[0] {
             return true;
         }
-        let top = (0, self.windows[self.k]);
+        let top = self.windows[self.k];
         for v in 0..=total {
-            self.spans[self.k].set(v, top);
+            self.spans[self.k].set::<false>(v, top);
             for i in (1..self.k).rev() {
-                self.cell(i, v);
+                self.cell::<false>(i, v);
             }
         }
-        self.cell(0, total);
+        self.cell::<false>(0, total);
         self.spans[0].is_open(total)
     }
 
     /// The span of a strip for a total: all of its window where the channels above may have their counts.
-    fn span(&self, i: usize, v: usize) -> (i16, i16) {
+    fn span(&self, i: usize, v: usize) -> Span {
         if v >= self.most[i] {
-            return (0, self.windows[i]);
+            return self.windows[i];
         }
         self.spans[i].at(v)
     }
@@ -404,15 +480,15 @@ impl Solver {
         let k = self.k;
         let mut placement = Placement { total, separations: [0; CHANNELS], positions: [0; STRIPS] };
         let mut left = total;
-        let mut span = (0, self.windows[0]);
+        let mut span = self.windows[0];
         for i in 0..k - 1 {
             let limits = &self.limits[i];
             let mut t = limits.least;
             loop {
                 let (low, high) = limits.at(t);
-                let (from, upto) = self.span(i + 1, left - t);
-                if from.max(span.0 + low) < upto.min(span.1 + high) {
-                    span = ((span.0 + low).max(0), (span.1 + high).min(self.windows[i + 1]));
+                let reached = Span { from: span.from + low, upto: span.upto.saturating_add(high), ..EMPTY };
+                if reached.within(&self.span(i + 1, left - t)).is_open() {
+                    span = reached.within(&self.windows[i + 1]);
                     break;
                 }
                 t += 1;
@@ -421,10 +497,10 @@ impl Solver {
             left -= t;
         }
         placement.separations[k - 1] = left;
-        let mut starts = [0; STRIPS];
+        let mut starts = self.windows.map(|window| window.from);
         for i in (0..k).rev() {
             let (_, high) = self.limits[i].at(placement.separations[i]);
-            starts[i] = (starts[i + 1] - high).max(0);
+            starts[i] = (starts[i + 1] - high).max(starts[i]);
         }
         placement.positions[0] = starts[0];
         for i in 0..k {
@@ -442,15 +518,21 @@ impl Solver {
 /// The placement with the least total at a spread.
 pub fn placement(stack: &Stack, spread: u32) -> Result<Placement, Refusal> {
     let mut solver = Solver::new(stack);
-    let (total, _) = solver.scan(solver.within(spread)?);
+    let (total, _) = solver.scan::<false>(solver.within(spread)?);
     Ok(solver.place(total))
+}
+
+/// The first row's spread.
+#[allow(dead_code)]
+pub fn first_spread(text: &[u8]) -> Result<u32, Refusal> {
+    Ok(Solver::new(&read(text)?).first() as u32)
 }
 
 /// The least total at a spread.
 pub fn total(text: &[u8], spread: u32) -> Result<u32, Refusal> {
     let stack = read(text)?;
     let mut solver = Solver::new(&stack);
-    let (total, _) = solver.scan(solver.within(spread)?);
+    let (total, _) = solver.scan::<false>(solver.within(spread)?);
     Ok((total + stack.floors.iter().sum::<usize>()) as u32)
 }
 
@@ -488,10 +570,10 @@ impl Line {
         line
     }
 
-    /// A tab and a number below 10,000.
+    /// A tab and a number below 100,000.
     fn number(&mut self, value: u32) {
-        let digits = [value / 1000, value / 100 % 10, value / 10 % 10, value % 10];
-        let skipped = (value < 10) as usize + (value < 100) as usize + (value < 1000) as usize;
+        let digits = [value / 10000, value / 1000 % 10, value / 100 % 10, value / 10 % 10, value % 10];
+        let skipped = (value < 10) as usize + (value < 100) as usize + (value < 1000) as usize + (value < 10000) as usize;
         self.byte(b'\t');
         for digit in &digits[skipped..] {
             self.byte(b'0' + *digit as u8);
@@ -525,23 +607,54 @@ fn write_row(out: &mut [u8], at: usize, k: usize, spread: i16, placement: &Place
     line.end(out, at)
 }
 
+/// Hands on each row's spread and placement; how many spreads were evaluated.
+fn walk<const HELD: bool>(solver: &mut Solver, mut row: impl FnMut(i16, &Placement) -> Result<(), Refusal>) -> Result<usize, Refusal> {
+    let mut least = usize::MAX;
+    let mut spread = solver.first();
+    let widest = solver.widest();
+    let mut evaluations = 0;
+    while spread <= widest && least > solver.least {
+        let (total, jump) = solver.scan::<HELD>(spread);
+        evaluations += 1;
+        if total < least {
+            least = total;
+            row(spread, &solver.place(total))?;
+        }
+        spread = spread.saturating_add(jump);
+    }
+    Ok(evaluations)
+}
+
+/// The same, with growing ends only where a strip is held.
+fn walk_rows(stack: &Stack, row: impl FnMut(i16, &Placement) -> Result<(), Refusal>) -> Result<usize, Refusal> {
+    let mut solver = Solver::new(stack);
+    if stack.windows.iter().all(|window| *window == FREE) {
+        walk::<false>(&mut solver, row)
+    } else {
+        walk::<true>(&mut solver, row)
+    }
+}
+
+/// How many rows a table has, and how many spreads are evaluated for it.
+#[allow(dead_code)]
+pub fn evaluations(text: &[u8]) -> Result<(usize, usize), Refusal> {
+    let mut rows = 0;
+    let evaluations = walk_rows(&read(text)?, |_, _| {
+        rows += 1;
+        Ok(())
+    })?;
+    Ok((rows, evaluations))
+}
+
 fn write_table(text: &[u8], out: &mut [u8]) -> Result<usize, Refusal> {
     let stack = read(text)?;
-    let mut solver = Solver::new(&stack);
     let mut line = Line::new(b"TABLE");
     line.number(stack.k as u32);
     let mut at = line.end(out, 0)?;
-    let mut least = usize::MAX;
-    let mut spread = solver.longest();
-    let widest = solver.widest();
-    while spread <= widest && least > solver.least {
-        let (total, jump) = solver.scan(spread);
-        if total < least {
-            least = total;
-            at = write_row(out, at, stack.k, spread, &solver.place(total))?;
-        }
-        spread += jump;
-    }
+    walk_rows(&stack, |spread, placement| {
+        at = write_row(out, at, stack.k, spread, placement)?;
+        Ok(())
+    })?;
     Ok(at)
 }
 

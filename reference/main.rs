@@ -117,7 +117,7 @@ fn trial(text: &[u8], spread: i64, placement: &[u32]) -> Option<String> {
     Some(if legal { "legal\n" } else { "not legal\n" }.to_string())
 }
 
-/// The steps that make the session of a stack, without its floors.
+/// The steps that make the session of a stack, without its floors and windows.
 fn steps(text: &[u8]) -> String {
     text_or_refusal(reader::read(text).map(|stack| session::text(&session::steps_to(&stack))))
 }
@@ -199,15 +199,28 @@ fn check_specimens() -> bool {
     good
 }
 
-/// The two ways to place strips, at every spread of random small stacks and for several totals; how many spreads and placements, or the first stack at which
-/// they differ.
+/// A stack for which trying every position is soon done.
+fn small_stack(random: &mut Random) -> reader::Stack {
+    loop {
+        let k = 1 + random.below(3);
+        let stack = random.stack(k, 12 - 2 * k as i64, 4);
+        if solver::small(&stack) {
+            return stack;
+        }
+    }
+}
+
+/// The two ways to place strips and to find rows, at every spread of random small stacks and for several totals; how many spreads and placements, or the first
+/// stack at which they differ.
 fn check_agreement(seed: u64, count: usize) -> Result<(usize, usize), Vec<u8>> {
     let mut random = Random(seed);
     let (mut spreads, mut placements) = (0, 0);
     for _ in 0..count {
-        let k = 1 + random.below(3);
-        let stack = random.stack(k, 12 - 2 * k as i64, 4);
-        for spread in solver::longest(&stack)..=solver::widest(&stack) + 3 {
+        let stack = small_stack(&mut random);
+        if solver::rows(&stack, true) != solver::rows(&stack, false) {
+            return Err(random.text(&stack));
+        }
+        for spread in solver::first(&stack)..=solver::widest(&stack) + 3 {
             let least = solver::least_total(&stack, spread, true);
             let totals = random.totals(&stack, least as u32);
             let place = |total: &u32, brute: bool| solver::place(&stack, spread, *total as usize, brute);

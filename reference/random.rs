@@ -1,8 +1,19 @@
-//! Random stacks, their texts and totals, each from a seed. Half of the stacks have floors.
+//! Random stacks, their texts and totals, each from a seed. Half of the stacks have floors, and half have windows, whether they have floors or not.
 
 use crate::channel::Pair;
-use crate::reader::{self, Stack};
+use crate::reader::{self, Stack, Window};
 use crate::solver::free_total;
+
+/// The greatest position that can be written.
+const LAST_POSITION: i64 = 9999;
+
+/// How the strips of a stack are held: near the left; so, with greatest positions anywhere beyond; or anywhere.
+#[derive(Clone, Copy, PartialEq)]
+enum Held {
+    Near,
+    Beyond,
+    Anywhere,
+}
 
 /// SplitMix64.
 pub struct Random(pub u64);
@@ -66,7 +77,7 @@ impl Random {
         p.into_iter().zip(q).collect()
     }
 
-    /// A stack of k channels, strips up to a length, and up to so many pairs in each channel.
+    /// A stack of k channels, strips up to a length, and up to so many pairs in each channel. Windows near the left begin within one length more.
     pub fn stack(&mut self, k: usize, longest: i64, pairs: usize) -> Stack {
         let first = self.between(1, longest);
         let style = self.below(6);
@@ -78,7 +89,7 @@ impl Random {
         };
         let lengths: Vec<i64> = (0..=k).map(|_| length(self)).collect();
         let channels = (0..k).map(|i| self.channel(lengths[i], lengths[i + 1], pairs)).collect();
-        self.with_floors(lengths, channels)
+        self.limited(lengths, channels, 2 * longest, true)
     }
 
     /// A floor for a channel of m pairs: small, 1 the most often, or below half their count; unless it is to be low, also below their count or about one more,
@@ -95,24 +106,67 @@ impl Random {
         floor.min(64)
     }
 
-    /// The stack of these strips and channels, in half of the cases with floors: in one channel, in some, in each, or the same in each. One
-    /// at least is not 0.
-    pub fn with_floors(&mut self, lengths: Vec<i64>, channels: Vec<Vec<Pair>>) -> Stack {
+    /// Floors of channels: in one, in some, in each, or the same in each. One at least is not 0.
+    fn floors(&mut self, channels: &[Vec<Pair>]) -> Vec<usize> {
+        let (style, one, low) = (self.below(4), self.below(channels.len()), self.chance(2));
+        let equal = self.floor(channels[one].len(), low);
         let mut floors = vec![0; channels.len()];
-        if self.chance(2) {
-            let (style, one, low) = (self.below(4), self.below(channels.len()), self.chance(2));
-            let equal = self.floor(channels[one].len(), low);
-            for (i, floor) in floors.iter_mut().enumerate() {
-                *floor = match style {
-                    0 if i != one => 0,
-                    1 if self.chance(2) => 0,
-                    2 => equal,
-                    _ => self.floor(channels[i].len(), low),
-                };
-            }
-            floors[one] = floors[one].max(1);
+        for (i, floor) in floors.iter_mut().enumerate() {
+            *floor = match style {
+                0 if i != one => 0,
+                1 if self.chance(2) => 0,
+                2 => equal,
+                _ => self.floor(channels[i].len(), low),
+            };
         }
-        Stack { lengths, channels, floors }
+        floors[one] = floors[one].max(1);
+        floors
+    }
+
+    /// A window that begins at a position up to this: of one position, of some, or up to where it may end.
+    fn window(&mut self, last: i64, held: Held) -> Window {
+        let (last, end) = match held {
+            Held::Near => (last, last + 4),
+            Held::Beyond => (last, LAST_POSITION),
+            Held::Anywhere => (LAST_POSITION, LAST_POSITION),
+        };
+        let least = match self.below(4) {
+            0 => 0,
+            1 => last,
+            _ => self.between(0, last),
+        };
+        let greatest = match self.below(4) {
+            0 => least,
+            1 => (least + self.between(0, 5)).min(end),
+            2 => end,
+            _ => self.between(least, end),
+        };
+        (least, greatest)
+    }
+
+    /// Windows of strips: of one, of some, of each, or the same of each, all held alike. Near the left a strip lies within a spread. One strip at least is held.
+    fn windows(&mut self, lengths: &[i64], spread: i64, far: bool) -> Vec<Option<Window>> {
+        let held = [Held::Near, Held::Near, Held::Beyond, Held::Anywhere][self.below(if far { 4 } else { 3 })];
+        let (style, one) = (self.below(4), self.below(lengths.len()));
+        let equal = self.window(spread - lengths.iter().max().unwrap(), held);
+        let mut windows = vec![None; lengths.len()];
+        for (i, window) in windows.iter_mut().enumerate() {
+            *window = match style {
+                0 if i != one => None,
+                1 if i != one && self.chance(2) => None,
+                2 => Some(equal),
+                _ => Some(self.window(spread - lengths[i], held)),
+            };
+        }
+        windows
+    }
+
+    /// The stack of these strips and channels, in half of the cases with floors, in half with windows: those near the left begin where the strip lies within a
+    /// spread, and if there may be such, others anywhere.
+    pub fn limited(&mut self, lengths: Vec<i64>, channels: Vec<Vec<Pair>>, spread: i64, far: bool) -> Stack {
+        let floors = if self.chance(2) { self.floors(&channels) } else { vec![0; channels.len()] };
+        let windows = if self.chance(2) { self.windows(&lengths, spread, far) } else { vec![None; lengths.len()] };
+        Stack { lengths, windows, channels, floors }
     }
 
     /// Totals to be stated, where this is the least: about it, about the sum of the separations that are feasible at every offset, anywhere, and the greatest.

@@ -1,10 +1,15 @@
-//! A stack's text, read by document 01, "Lines and tabs" and "Sent back at the counter", and document 02, P2 and P5, and written.
+//! A stack's text, read by document 01, "Lines and tabs" and "Sent back at the counter", and document 02, P2, P5 and P7, and written.
 
 use crate::channel::Pair;
+
+/// The least and the greatest position allowed.
+pub type Window = (i64, i64);
 
 #[derive(Clone, Debug, PartialEq)]
 pub struct Stack {
     pub lengths: Vec<i64>,
+    /// By strip, none where it is free.
+    pub windows: Vec<Option<Window>>,
     pub channels: Vec<Vec<Pair>>,
     /// By channel, 0 without a `GAP` line.
     pub floors: Vec<usize>,
@@ -87,6 +92,15 @@ pub fn length(value: i64, line: u32) -> Result<i64, Refusal> {
     Ok(value)
 }
 
+/// The window in fields 3 and 4 of a line, by what is behind its length: two numbers or none.
+fn window(values: &[i64], line: u32) -> Result<Option<Window>, Refusal> {
+    match values {
+        [least, greatest] if least > greatest => Err((14, line, 4)),
+        [least, greatest] => Ok(Some((*least, *greatest))),
+        _ => Ok(None),
+    }
+}
+
 /// The pairs of a channel between strips of these lengths, by its terminals, of which there is an even number: from field 2 of a line on.
 pub fn nets(values: &[i64], lower: i64, upper: i64, line: u32) -> Result<Vec<Pair>, Refusal> {
     if values.len() > 64 {
@@ -135,10 +149,11 @@ pub fn read(text: &[u8]) -> Result<Stack, Refusal> {
         return Err((3, 1, 2));
     }
     let k = head[0] as usize;
-    let mut stack = Stack { lengths: Vec::new(), channels: Vec::new(), floors: Vec::new() };
+    let mut stack = Stack { lengths: Vec::new(), windows: Vec::new(), channels: Vec::new(), floors: Vec::new() };
     for at in 2..=k + 2 {
-        let part = numbers(&lines, at, "PART", [2].into_iter())?;
+        let part = numbers(&lines, at, "PART", [2, 4].into_iter())?;
         stack.lengths.push(length(part[0], at as u32)?);
+        stack.windows.push(window(&part[1..], at as u32)?);
     }
     for c in 0..k {
         let at = k + 3 + c;
@@ -164,8 +179,11 @@ pub fn terminals(channel: &[Pair]) -> Vec<i64> {
 /// The text of a stack without `GAP` lines.
 pub fn text(stack: &Stack) -> String {
     let mut text = line("STACK", &[stack.channels.len() as i64]);
-    for length in &stack.lengths {
-        text += &line("PART", &[*length]);
+    for (length, window) in stack.lengths.iter().zip(&stack.windows) {
+        text += &match window {
+            Some((least, greatest)) => line("PART", &[*length, *least, *greatest]),
+            None => line("PART", &[*length]),
+        };
     }
     for channel in &stack.channels {
         text += &line("NETS", &terminals(channel));

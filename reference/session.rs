@@ -74,12 +74,13 @@ impl Session {
         nets(terminals, top, upper, 0)
     }
 
-    /// The same stack: a single strip is one without channels. Every floor is 0.
+    /// The same stack: a single strip is one without channels. Every floor is 0, every strip free.
     pub fn stack(&self) -> Result<Stack, Refusal> {
         if self.lengths.is_empty() {
             return Err((13, 0, 0));
         }
-        Ok(Stack { lengths: self.lengths.clone(), channels: self.channels.clone(), floors: vec![0; self.channels.len()] })
+        let (windows, floors) = (vec![None; self.lengths.len()], vec![0; self.channels.len()]);
+        Ok(Stack { lengths: self.lengths.clone(), windows, channels: self.channels.clone(), floors })
     }
 
     /// The least total at a spread.
@@ -134,7 +135,7 @@ pub fn prefixes(all: &[u8]) -> Vec<String> {
     (1..=steps.len()).map(|n| text(&steps[..n])).collect()
 }
 
-/// The steps that make the session of a stack, without its floors.
+/// The steps that make the session of a stack, without its floors and windows.
 pub fn steps_to(stack: &Stack) -> Vec<Step> {
     let add = |(length, channel): (&i64, &Vec<Pair>)| Step::Add(*length, terminals(channel));
     let added = stack.lengths[1..].iter().zip(&stack.channels).map(add);

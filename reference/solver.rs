@@ -17,9 +17,18 @@ fn wired_in(stack: &Stack, i: usize, t: usize, offset: i64, wired: Condition) ->
     t >= stack.floors[i] && wired(&stack.channels[i], t, offset)
 }
 
-/// Whether a placement lies within the spread and every channel keeps its floor and a condition.
+/// The first and the last position of strip i in a spread: its window, as far as the strip then lies within the spread. None are left where the last is less.
+fn room(stack: &Stack, i: usize, spread: i64) -> (i64, i64) {
+    let last = spread - stack.lengths[i];
+    stack.windows[i].map_or((0, last), |(least, greatest)| (least, greatest.min(last)))
+}
+
+/// Whether a placement lies within the spread and the windows and every channel keeps its floor and a condition.
 pub fn legal_by(stack: &Stack, spread: i64, separations: &[usize], positions: &[i64], wired: Condition) -> bool {
-    let within = positions.iter().zip(&stack.lengths).all(|(x, l)| *x >= 0 && x + l <= spread);
+    let within = positions.iter().enumerate().all(|(i, x)| {
+        let (first, last) = room(stack, i, spread);
+        first <= *x && *x <= last
+    });
     within && separations.iter().enumerate().all(|(i, t)| wired_in(stack, i, *t, positions[i + 1] - positions[i], wired))
 }
 
@@ -33,7 +42,8 @@ fn place_by_trying(stack: &Stack, spread: i64, separations: &[usize], placed: &m
     if i == stack.lengths.len() {
         return true;
     }
-    for x in 0..=spread - stack.lengths[i] {
+    let (first, last) = room(stack, i, spread);
+    for x in first..=last {
         if i > 0 && !wired_in(stack, i - 1, separations[i - 1], x - placed[i - 1], &feasible) {
             continue;
         }
@@ -53,14 +63,15 @@ fn place_by_ranges(stack: &Stack, spread: i64, separations: &[usize]) -> Option<
     let far = spread + 5000;
     let limits = |i: usize| limits(&stack.channels[i], separations[i]).unwrap_or((-far, far));
     let mut ranges = vec![(0, 0); n];
-    ranges[n - 1] = (0, spread - stack.lengths[n - 1]);
+    ranges[n - 1] = room(stack, n - 1, spread);
     for i in (0..n - 1).rev() {
         let (l, r) = limits(i);
         let (lo, up) = ranges[i + 1];
         if l > r || lo > up {
             return None;
         }
-        ranges[i] = ((lo - r).max(0), (up - l).min(spread - stack.lengths[i]));
+        let (first, last) = room(stack, i, spread);
+        ranges[i] = ((lo - r).max(first), (up - l).min(last));
     }
     if ranges[0].0 > ranges[0].1 {
         return None;
@@ -79,13 +90,18 @@ fn least_open(stack: &Stack, i: usize) -> usize {
 }
 
 /// The least separation of a channel that is feasible at every offset: its floor, or one more than its pairs where it has any.
-fn least_free(stack: &Stack, i: usize) -> usize {
+pub fn least_free(stack: &Stack, i: usize) -> usize {
     (stack.floors[i]..).find(|t| limits(&stack.channels[i], *t).is_none()).expect("a separation")
 }
 
-/// The sum of these over the channels: from such a total on nothing keeps a strip from the left.
+/// The sum of these over the channels: from such a total on every strip may stand at its first position.
 pub fn free_total(stack: &Stack) -> usize {
     (0..stack.channels.len()).map(|i| least_free(stack, i)).sum()
+}
+
+/// The sum of the least separations that are feasible at some offset: no total is less.
+pub fn open_total(stack: &Stack) -> usize {
+    (0..stack.channels.len()).map(|i| least_open(stack, i)).sum()
 }
 
 /// So much of a total is little: `brute` then tries all of it in each channel.
@@ -133,13 +149,25 @@ pub fn longest(stack: &Stack) -> i64 {
     *stack.lengths.iter().max().unwrap()
 }
 
-pub fn widest(stack: &Stack) -> i64 {
-    stack.lengths.iter().sum()
+/// The first row's spread: the greatest, over all strips, of length and least position. A free strip may stand at 0.
+pub fn first(stack: &Stack) -> i64 {
+    let ends = stack.lengths.iter().zip(&stack.windows).map(|(length, window)| length + window.map_or(0, |w| w.0));
+    ends.max().unwrap()
 }
 
-/// Whether trying every position is soon done, at spreads up to a little above the sum of the lengths.
+/// No row's spread is greater. Where a channel has limits its two strips touch; with the same separations a run of touching strips can be moved left until one of
+/// them is at its least position, and then ends here at the latest.
+pub fn widest(stack: &Stack) -> i64 {
+    let greatest = stack.windows.iter().flatten().map(|w| w.1).max().unwrap_or(0);
+    greatest + stack.lengths.iter().sum::<i64>()
+}
+
+/// No row's spread of any stack is greater: nine strips of 1,000 beside the greatest position that can be written.
+const LAST_SPREAD: i64 = 9_999 + 9 * 1_000;
+
+/// Whether trying every position is soon done, at spreads up to a little above the last row's.
 pub fn small(stack: &Stack) -> bool {
-    stack.channels.len() <= 3 && longest(stack) <= 12 && stack.channels.iter().all(|c| c.len() <= 4)
+    stack.channels.len() <= 3 && longest(stack) <= 12 && widest(stack) <= 48 && stack.channels.iter().all(|c| c.len() <= 4)
 }
 
 /// The placement in a spread for a stated total, by the tie rule, or None if no legal placement has that total; `brute` tries every position.
@@ -149,10 +177,15 @@ pub fn place(stack: &Stack, spread: i64, total: usize, brute: bool) -> Option<An
     Some(Answer { total, separations, positions })
 }
 
-/// The least total that a legal placement has, in a spread from the longest strip upward.
+/// The least total that a legal placement has, in a spread from the first row's upward, where none below a total is to be tried.
+fn least_from(stack: &Stack, spread: i64, lowest: usize, brute: bool) -> usize {
+    // With separations that are feasible at every offset each strip may stand at its least position, so some total is met.
+    (lowest..).find(|total| place(stack, spread, *total, brute).is_some()).expect("a total")
+}
+
+/// The least total that a legal placement has, in a spread from the first row's upward.
 pub fn least_total(stack: &Stack, spread: i64, brute: bool) -> usize {
-    // With separations that are feasible at every offset each strip may stand at the left, so some total is met.
-    (0..).find(|total| place(stack, spread, *total, brute).is_some()).expect("a total")
+    least_from(stack, spread, if brute { 0 } else { open_total(stack) }, brute)
 }
 
 /// The two together: the placement with the least total.
@@ -165,9 +198,9 @@ pub fn brute(stack: &Stack, spread: i64) -> bool {
     small(stack) && spread <= widest(stack) + 3
 }
 
-/// Refused as narrow below the longest strip.
+/// Refused as narrow below the first row's spread.
 pub fn within_spread(stack: &Stack, spread: i64) -> Result<(), Refusal> {
-    if spread < longest(stack) {
+    if spread < first(stack) {
         return Err((7, 0, 0));
     }
     Ok(())
@@ -185,16 +218,51 @@ pub fn place_at(stack: &Stack, spread: i64, total: usize) -> Result<Answer, Refu
     place(stack, spread, total, brute(stack, spread)).ok_or((10, 0, 0))
 }
 
-/// The rows of the table: every spread up to past the sum of the lengths is tried, beyond which nothing falls.
-pub fn rows(stack: &Stack, brute: bool) -> Vec<(i64, Answer)> {
-    let mut rows: Vec<(i64, Answer)> = Vec::new();
-    for spread in longest(stack)..=widest(stack) + 3 {
-        let total = least_total(stack, spread, brute);
-        if rows.last().map_or(true, |(_, last)| total < last.total) {
-            rows.push((spread, place(stack, spread, total, brute).expect("a placement with the least total")));
+/// A spread and its least total.
+type Event = (i64, usize);
+
+/// The spreads behind one and up to another at which the total falls. What is legal in a spread is so in a wider one, so no total rises, and between two equal
+/// ones all are equal.
+fn falls_between(stack: &Stack, from: Event, upto: Event, falls: &mut Vec<Event>) {
+    if from.1 == upto.1 {
+        return;
+    }
+    let spread = (from.0 + upto.0) / 2;
+    if spread == from.0 {
+        falls.push(upto);
+        return;
+    }
+    let between = (spread, least_from(stack, spread, upto.1, false));
+    falls_between(stack, from, between, falls);
+    falls_between(stack, between, upto, falls);
+}
+
+/// The same from the first row on, every spread tried up to past the last at which a total can fall.
+fn falls_by_trying(stack: &Stack) -> Vec<Event> {
+    let mut falls: Vec<Event> = Vec::new();
+    for spread in first(stack)..=widest(stack) + 3 {
+        let total = least_total(stack, spread, true);
+        if falls.last().map_or(true, |last| total < last.1) {
+            falls.push((spread, total));
         }
     }
-    rows
+    falls
+}
+
+/// The rows of the table; `brute` tries every spread, and every position.
+pub fn rows(stack: &Stack, brute: bool) -> Vec<(i64, Answer)> {
+    let falls = if brute {
+        falls_by_trying(stack)
+    } else {
+        let [from, upto] = [first(stack), LAST_SPREAD].map(|spread| (spread, least_total(stack, spread, false)));
+        let mut falls = vec![from];
+        falls_between(stack, from, upto, &mut falls);
+        falls
+    };
+    falls
+        .into_iter()
+        .map(|(spread, total)| (spread, place(stack, spread, total, brute).expect("a placement with the least total")))
+        .collect()
 }
 
 pub fn row_text(spread: i64, a: &Answer) -> String {

@@ -1,5 +1,5 @@
 //! The specimens of document 01 with P4's tracks: a stack's text with what it is answered, their pages by P1 too; then with floors, by P2, and for greater
-//! totals, by P3; faults of layout by P5; sessions by P6.
+//! totals, by P3; faults of layout by P5; sessions by P6; windows by P7.
 //! Tabs are written as spaces here.
 
 /// Specimen A's text, and lines behind it.
@@ -23,6 +23,13 @@ macro_rules! d {
     };
 }
 
+/// Specimen A with other `PART` lines.
+macro_rules! held {
+    ($lower:literal, $upper:literal) => {
+        concat!("STACK 1\nPART ", $lower, "\nPART ", $upper, "\nNETS 0 2 2 4\n")
+    };
+}
+
 const A_TABLE: &str = "TABLE 1\nROW 4 3 3 0 0\nROW 5 2 2 1 0\nROW 6 0 0 2 0\n";
 const FLOOR_1: &str = a!("GAP 1 1\n");
 const FLOOR_2: &str = a!("GAP 1 2\n");
@@ -35,9 +42,16 @@ const FLOOR_ABOVE: &str = b!("GAP 2 1\n");
 const NO_PAIRS: &str = "STACK 1\nPART 3\nPART 5\nNETS\nGAP 1 3\n";
 const NO_PAIRS_1: &str = "STACK 1\nPART 3\nPART 5\nNETS\nGAP 1 1\n";
 const D_FLOOR_1: &str = d!("GAP 1 1\n");
+const FROM_1: &str = held!("4 1 3", "4");
+const AT_0: &str = held!("4 0 0", "4");
+const UPPER_AT_3: &str = held!("4", "4 3 3");
+const UPPER_LAST: &str = held!("4", "4 9999 9999");
+const APART: &str = held!("4 0 1", "4 5 9");
+const MIDDLE_AT_2: &str = "STACK 2\nPART 4\nPART 4 2 2\nPART 4\nNETS 0 2 2 4\nNETS 0 2 2 4\n";
+const LONG_LAST: &str = "STACK 1\nPART 1000 9999 9999\nPART 1000\nNETS\n";
 
 /// The text, and the table or the refusal's line.
-pub const TABLES: [(&str, &str, &str); 43] = [
+pub const TABLES: [(&str, &str, &str); 70] = [
     ("A", a!(""), A_TABLE),
     ("B", b!(""), "TABLE 2\nROW 4 6 3 3 0 0 0\nROW 5 5 2 3 1 0 0\nROW 6 3 0 3 2 0 0\nROW 7 2 0 2 3 1 0\nROW 8 0 0 0 4 2 0\n"),
     ("C", "STACK 1\nPART 3\nPART 5\nNETS\n", "TABLE 1\nROW 5 0 0 0 0\n"),
@@ -80,7 +94,7 @@ pub const TABLES: [(&str, &str, &str); 43] = [
     ("NETS and a lone tab", "STACK 1\nPART 4\nPART 4\nNETS \n", "11 4 3\n"),
     ("NETS with an ill-formed number", "STACK 1\nPART 4\nPART 4\nNETS 9 2 x 4\n", "12 4 4\n"),
     ("PART without a length", "STACK 1\nPART 4\nPART\nNETS\n", "11 3 2\n"),
-    ("PART with a number more", "STACK 1\nPART 0 4\nPART\nNETS\n", "11 2 3\n"),
+    ("PART with a number more", "STACK 1\nPART 0 4\nPART\nNETS\n", "11 2 4\n"),
     ("STACK and a lone tab", "STACK \n", "12 1 2\n"),
     ("STACK unended", "STACK", "2 1 0\n"),
     ("GAP before NETS", "STACK 1\nPART 4\nPART 4\nGAP 1 1\nNETS 0 2 2 4\n", "2 4 0\n"),
@@ -96,10 +110,44 @@ pub const TABLES: [(&str, &str, &str); 43] = [
         "STACK 2\nPART 8\nPART 8\nPART 8\nNETS 0 4 4 8\nNETS 0 4 4 8\n",
         "TABLE 2\nROW 8 6 3 3 0 0 0\nROW 9 5 2 3 1 0 0\nROW 10 4 2 2 2 1 0\nROW 12 3 0 3 4 0 0\nROW 13 2 0 2 5 1 0\nROW 16 0 0 0 8 4 0\n",
     ),
+    ("A, the lower strip at 1 to 3", FROM_1, "TABLE 1\nROW 5 2 2 1 0\nROW 6 0 0 2 0\n"),
+    // No offset is below 0, and three tracks are needed for ever.
+    ("A, the lower strip at 0", AT_0, "TABLE 1\nROW 4 3 3 0 0\n"),
+    ("A, the lower strip at 0 to 9,999", held!("4 0 9999", "4"), A_TABLE),
+    ("A, the lower strip at 2 to 9,999", held!("4 2 9999", "4"), "TABLE 1\nROW 6 0 0 2 0\n"),
+    ("A, the lower strip at 1", held!("4 1 1", "4"), "TABLE 1\nROW 5 2 2 1 0\n"),
+    ("A, the upper strip at 3", UPPER_AT_3, "TABLE 1\nROW 7 3 3 0 3\nROW 8 2 2 4 3\nROW 9 0 0 5 3\n"),
+    ("A, the upper strip at 9,999", UPPER_LAST, "TABLE 1\nROW 10003 3 3 0 9999\nROW 10004 2 2 10000 9999\nROW 10005 0 0 10001 9999\n"),
+    // A free strip may stand beyond 9,999, this one not.
+    ("A, the upper strip at 9,999, the lower at 0 to 9,999", held!("4 0 9999", "4 9999 9999"), "TABLE 1\nROW 10003 3 3 0 9999\n"),
+    ("A, windows apart", APART, "TABLE 1\nROW 9 3 3 0 5\n"),
+    // Past the sum of the lengths, 8: two strips that are straight stand at 7 and 5, or further right.
+    ("A, the upper strip from 5 on", held!("4", "4 5 9"), "TABLE 1\nROW 9 3 3 0 5\nROW 10 2 2 6 5\nROW 11 0 0 7 5\n"),
+    ("A, the lower strip at 1 to 3, floor 1", concat!(held!("4 1 3", "4"), "GAP 1 1\n"), "TABLE 1\nROW 5 2 2 1 0\nROW 6 1 1 2 0\n"),
+    ("A, the lower strip at 0, floor 4", concat!(held!("4 0 0", "4"), "GAP 1 4\n"), "TABLE 1\nROW 4 4 4 0 0\n"),
+    ("B, the middle strip at 2", MIDDLE_AT_2, "TABLE 2\nROW 6 3 3 0 0 2 0\nROW 7 2 2 0 3 2 0\nROW 8 0 0 0 4 2 0\n"),
+    (
+        "B, floors 2 and 5, windows",
+        "STACK 2\nPART 4 1 3\nPART 4\nPART 4 0 9\nNETS 0 2 2 4\nNETS 0 2 2 4\nGAP 1 2\nGAP 2 5\n",
+        "TABLE 2\nROW 5 7 2 5 1 0 0\n",
+    ),
+    ("C, both strips held", "STACK 1\nPART 3 4 6\nPART 5 0 9\nNETS\n", "TABLE 1\nROW 7 0 0 4 0\n"),
+    ("D, the lower strip at 5", "STACK 1\nPART 1 5 5\nPART 1\nNETS 1 0\n", "TABLE 1\nROW 6 2 2 5 0\nROW 7 0 0 5 6\n"),
+    ("length 1,000 at 9,999", LONG_LAST, "TABLE 1\nROW 10999 0 0 9999 0\n"),
+    ("a least position alone", held!("4 1", "4"), "11 2 4\n"),
+    ("a window and a number more", held!("4 1 3 5", "0"), "11 2 5\n"),
+    ("a window with an ill-formed least position", held!("0 x 1", "4"), "12 2 3\n"),
+    ("a window with an ill-formed greatest position", held!("0 3 01", "4"), "12 2 4\n"),
+    ("a window with five digits", held!("4 1 10000", "4"), "12 2 4\n"),
+    ("a length before its window", held!("0 3 1", "4"), "4 2 2\n"),
+    ("a least position above the greatest", held!("4 3 1", "x"), "14 2 4\n"),
+    ("a least position one above the greatest", held!("4", "4 9999 9998"), "14 3 4\n"),
+    ("a fault before a least position above the greatest", held!("4 x 1", "4 3 1"), "12 2 3\n"),
+    ("a length before a later window", held!("1001", "4 3 1"), "4 2 2\n"),
 ];
 
 /// The text, a spread, and the row or the refusal's line.
-pub const SPREADS: [(&str, &str, u32, &str); 13] = [
+pub const SPREADS: [(&str, &str, u32, &str); 26] = [
     ("A at 3", TABLES[0].1, 3, "7 0 0\n"),
     ("A at 100", TABLES[0].1, 100, "ROW 100 0 0 2 0\n"),
     ("B at 6", TABLES[1].1, 6, "ROW 6 3 0 3 2 0 0\n"),
@@ -113,6 +161,19 @@ pub const SPREADS: [(&str, &str, u32, &str); 13] = [
     ("B, floor 1 below, at 9", FLOOR_BELOW, 9, "ROW 9 1 1 0 4 2 0\n"),
     ("B, floor 1 above, at 8", FLOOR_ABOVE, 8, "ROW 8 1 0 1 4 2 0\n"),
     ("D, floor 1, at 3", D_FLOOR_1, 3, "ROW 3 1 1 0 1\n"),
+    ("A, the lower strip at 1 to 3, at 4", FROM_1, 4, "7 0 0\n"),
+    ("A, the lower strip at 1 to 3, at 5", FROM_1, 5, "ROW 5 2 2 1 0\n"),
+    ("A, the lower strip at 1 to 3, at 100", FROM_1, 100, "ROW 100 0 0 2 0\n"),
+    ("A, the lower strip at 0, at the widest", AT_0, u32::MAX, "ROW 4294967295 3 3 0 0\n"),
+    ("A, the upper strip at 3, at 6", UPPER_AT_3, 6, "7 0 0\n"),
+    ("A, the upper strip at 3, at 8", UPPER_AT_3, 8, "ROW 8 2 2 4 3\n"),
+    ("A, the upper strip at 9,999, at 10,002", UPPER_LAST, 10002, "7 0 0\n"),
+    ("A, the upper strip at 9,999, at 10,003", UPPER_LAST, 10003, "ROW 10003 3 3 0 9999\n"),
+    ("A, the upper strip at 9,999, at the widest", UPPER_LAST, u32::MAX, "ROW 4294967295 0 0 10001 9999\n"),
+    ("A, windows apart, at 8", APART, 8, "7 0 0\n"),
+    ("A, windows apart, at the widest", APART, u32::MAX, "ROW 4294967295 3 3 0 5\n"),
+    ("B, the middle strip at 2, at 6", MIDDLE_AT_2, 6, "ROW 6 3 3 0 0 2 0\n"),
+    ("length 1,000 at 9,999, at 10,998", LONG_LAST, 10998, "7 0 0\n"),
 ];
 
 /// The least total at spread 6 has channel 1 at 2, so that strip 1 stands at 1 and channel 2 is straight. With one track more channel 1 is straight, and
@@ -120,7 +181,7 @@ pub const SPREADS: [(&str, &str, u32, &str); 13] = [
 const MIDDLE: &str = "STACK 3\nPART 4\nPART 4\nPART 4\nPART 4\nNETS 0 2 2 4\nNETS 1 2 2 3\nNETS 0 0\n";
 
 /// The text, a spread, a stated total, and the row or the refusal's line.
-pub const PLACES: [(&str, &str, u32, u32, &str); 71] = [
+pub const PLACES: [(&str, &str, u32, u32, &str); 83] = [
     ("A at 4", TABLES[0].1, 4, 3, "ROW 4 3 3 0 0\n"),
     ("A at 4, one below", TABLES[0].1, 4, 2, "10 0 0\n"),
     ("A at 4, none", TABLES[0].1, 4, 0, "10 0 0\n"),
@@ -193,10 +254,22 @@ pub const PLACES: [(&str, &str, u32, u32, &str); 71] = [
     ("C, floor 3, at 5, one below", NO_PAIRS, 5, 2, "10 0 0\n"),
     ("C, floor 3, at 5, four more", NO_PAIRS, 5, 7, "ROW 5 7 7 0 0\n"),
     ("D, floor 1, at 2, one more", D_FLOOR_1, 2, 2, "ROW 2 2 2 0 0\n"),
+    ("A, the lower strip at 1 to 3, at 4: 7 before 10", FROM_1, 4, 0, "7 0 0\n"),
+    ("A, the lower strip at 1 to 3, at 5, one below", FROM_1, 5, 1, "10 0 0\n"),
+    ("A, the lower strip at 1 to 3, at 6, two more", FROM_1, 6, 2, "ROW 6 2 2 1 0\n"),
+    ("A, the lower strip at 1 to 3, at 6, three more", FROM_1, 6, 3, "ROW 6 3 3 1 0\n"),
+    ("A, the lower strip at 0, at 100, one below", AT_0, 100, 2, "10 0 0\n"),
+    ("A, the upper strip at 3, at 9, one more", UPPER_AT_3, 9, 1, "ROW 9 1 1 5 3\n"),
+    ("A, the upper strip at 3, at 9, two more", UPPER_AT_3, 9, 2, "ROW 9 2 2 4 3\n"),
+    ("A, the upper strip at 3, at 9, the most", UPPER_AT_3, 9, u32::MAX, "ROW 9 4294967295 4294967295 0 3\n"),
+    ("A, the upper strip at 9,999, at 20,000, two more", UPPER_LAST, 20000, 2, "ROW 20000 2 2 10000 9999\n"),
+    ("B, the middle strip at 2, at 6, one below", MIDDLE_AT_2, 6, 2, "10 0 0\n"),
+    ("B, the middle strip at 2, at 6, one more", MIDDLE_AT_2, 6, 4, "ROW 6 4 3 1 0 2 0\n"),
+    ("B, the middle strip at 2, at 8, three more", MIDDLE_AT_2, 8, 3, "ROW 8 3 0 3 4 2 0\n"),
 ];
 
 /// The text, a spread, separations and positions, and whether they are legal. A's offsets: -2 with 0 and 1, -3 to -1 with 2, every one from 3 on.
-pub const TRIALS: [(&str, &str, u32, &[u32], &[u32], bool); 36] = [
+pub const TRIALS: [(&str, &str, u32, &[u32], &[u32], bool); 54] = [
     ("B at 6 with 3, 0: its total too", TABLES[1].1, 6, &[3, 0], &[0, 2, 0], true),
     ("B at 6 with 2, 2", TABLES[1].1, 6, &[2, 2], &[2, 1, 0], true),
     ("B at 6 with 1, 1: legal before P4", TABLES[1].1, 6, &[1, 1], &[2, 1, 0], false),
@@ -233,6 +306,24 @@ pub const TRIALS: [(&str, &str, u32, &[u32], &[u32], bool); 36] = [
     ("D at 1 with 1: its row before P4", TABLES[3].1, 1, &[1], &[0, 0], false),
     ("D at 1 with 2", TABLES[3].1, 1, &[2], &[0, 0], true),
     ("D at 2 with 1", TABLES[3].1, 2, &[1], &[0, 1], true),
+    ("A, the lower strip at 1 to 3, straight at 2", FROM_1, 6, &[0], &[2, 0], true),
+    ("A, the lower strip at 1 to 3, straight at 3", FROM_1, 7, &[0], &[3, 1], true),
+    ("A, the lower strip at 1 to 3, straight at 4", FROM_1, 8, &[0], &[4, 2], false),
+    ("A, the lower strip at 1 to 3, at 1", FROM_1, 5, &[3], &[1, 0], true),
+    ("A, the lower strip at 1 to 3, at 0", FROM_1, 5, &[3], &[0, 0], false),
+    ("A, the lower strip at 1 to 3, at 3", FROM_1, 8, &[3], &[3, 4], true),
+    ("A, the lower strip at 1 to 3, at 4", FROM_1, 8, &[3], &[4, 4], false),
+    ("A, the lower strip at 1 to 3, at 3 beyond the spread", FROM_1, 6, &[3], &[3, 0], false),
+    ("A, the lower strip at 1 to 3, below the first row", FROM_1, 4, &[3], &[0, 0], false),
+    ("A, the lower strip at 1 to 3, below the first row, at 1", FROM_1, 4, &[3], &[1, 0], false),
+    ("A, the lower strip at 1 to 3, too few tracks", FROM_1, 6, &[1], &[1, 0], false),
+    ("A, the upper strip at 9,999", UPPER_LAST, 10005, &[0], &[10001, 9999], true),
+    ("A, the upper strip at 9,999, at 10,000", UPPER_LAST, 10006, &[0], &[10002, 10000], false),
+    ("A, the upper strip at 9,999, at 9,998", UPPER_LAST, 10005, &[0], &[10000, 9998], false),
+    ("A, windows apart", APART, 13, &[3], &[1, 9], true),
+    ("A, windows apart, too few tracks", APART, 13, &[2], &[1, 5], false),
+    ("B, the middle strip at 2", MIDDLE_AT_2, 8, &[0, 0], &[4, 2, 0], true),
+    ("B, the middle strip at 3", MIDDLE_AT_2, 9, &[0, 0], &[5, 3, 1], false),
 ];
 
 const TWO_LEFT: &str = "STACK 1\nPART 4\nPART 4\nNETS 0 0 3 1 4 2\n";
@@ -253,7 +344,7 @@ const A_4: Page = Ok(&["  4 ..o.o", "  3 ..|.|", "  2 .++.|", "  1 +++-+", "  0 
 const D_2: Page = Ok(&["  2 o", "  1 ++", "  0 .o"]);
 
 /// The text, a spread, a channel, and the page.
-pub const PAGES: [(&str, &str, u32, u32, Page); 43] = [
+pub const PAGES: [(&str, &str, u32, u32, Page); 54] = [
     ("A at 4", TABLES[0].1, 4, 1, A_3),
     ("A at 5", TABLES[0].1, 5, 1, A_2),
     ("A at 6", TABLES[0].1, 6, 1, Ok(&["  0 ..o.o"])),
@@ -297,6 +388,17 @@ pub const PAGES: [(&str, &str, u32, u32, Page); 43] = [
     ("straight, floor 2, at 1", STRAIGHT, 1, 1, Ok(&["  2 o", "  1 |", "  0 o"])),
     ("floor 65, channel 2, at 3", FLOOR_65, 3, 2, Err((3, 5, 3))),
     ("A, floor 64, at 64", FLOOR_64, 64, 1, Err((9, 0, 0))),
+    ("A, the lower strip at 1 to 3, at 5", FROM_1, 5, 1, A_2),
+    ("A, the lower strip at 0, at 63", AT_0, 63, 1, A_3),
+    ("A, the upper strip at 3, at 7", UPPER_AT_3, 7, 1, Ok(&["  3 .....o.o", "  2 .+---+.|", "  1 +++----+", "  0 o.o"])),
+    ("A, the upper strip at 3, at 8", UPPER_AT_3, 8, 1, Ok(&["  2 .....o.o", "  1 ....++++", "  0 ....o.o"])),
+    ("A, the upper strip at 3, at 9", UPPER_AT_3, 9, 1, Ok(&["  0 .....o.o"])),
+    ("B, the middle strip at 2, at 7, channel 1", MIDDLE_AT_2, 7, 1, Ok(&["  2 ....o.o", "  1 ...++++", "  0 ...o.o"])),
+    ("A, the lower strip at 1 to 3, channel 2, at 4", FROM_1, 4, 2, Err((3, 0, 0))),
+    ("A, the lower strip at 1 to 3, at 4", FROM_1, 4, 1, Err((7, 0, 0))),
+    ("A, the upper strip at 9,999, at 64: 7 before 9", UPPER_LAST, 64, 1, Err((7, 0, 0))),
+    ("A, the upper strip at 9,999, at 10,003", UPPER_LAST, 10003, 1, Err((9, 0, 0))),
+    ("a least position above the greatest, channel 2, at 3", held!("4 3 1", "4"), 3, 2, Err((14, 2, 4))),
 ];
 
 /// The step that adds a strip of 4 with specimen A's channel.

@@ -2,7 +2,7 @@
 
 use crate::random::Random;
 
-pub const KINDS: [&str; 34] = [
+pub const KINDS: [&str; 40] = [
     "byte changed",
     "byte dropped",
     "byte doubled",
@@ -28,6 +28,12 @@ pub const KINDS: [&str; 34] = [
     "ill-formed number",
     "several faults in one line",
     "NETS: several faults",
+    "PART: window changed",
+    "PART: window with a field less or more",
+    "PART: window with an ill-formed number",
+    "PART: least position above the greatest",
+    "PART: several faults",
+    "PART: least position above the greatest, and other damage",
     "GAP: another word",
     "GAP: field emptied, dropped or doubled",
     "GAP: ill-formed number",
@@ -47,10 +53,11 @@ const ODD_BYTES: [u8; 4] = [0, 13, 32, 255];
 const NUMBERS: [&str; 16] = ["0", "1", "2", "8", "9", "10", "31", "32", "33", "64", "65", "99", "999", "1000", "1001", "9999"];
 const ILL_FORMED: [&str; 18] =
     ["", "00", "01", "0000", "00000", "10000", "65537", "4294967297", "+1", "-1", " 1", "1 ", "x", "1x", "1.0", "\0", "1\r", "/"];
-const LINES: [&str; 10] = [
+const LINES: [&str; 11] = [
     "\n",
     "STACK\t1\n",
     "PART\t4\n",
+    "PART\t4\t1\t3\n",
     "PART\n",
     "NETS\n",
     "NETS\t0\t0\n",
@@ -182,10 +189,69 @@ fn ill_formed_terminals(random: &mut Random, fields: &mut Vec<Vec<u8>>, n: usize
     if fields.len() < 5 || random.chance(3) {
         fields.resize(65 + 2 * random.below(3), b"7".into());
     }
-    let place = if random.chance(2) { fields.len() - 1 - random.below(4) } else { n.max(1) };
+    let place = if random.chance(2) { fields.len() - 1 - random.below(4) } else { n.clamp(1, fields.len() - 1) };
     let left = 1 + random.below(place);
     fields[left] = if random.chance(2) { b"1001".into() } else { fields[left.saturating_sub(2).max(1)].clone() };
     ill_formed(random, fields, place);
+}
+
+/// The ends of a window: of one position or more, near the left or anywhere.
+fn window(random: &mut Random) -> [i64; 2] {
+    let last = [9, 60, 9999][random.below(3)];
+    let least = random.between(0, last);
+    [least, [least, random.between(least, last), 9999][random.below(3)]]
+}
+
+/// A window whose least position is above the greatest.
+fn inverted(random: &mut Random) -> [i64; 2] {
+    let last = [9, 60, 9998][random.below(3)];
+    let greatest = random.between(0, last);
+    [[greatest + 1, random.between(greatest + 1, last + 1), 9999][random.below(3)], greatest]
+}
+
+/// Writes a window into the fields of a `PART` line.
+fn put_window(fields: &mut [Vec<u8>], window: [i64; 2]) {
+    for (field, end) in fields[2..].iter_mut().zip(window) {
+        *field = end.to_string().into_bytes();
+    }
+}
+
+/// Two or three faults of a `PART` line with a window: its length, its window turned about, an ill-formed number.
+fn several_in_part(random: &mut Random, fields: &mut [Vec<u8>]) {
+    let (kept, number) = (random.below(4), 1 + random.below(3));
+    for fault in (0..3).filter(|fault| *fault != kept) {
+        match fault {
+            0 => fields[1] = ["0", "1001", "9999"][random.below(3)].into(),
+            1 => put_window(fields, inverted(random)),
+            _ => ill_formed(random, fields, number),
+        }
+    }
+}
+
+/// The text with damage of one kind to a `PART` line, which gets a window where it has none.
+fn part_done(random: &mut Random, text: &[u8], kind: &str) -> Vec<u8> {
+    let new = with_field(random, text, "PART", |random, fields, _| {
+        let (written, number) = (window(random), 1 + random.below(3));
+        if fields.len() != 4 {
+            fields.resize(4, b"4".into());
+            put_window(fields, written);
+        }
+        match kind {
+            "PART: window changed" => put_window(fields, written),
+            "PART: window with a field less or more" if random.chance(2) => fields.truncate(1 + random.below(3)),
+            "PART: window with a field less or more" => fields.extend(std::iter::repeat(b"9".to_vec()).take(1 + random.below(3))),
+            "PART: window with an ill-formed number" => ill_formed(random, fields, number),
+            "PART: several faults" => several_in_part(random, fields),
+            _ => put_window(fields, inverted(random)),
+        }
+    });
+    match kind {
+        "PART: least position above the greatest, and other damage" => {
+            let other = random.below(OF_ANY_LINES - 1);
+            done(random, &new, other)
+        }
+        _ => new,
+    }
 }
 
 /// The text with damage to the fields of a line: of each word as often, so that it gets `GAP` lines where it has none. Now and then it ends with that line,
@@ -355,6 +421,7 @@ pub fn done(random: &mut Random, text: &[u8], kind: usize) -> Vec<u8> {
         "ill-formed number" => new = fields_done(random, text, |random, fields, n| ill_formed(random, fields, n)),
         "several faults in one line" => new = fields_done(random, text, several_faults),
         "NETS: several faults" => new = with_field(random, text, "NETS", ill_formed_terminals),
+        kind if kind.starts_with("PART") => new = part_done(random, text, kind),
         kind => new = gap_done(random, text, kind),
     }
     new

@@ -42,13 +42,29 @@ const USAGE: &str =
 const COUNTS: [u64; 6] = [4000, 1500, 50000, 50, 2000, 800];
 
 /// What is counted and must have been met, in a run of at least the usual counts.
-const MET: [&str; 25] = [
+const MET: [&str; 47] = [
     "tables, a total that falls by 2 or more",
     "stacks with floors",
     "stacks with a floor on a channel without pairs",
     "stacks with a floor of 0 written",
+    "stacks with windows",
+    "stacks with windows and floors",
+    "stacks with a window of one position",
+    "stacks with a window up to 9,999",
+    "stacks with a strip held at 9,999",
+    "stacks with a free strip beside a held one",
+    "stacks with every strip held",
+    "stacks with windows that keep a total from falling for ever",
+    "tables, first row above the longest strip",
+    "tables, a row past the sum of the lengths",
+    "tables, a row's spread of five digits",
+    "tables, a position of five digits",
     "least totals, raised by a floor",
     "least totals, not raised by a floor",
+    "least totals, raised by a window",
+    "least totals, not raised by a window",
+    "least totals, a greatest position beyond the spread",
+    "spreads, narrow by a window alone",
     "placements, total above the least",
     "placements, total above the sum of last separations of use",
     "placements, 4294967295 stated",
@@ -62,7 +78,13 @@ const MET: [&str; 25] = [
     "pages, tracks above the pairs' own",
     "pages, a separation of 1",
     "pages, an upright step below runs",
+    "pages, a strip held",
     "trials, not legal by a floor alone",
+    "trials, not legal by a window alone",
+    "trials, not legal one below a least position",
+    "trials, not legal one above a greatest position",
+    "trials, legal at a least position",
+    "trials, legal at a greatest position",
     "trials, not legal but by the former rule",
     "trials, legal with a separation of 1",
     "trials, not legal by a separation of 1 alone",
@@ -150,7 +172,7 @@ fn check_placed(what: &str, length: usize, due: Placed, place: impl FnOnce(&mut 
 
 /// What is counted of a page that is refused: the number, and what it comes before.
 fn refused_page(stack: &Stack, spread: u32, number: u32) -> &'static str {
-    let (narrow, broad) = ((spread as i64) < solver::longest(stack), spread > 63);
+    let (narrow, broad) = ((spread as i64) < solver::first(stack), spread > 63);
     match (number, narrow, broad) {
         (3, true, true) => "pages, refused 3 before 7 and 9",
         (3, true, _) => "pages, refused 3 before 7",
@@ -192,12 +214,85 @@ fn page_tracks(stack: &Stack, answer: &solver::Answer, channel: usize) -> Vec<&'
     if pairs.iter().any(|p| p.1 + offset != p.0) {
         all.push("pages, an upright step below runs");
     }
+    if stack.windows[channel - 1].or(stack.windows[channel]).is_some() {
+        all.push("pages, a strip held");
+    }
     all
 }
 
 /// The text of an accepted stack without its `GAP` lines, if it has any.
 fn without_gaps(text: &[u8]) -> Option<&[u8]> {
     text.windows(4).position(|w| w == b"\nGAP").map(|at| &text[..=at])
+}
+
+/// The text of an accepted stack without its windows, if it has any.
+fn without_windows(text: &[u8]) -> Option<Vec<u8>> {
+    let bare = |line: &[u8]| match line.starts_with(b"PART") {
+        true => [&line.split(|b| *b == 9 || *b == 10).take(2).collect::<Vec<_>>().join(&9)[..], b"\n"].concat(),
+        _ => line.to_vec(),
+    };
+    let all: Vec<u8> = text.split_inclusive(|b| *b == 10).flat_map(bare).collect();
+    (all.len() < text.len()).then_some(all)
+}
+
+/// What is counted of a stack's windows.
+fn window_kinds(stack: &Stack) -> Vec<&'static str> {
+    let held: Vec<reader::Window> = stack.windows.iter().flatten().copied().collect();
+    if held.is_empty() {
+        return Vec::new();
+    }
+    let mut all = vec!["stacks with windows"];
+    let mut count = |met: bool, what: &'static str| {
+        if met {
+            all.push(what);
+        }
+    };
+    count(stack.floors.iter().any(|f| *f > 0), "stacks with windows and floors");
+    count(held.iter().any(|w| w.0 == w.1), "stacks with a window of one position");
+    count(held.iter().any(|w| w.0 < w.1 && w.1 == 9999), "stacks with a window up to 9,999");
+    count(held.iter().any(|w| w.0 == 9999), "stacks with a strip held at 9,999");
+    count(stack.windows.windows(2).any(|w| w[0].is_some() != w[1].is_some()), "stacks with a free strip beside a held one");
+    count(held.len() == stack.lengths.len(), "stacks with every strip held");
+    all
+}
+
+/// What is counted of a table's rows.
+fn table_kinds(stack: &Stack, rows: &[(i64, solver::Answer)]) -> Vec<&'static str> {
+    let last = &rows[rows.len() - 1];
+    let kinds = [
+        (rows.windows(2).any(|w| w[0].1.total - w[1].1.total >= 2), "tables, a total that falls by 2 or more"),
+        (rows[0].0 > solver::longest(stack), "tables, first row above the longest strip"),
+        (last.0 > stack.lengths.iter().sum(), "tables, a row past the sum of the lengths"),
+        (last.0 > 9999, "tables, a row's spread of five digits"),
+        (rows.iter().any(|r| r.1.positions.iter().any(|x| *x > 9999)), "tables, a position of five digits"),
+    ];
+    kinds.into_iter().filter(|(met, _)| *met).map(|(_, what)| what).collect()
+}
+
+/// What is counted of a trial where strips are held, which are at these positions, and whether it is legal.
+fn window_trial(stack: &Stack, spread: u32, placement: &[u32; 17], legal: bool) -> Vec<&'static str> {
+    let positions = placement[8..].iter().map(|x| *x as i64);
+    let held: Vec<(reader::Window, i64)> = stack.windows.iter().zip(positions).filter_map(|(w, x)| w.map(|w| (w, x))).collect();
+    if legal {
+        let ends = [("trials, legal at a least position", 0), ("trials, legal at a greatest position", 1)];
+        let at = |end: usize| held.iter().any(|(w, x)| [w.0, w.1][end] == *x);
+        return ends.into_iter().filter(|(_, end)| at(*end)).map(|(what, _)| what).collect();
+    }
+    if held.iter().all(|(w, x)| w.0 <= *x && *x <= w.1) {
+        return Vec::new();
+    }
+    let free = Stack { windows: vec![None; stack.windows.len()], ..stack.clone() };
+    if !judged(&free, spread, placement) {
+        return Vec::new();
+    }
+    let mut all = vec!["trials, not legal by a window alone"];
+    if held.iter().any(|(w, x)| x + 1 == w.0) {
+        all.push("trials, not legal one below a least position");
+    }
+    if held.iter().any(|(w, x)| *x == w.1 + 1) {
+        all.push("trials, not legal one above a greatest position");
+    }
+    all
 }
 
 /// Whether eight separations and nine positions are legal by a condition on each channel.
@@ -361,6 +456,7 @@ impl Run {
         let what = format!("least total at spread {}", spread);
         same_code(&what, library::least_total(text, spread), due.map_or_else(code, |total| total as u64))?;
         self.raised(text, spread, &due)?;
+        self.raised_by_windows(text, spread, &due)?;
         match plain::total(text, spread) {
             found if found == due => Ok(()),
             found => Err(format!("the plain program's {}: {:?}, due {:?}", what, found, due)),
@@ -377,6 +473,25 @@ impl Run {
             return Err(format!("least total at spread {}: {} with floors, {} without", spread, due, without));
         }
         self.count(if *due > without { "least totals, raised by a floor" } else { "least totals, not raised by a floor" });
+        Ok(())
+    }
+
+    /// Windows never lower a total either.
+    fn raised_by_windows(&mut self, text: &[u8], spread: u32, due: &Result<u32, Refusal>) -> Checked {
+        let (Ok(due), true) = (due, self.random.chance(4)) else {
+            return Ok(());
+        };
+        let Some(free) = without_windows(text) else {
+            return Ok(());
+        };
+        let without = plain::total(&free, spread).map_err(|r| format!("the plain program refuses without windows: {:?}", r))?;
+        if *due < without {
+            return Err(format!("least total at spread {}: {} with windows, {} without", spread, due, without));
+        }
+        self.count(if *due > without { "least totals, raised by a window" } else { "least totals, not raised by a window" });
+        if *due > without && spread == u32::MAX {
+            self.count("stacks with windows that keep a total from falling for ever");
+        }
         Ok(())
     }
 
@@ -436,6 +551,9 @@ impl Run {
     /// The least total at a spread, its placement, and the placements for other totals, which `place` gives: all that are about, or some.
     fn answers(&mut self, stack: &Stack, text: &[u8], spread: u32, least: &[u32; 18], all: bool, place: impl Fn(u32) -> Placed) -> Checked {
         self.total(text, spread, Ok(least[0]))?;
+        if stack.windows.iter().zip(&stack.lengths).any(|(w, length)| w.is_some_and(|w| w.1 + length > spread as i64)) {
+            self.count("least totals, a greatest position beyond the spread");
+        }
         self.stated(stack, text, spread, least[0], least, Ok(*least))?;
         let mut totals = self.random.totals(stack, least[0]);
         while !all && totals.len() > 2 {
@@ -476,6 +594,9 @@ impl Run {
             if judged(&bare, spread, placement) {
                 self.count("trials, not legal by a floor alone");
             }
+        }
+        if stack.windows.iter().any(Option::is_some) {
+            window_trial(stack, spread, placement, legal).into_iter().for_each(|what| self.count(what));
         }
         self.trial(text, spread, placement, Ok(legal))
     }
@@ -527,6 +648,11 @@ impl Run {
                 with(i, value);
             }
         }
+        for (i, (least, greatest)) in stack.windows.iter().enumerate().filter_map(|(i, w)| w.map(|w| (i, w))) {
+            for value in [(least - 1).max(0), least, greatest, greatest + 1] {
+                with(8 + i, value as u32);
+            }
+        }
         for value in [u32::MAX, 1 << 31, (1 << 31) - 1, 32, 33, 63, 64, 65, 256] {
             with(self.random.below(k), value);
             with(8 + self.random.below(k + 1), value);
@@ -541,18 +667,33 @@ impl Run {
         Ok(())
     }
 
-    /// A placement of small numbers, huge ones among them.
+    /// A position of strip i: anywhere near the left, or about the ends of its window or in it.
+    fn position(&mut self, stack: &Stack, i: usize, spread: u32) -> u32 {
+        let room = (spread as i64 - stack.lengths[i]).clamp(0, 2000);
+        let anywhere = self.random.between(0, room);
+        let position = match stack.windows[i] {
+            Some((least, greatest)) => {
+                let within = self.random.between(least, greatest.min(least + room));
+                [(least - 1).max(0), least, least, greatest, greatest + 1, within, within, anywhere][self.random.below(8)]
+            }
+            None => anywhere,
+        };
+        position as u32
+    }
+
+    /// A placement of small numbers, huge ones among them; now and then with enough tracks at every offset, so that the positions alone decide.
     fn placement(&mut self, stack: &Stack, spread: u32) -> [u32; 17] {
         let k = stack.channels.len();
         let mut placement = [0; 17];
+        let enough = self.random.chance(4);
         for (i, channel) in stack.channels.iter().enumerate() {
             // By the pairs, about the floor, or enough for both.
             let (any, floor) = (self.random.below(channel.len() + 3), stack.floors[i]);
-            placement[i] = [any, (floor + self.random.below(3)).saturating_sub(1), any.max(floor)][self.random.below(3)] as u32;
+            let some = [any, (floor + self.random.below(3)).saturating_sub(1), any.max(floor)][self.random.below(3)];
+            placement[i] = if enough { solver::least_free(stack, i) } else { some } as u32;
         }
-        for (i, length) in stack.lengths.iter().enumerate() {
-            let room = (spread as i64 - length).clamp(0, 2000);
-            placement[8 + i] = self.random.between(0, room) as u32;
+        for i in 0..=k {
+            placement[8 + i] = self.position(stack, i, spread);
         }
         if self.random.chance(10) {
             placement[self.random.below(k)] = self.random.next() as u32;
@@ -571,17 +712,23 @@ impl Run {
         Ok(())
     }
 
-    /// Spreads below the longest strip, at it, around every row and past the last, and around the last that a page shows.
+    /// Spreads below the first row, at it, around every row and past the last, around the last that a page shows and around one from which on a window's end
+    /// stays.
     fn spreads(&mut self, stack: &Stack, rows: &[u32]) -> Vec<u32> {
-        let (longest, widest) = (solver::longest(stack) as u32, solver::widest(stack) as u32);
-        let mut all = vec![0, longest - 1, longest, longest + 1, longest + 2, widest, widest + 1, 63, 64];
+        let (first, widest) = (solver::first(stack) as u32, solver::widest(stack) as u32);
+        let mut all = vec![0, solver::longest(stack) as u32, first - 1, first, first + 1, first + 2, widest, widest + 1, 63, 64];
+        let i = self.random.below(stack.lengths.len());
+        if let Some((_, greatest)) = stack.windows[i] {
+            let reached = (greatest + stack.lengths[i]) as u32;
+            all.extend([reached - 1, reached, reached + 1]);
+        }
         for row in rows {
             all.extend([row - 1, *row, row + 1]);
         }
         let last = rows[rows.len() - 1];
         all.push(last + 2 + self.random.below(50) as u32);
-        all.push(longest + self.random.below((widest - longest + 1) as usize) as u32);
-        all.extend([longest.max(self.random.next() as u32), (1 << 31) - 1, 1 << 31, u32::MAX - 1, u32::MAX]);
+        all.push(first + self.random.below((widest - first + 1) as usize) as u32);
+        all.extend([first.max(self.random.next() as u32), (1 << 31) - 1, 1 << 31, u32::MAX - 1, u32::MAX]);
         all.sort();
         all.dedup();
         all
@@ -594,14 +741,15 @@ impl Run {
             return Err("the reference reads another stack".to_string());
         }
         let rows = solver::rows(stack, brute);
-        if rows.windows(2).any(|w| w[0].1.total - w[1].1.total >= 2) {
-            self.count("tables, a total that falls by 2 or more");
-        }
+        table_kinds(stack, &rows).into_iter().for_each(|what| self.count(what));
         self.table(text, &Ok(solver::table_text(stack, &rows).into_bytes()))?;
         let row_spreads: Vec<u32> = rows.iter().map(|r| r.0 as u32).collect();
         for spread in self.spreads(stack, &row_spreads) {
             let channel = self.channel(stack);
-            if (spread as i64) < solver::longest(stack) {
+            if (spread as i64) < solver::first(stack) {
+                if spread as i64 >= solver::longest(stack) {
+                    self.count("spreads, narrow by a window alone");
+                }
                 self.refused(text, spread, (7, 0, 0))?;
                 self.page(stack, text, spread, channel, None)?;
                 self.placements(stack, text, spread, 1)?;
@@ -621,7 +769,8 @@ impl Run {
         Ok(())
     }
 
-    /// A stack too large for trying separations: against the plain program, and the reference past the last row.
+    /// A stack too large for trying separations: against the plain program, and the reference past the last row, unless windows keep the total from falling
+    /// as far as it could.
     fn large_stack(&mut self, stack: &Stack, text: &[u8]) -> Checked {
         if reader::read(text).as_ref() != Ok(stack) {
             return Err("the reference reads another stack".to_string());
@@ -643,6 +792,10 @@ impl Run {
             }
         }
         let spread = solver::widest(stack) + self.random.between(0, 9);
+        if plain::total(text, spread as u32).is_ok_and(|total| total as usize > solver::open_total(stack)) {
+            return self.answers_of_many(stack, text, spread as u32).map(|_| ());
+        }
+        self.count("stacks at the limits, by the reference too");
         let least = padded(&solver::answer(stack, spread, false));
         self.answers(stack, text, spread as u32, &least, true, |total| placed_of_many(stack, text, spread as u32, total))
     }
@@ -658,11 +811,11 @@ impl Run {
         }
     }
 
-    /// Every page of a stack at the longest strip, at the last spread that is shown and between, by the plain program's answers; other
+    /// Every page of a stack at the first row, at the last spread that is shown and between, by the plain program's answers; other
     /// channels and spreads too.
     fn stack_for_pages(&mut self, stack: &Stack, text: &[u8]) -> Checked {
-        let (k, longest) = (stack.channels.len() as u32, solver::longest(stack));
-        for spread in [longest, self.random.between(longest, 63), self.random.between(longest, 63), 63] {
+        let (k, first) = (stack.channels.len() as u32, solver::first(stack));
+        for spread in [first, self.random.between(first, 63), self.random.between(first, 63), 63] {
             let due = self.answers_of_many(stack, text, spread as u32)?.ok_or("the plain program refuses")?;
             let answer = unpadded(stack, &due);
             for channel in 1..=k {
@@ -672,7 +825,7 @@ impl Run {
                 self.page(stack, text, spread as u32, channel, Some(&answer))?;
             }
         }
-        for spread in [longest as u32 - 1, 64, u32::MAX] {
+        for spread in [first as u32 - 1, 64, u32::MAX] {
             let channel = self.channel(stack);
             self.page(stack, text, spread, channel, None)?;
         }
@@ -682,7 +835,7 @@ impl Run {
     /// A damaged text: refused as the reference refuses it, or answered as the plain program does.
     fn damaged(&mut self, text: &[u8]) -> Checked {
         let read = reader::read(text);
-        let spread = [0, 5, 12, 60, 1000, 1001, u32::MAX][self.random.below(7)];
+        let spread = [0, 5, 12, 60, 1000, 1001, 10_999, u32::MAX][self.random.below(8)];
         match &read {
             Ok(stack) => {
                 self.count("damaged texts, accepted");
@@ -752,7 +905,7 @@ impl Run {
             let q = edge(&mut self.random, lengths[i + 1], !left);
             channels.push(p.into_iter().zip(q).collect());
         }
-        self.random.with_floors(lengths, channels)
+        self.random.limited(lengths, channels, 2 * longest, true)
     }
 
     /// Up to eight channels of up to 32 pairs between strips that a page can show, most of them near the greatest length.
@@ -762,7 +915,7 @@ impl Run {
         let least = [1, longest, longest - longest / 4][self.random.below(3)];
         let lengths: Vec<i64> = (0..=k).map(|_| self.random.between(least, longest)).collect();
         let channels = lengths.windows(2).map(|l| self.channel_for_pages(l[0], l[1])).collect();
-        self.random.with_floors(lengths, channels)
+        self.random.limited(lengths, channels, 63, false)
     }
 
     /// A channel whose paths go far right, far left, apart, together, anywhere, or rise at nearly each column.
@@ -876,6 +1029,7 @@ fn compare_stacks(
         let text = run.random.text(&stack);
         run.count(names[1]);
         count_floors(run, &stack, &text);
+        window_kinds(&stack).into_iter().for_each(|what| run.count(what));
         let checked = check(run, &stack, &text);
         expect(names[0], &text, checked);
         texts.push(text);

@@ -17,13 +17,14 @@ mod solver;
 #[allow(dead_code)]
 #[path = "../reference/specimens.rs"]
 mod specimens;
+mod windows;
 
 use library::{code, Refusal};
 
 const A: &str = "STACK\t1\nPART\t4\nPART\t4\nNETS\t0\t2\t2\t4\n";
 
 /// Enough for every table: the first line, and rows for totals from 0 to eight times 33 above the floors. Enough for every page: 65 lines.
-const TABLE_BYTES: usize = 8 + 265 * 82;
+const TABLE_BYTES: usize = 8 + 265 * 92;
 const PAGE_BYTES: usize = 65 * 69;
 
 fn fail(what: &str, text: &[u8], found: String, due: String) -> ! {
@@ -333,9 +334,9 @@ fn refused() -> Vec<Refused> {
         ("NETS for PART", with_line(3, "NETS\t4"), (2, 3, 0)),
         ("PART without a number", with_line(2, "PART"), (11, 2, 2)),
         ("PART with an empty field", with_line(2, "PART\t"), (12, 2, 2)),
-        ("PART with two numbers", with_line(3, "PART\t4\t4"), (11, 3, 3)),
-        ("PART with a tab behind", with_line(2, "PART\t4\t"), (11, 2, 3)),
-        ("PART with two tabs", with_line(2, "PART\t\t4"), (11, 2, 3)),
+        ("PART with two numbers", with_line(3, "PART\t4\t4"), (11, 3, 4)),
+        ("PART with a tab behind", with_line(2, "PART\t4\t"), (11, 2, 4)),
+        ("PART with two tabs", with_line(2, "PART\t\t4"), (11, 2, 4)),
         ("PART with a leading zero", with_line(2, "PART\t04"), (12, 2, 2)),
         ("PART with 00", with_line(2, "PART\t00"), (12, 2, 2)),
         ("PART with five digits", with_line(3, "PART\t00004"), (12, 3, 2)),
@@ -383,23 +384,24 @@ fn refused() -> Vec<Refused> {
     all
 }
 
-/// B with floors, an accepted text with a line of each kind: `STACK` is line 1, `PART` lines 2 to 4, `NETS` 5 and 6, `GAP` 7 and 8.
-fn floored_b() -> Vec<u8> {
-    let b = specimens::TABLES.iter().find(|s| s.0 == "B, floors 2 and 5").expect("B with floors");
+/// B with floors and windows, an accepted text with a line of each kind: `STACK` is line 1, `PART` lines 2 to 4, of which 2 and 4 have windows, `NETS` 5 and
+/// 6, `GAP` 7 and 8.
+fn limited_b() -> Vec<u8> {
+    let b = specimens::TABLES.iter().find(|s| s.0 == "B, floors 2 and 5, windows").expect("B with floors and windows");
     specimens::tabbed(b.1).into_bytes()
 }
 
 /// By word: numbers of fields that a line may not have, each with the first field that is missing or extra.
 const WRONG_COUNTS: [(&str, &[(usize, u32)]); 4] = [
     ("STACK", &[(1, 2), (3, 3), (4, 3), (67, 3)]),
-    ("PART", &[(1, 2), (3, 3), (4, 3), (67, 3)]),
+    ("PART", &[(1, 2), (3, 4), (5, 5), (6, 5), (67, 5)]),
     ("NETS", &[(2, 3), (4, 5), (6, 7), (64, 65), (66, 67), (68, 69), (2000, 2001)]),
     ("GAP", &[(1, 2), (2, 3), (4, 4), (5, 4), (68, 4)]),
 ];
 
-/// Every line of B with floors with every wrong count of fields: good numbers, empty fields and other ill-formed numbers behind the word.
+/// Every line of B with floors and windows with every wrong count of fields: good numbers, empty fields and other ill-formed numbers behind the word.
 fn refused_counts() -> Vec<Refused> {
-    let text = floored_b();
+    let text = limited_b();
     let mut all = Vec::new();
     for (n, line) in (1..).zip(text.split(|b| *b == b'\n')) {
         let counts = WRONG_COUNTS.iter().filter(|w| line.starts_with(w.0.as_bytes())).flat_map(|w| w.1.iter().map(|c| (w.0, c)));
@@ -456,9 +458,9 @@ fn ill_formed_lines(line: &[u8]) -> Vec<(&'static str, u32, Vec<u8>)> {
     all
 }
 
-/// Every number of B with floors ill-formed in every way.
+/// Every number of B with floors and windows ill-formed in every way.
 fn refused_numbers() -> Vec<Refused> {
-    let text = floored_b();
+    let text = limited_b();
     let mut all = Vec::new();
     for (n, line) in (1..).zip(text.split(|b| *b == b'\n')) {
         all.extend(ill_formed_lines(line).into_iter().map(|(name, field, line)| (name, put_line(&text, n, &line), (12, n as u32, field))));
@@ -502,16 +504,16 @@ fn refused_terminals() -> Vec<Refused> {
         for (terminals, ill_formed, number, field) in MANY_TERMINALS {
             let numbers = (2..terminals + 2).map(|field| if ill_formed.contains(&field) { "\t-" } else { "\t9" });
             let line = "NETS".to_string() + &numbers.collect::<String>();
-            all.push(("many terminals", put_line(&floored_b(), n, line.as_bytes()), (number, n as u32, field)));
+            all.push(("many terminals", put_line(&limited_b(), n, line.as_bytes()), (number, n as u32, field)));
         }
     }
     all
 }
 
-/// Lines in place of some of B with floors, by number. Spaces stand for tabs.
+/// Lines in place of some of B with floors and windows, by number. Spaces stand for tabs.
 type Changes = &'static [(usize, &'static str)];
 
-/// A line in place of one of B with floors, with faults of layout and others at once. Spaces stand for tabs.
+/// A line in place of one of B with floors and windows, with faults of layout and others at once. Spaces stand for tabs.
 const IN_ONE_LINE: [(&str, usize, &str, Refusal); 59] = [
     ("word before count and number", 1, "STOCK x 2", (2, 1, 0)),
     ("word before count and number", 2, "PORT x x", (2, 2, 0)),
@@ -529,14 +531,14 @@ const IN_ONE_LINE: [(&str, usize, &str, Refusal); 59] = [
     ("a tab alone", 6, " ", (2, 6, 0)),
     ("a tab alone", 7, " ", (2, 7, 0)),
     ("a doubled tab", 1, "STACK  2", (11, 1, 3)),
-    ("a doubled tab", 3, "PART  4", (11, 3, 3)),
+    ("a doubled tab", 3, "PART  4", (11, 3, 4)),
     ("a doubled tab behind the word", 5, "NETS  0 2 2 4", (11, 5, 7)),
     ("a doubled tab in the middle", 6, "NETS 0 2  2 4", (11, 6, 7)),
     ("two doubled tabs", 5, "NETS 0  2  2 4", (12, 5, 3)),
     ("a doubled tab behind the word", 7, "GAP  1 2", (11, 7, 4)),
     ("a doubled tab in the middle", 8, "GAP 2  5", (11, 8, 4)),
     ("a tab behind", 1, "STACK 2 ", (11, 1, 3)),
-    ("a tab behind", 4, "PART 4 ", (11, 4, 3)),
+    ("a tab behind", 4, "PART 4 ", (11, 4, 4)),
     ("a tab behind", 6, "NETS 0 2 2 4 ", (11, 6, 7)),
     ("two tabs behind", 6, "NETS 0 2 2 4  ", (12, 6, 6)),
     ("three tabs behind", 6, "NETS 0 2 2 4   ", (11, 6, 9)),
@@ -546,8 +548,8 @@ const IN_ONE_LINE: [(&str, usize, &str, Refusal); 59] = [
     ("count before number and crowd", 1, "STACK 09 9", (11, 1, 3)),
     ("count before crowd", 1, "STACK 0 ", (11, 1, 3)),
     ("number before crowd", 1, "STACK 009", (12, 1, 2)),
-    ("count before number and length", 2, "PART 0 x", (11, 2, 3)),
-    ("count before length", 3, "PART 1001 4", (11, 3, 3)),
+    ("count before number and length", 2, "PART 0 x", (11, 2, 4)),
+    ("count before length", 3, "PART 1001 4", (11, 3, 4)),
     ("number before length", 4, "PART 01001", (12, 4, 2)),
     ("number before length", 4, "PART 0x", (12, 4, 2)),
     ("count before overhang", 5, "NETS 9 2 2", (11, 5, 5)),
@@ -582,7 +584,7 @@ const IN_SEVERAL_LINES: [(&str, Changes, Refusal); 38] = [
     ("12 before 2", &[(5, "NETS 0 x"), (6, "")], (12, 5, 3)),
     ("12 before 2", &[(7, "GAP 1 x"), (8, "ROW 4")], (12, 7, 3)),
     ("11 before 2", &[(1, "STACK"), (2, "PORT 4")], (11, 1, 2)),
-    ("11 before 2", &[(3, "PART 4 4"), (4, "NETS")], (11, 3, 3)),
+    ("11 before 2", &[(3, "PART 4 4"), (4, "NETS")], (11, 3, 4)),
     ("11 before 2", &[(6, "NETS 0"), (7, "NETS")], (11, 6, 3)),
     ("11 before 2", &[(7, "GAP"), (8, "GOP 2 5")], (11, 7, 2)),
     ("2 before 11", &[(1, "STACKS"), (2, "PART")], (2, 1, 0)),
@@ -595,7 +597,7 @@ const IN_SEVERAL_LINES: [(&str, Changes, Refusal); 38] = [
     ("11 before 11", &[(5, "NETS 0 2 2"), (6, "NETS 0")], (11, 5, 5)),
     ("12 before 12", &[(6, "NETS 0 2 x 4"), (7, "GAP x 1")], (12, 6, 4)),
     ("11 before 3, 4, 5 and 6", &[(1, "STACK 9 9"), (2, "PART 0"), (5, "NETS 9 9"), (6, "NETS 0 0 0 0")], (11, 1, 3)),
-    ("11 before 4", &[(2, "PART 4 4"), (3, "PART 0")], (11, 2, 3)),
+    ("11 before 4", &[(2, "PART 4 4"), (3, "PART 0")], (11, 2, 4)),
     ("12 before 4", &[(2, "PART x"), (3, "PART 0")], (12, 2, 2)),
     ("11 before 5", &[(5, "NETS 0"), (6, "NETS 9 9")], (11, 5, 3)),
     ("12 before 6", &[(5, "NETS 0 x"), (6, "NETS 0 2 0 4")], (12, 5, 3)),
@@ -616,7 +618,7 @@ const IN_SEVERAL_LINES: [(&str, Changes, Refusal); 38] = [
     ("a third GAP line: 12 before 3", &[(8, "GAP 2 5\nGAP x 65")], (12, 9, 2)),
 ];
 
-/// Lines of B with floors at which the text ends without a line feed: other faults of the line come behind that. Spaces stand for tabs.
+/// Lines of B with floors and windows at which the text ends without a line feed: other faults of the line come behind that. Spaces stand for tabs.
 const UNENDED: [(usize, &str); 12] = [
     (1, "STACK  "),
     (1, "STACK 2 2"),
@@ -649,7 +651,7 @@ fn refused_long() -> Vec<Refused> {
 
 /// Texts refused for their layout by P5, or before it or behind it for something else.
 fn refused_layout() -> Vec<Refused> {
-    let text = floored_b();
+    let text = limited_b();
     let put = |text: &[u8], n: usize, line: &str| put_line(text, n, specimens::tabbed(line).as_bytes());
     let mut all = [refused_counts(), refused_numbers(), refused_terminals(), refused_long()].concat();
     all.extend(IN_ONE_LINE.map(|(name, n, line, due)| (name, put(&text, n, line), due)));
@@ -891,6 +893,12 @@ fn check_stated(name: &str, text: &str, spread: u32, least: u32, first: impl Fn(
     }
 }
 
+/// How far to the right of its upper strip A's lower one stands at least with so many tracks: straight, also with one track, two columns; with two one to three,
+/// with three any.
+fn right(t: u32) -> u32 {
+    [2, 2, 1, 0][t.min(3) as usize]
+}
+
 /// The specimens' placements for stated totals, and every stated total of the specimens.
 fn check_places() {
     for (name, text, spread, due) in specimens::SPREADS {
@@ -902,8 +910,6 @@ fn check_places() {
     for (name, text, spread, total, due) in specimens::PLACES {
         check_place(name, specimens::tabbed(text).as_bytes(), spread, total, library::placement_in(due));
     }
-    // How far to the right of its upper strip A's lower one stands at least: straight, also with one track, two columns; with two one to three, with three any.
-    let right = |t: u32| [2, 2, 1, 0][t.min(3) as usize];
     for (spread, least) in [(4, 3), (5, 2), (6, 0), (7, 0), (63, 0), (64, 0), (1000, 0), (u32::MAX, 0)] {
         check_stated("A", A, spread, least, |total| (vec![], vec![right(total), 0]));
         for floor in [1, 2, 3, 4, 64] {
@@ -1053,9 +1059,11 @@ fn check_page_refusals() {
 }
 
 fn main() {
-    let (mut refused, accepted) = (refused(), accepted());
+    let (mut refused, mut accepted) = (refused(), accepted());
     refused.extend(refused_gaps());
     refused.extend(refused_layout());
+    refused.extend(windows::refused());
+    accepted.extend(windows::accepted());
     for (name, text, due) in &refused {
         check_refused(name, text, *due);
     }
@@ -1076,14 +1084,16 @@ fn main() {
     check_pages();
     check_tall_pages();
     check_page_refusals();
+    windows::check();
     let (steps, no_steps) = sessions::check();
-    let [counts, numbers] = [11, 12].map(|number| refused.iter().filter(|r| r.2 .0 == number).count());
+    let [counts, numbers, windows] = [11, 12, 14].map(|number| refused.iter().filter(|r| r.2 .0 == number).count());
     println!(
-        "entries: {} refused texts, {} of them as 11 and {} as 12, {} tables, totals, placements, trials and pages of the specimens, their sessions and {} \
+        "entries: {} refused texts, {} of them as 11, {} as 12 and {} as 14, {} tables, totals, placements, trials and pages of the specimens, their sessions and {} \
          refused texts of steps, {} of them as 2: no difference",
         refused.len(),
         counts,
         numbers,
+        windows,
         accepted.len(),
         steps,
         no_steps

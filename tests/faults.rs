@@ -1,9 +1,10 @@
 //! What is counted of refused texts: the number, the kind of line, what is wrong there, and which faults of the same line come behind the one given.
 
 use crate::library::Refusal;
+use crate::reader;
 
 /// What must have been met in a run of at least the usual counts.
-pub const MET: [&str; 37] = [
+pub const MET: [&str; 47] = [
     "damaged texts, refused 1",
     "damaged texts, refused 2",
     "damaged texts, refused 3",
@@ -12,6 +13,7 @@ pub const MET: [&str; 37] = [
     "damaged texts, refused 6",
     "damaged texts, refused 11",
     "damaged texts, refused 12",
+    "damaged texts, refused 14",
     "refusal 2 of a GAP line",
     "refusal 2 of another line behind NETS",
     "refusal 3 of a GAP line's channel",
@@ -19,14 +21,18 @@ pub const MET: [&str; 37] = [
     "refusal 6 of a GAP line",
     "refusal 11 of a STACK line, a field missing",
     "refusal 11 of a STACK line, a field extra",
-    "refusal 11 of a PART line, a field missing",
+    "refusal 11 of a PART line, the length missing",
+    "refusal 11 of a PART line, a greatest position missing",
     "refusal 11 of a PART line, a field extra",
     "refusal 11 of a NETS line, odd terminals",
     "refusal 11 of a NETS line, odd terminals above 64",
     "refusal 11 of a GAP line, a field missing",
     "refusal 11 of a GAP line, a field extra",
     "refusal 12 of a STACK line",
-    "refusal 12 of a PART line",
+    "refusal 12 of a PART line's length",
+    "refusal 12 of a PART line's length before a window",
+    "refusal 12 of a PART line's least position",
+    "refusal 12 of a PART line's greatest position",
     "refusal 12 of a NETS line",
     "refusal 12 of a NETS line, past the 64th terminal",
     "refusal 12 of a GAP line's channel",
@@ -41,11 +47,16 @@ pub const MET: [&str; 37] = [
     "refusal 12 before 5 further left",
     "refusal 12 before 6 further left",
     "refusal 12 before 3 in a GAP line",
+    "refusal 12 before 4 in a PART line",
+    "refusal 12 before 14 in a PART line",
+    "refusal 4 before 14 in a PART line",
+    "refusal 14 before another in a later line",
+    "another refusal before 14 in a later line",
 ];
 
 /// A text refused with this number: the first of MET are in this order.
 fn numbered(number: u32) -> &'static str {
-    let place = [1, 2, 3, 4, 5, 6, 11, 12].iter().position(|n| *n == number);
+    let place = [1, 2, 3, 4, 5, 6, 11, 12, 14].iter().position(|n| *n == number);
     MET[place.expect("a number for a fault of the text")]
 }
 
@@ -81,14 +92,18 @@ fn kind(r: Refusal, due: &str, fields: &[&[u8]]) -> Option<&'static str> {
         (6, "GAP") => "refusal 6 of a GAP line",
         (11, "STACK") if missing => "refusal 11 of a STACK line, a field missing",
         (11, "STACK") => "refusal 11 of a STACK line, a field extra",
-        (11, "PART") if missing => "refusal 11 of a PART line, a field missing",
+        (11, "PART") if r.2 == 2 => "refusal 11 of a PART line, the length missing",
+        (11, "PART") if missing => "refusal 11 of a PART line, a greatest position missing",
         (11, "PART") => "refusal 11 of a PART line, a field extra",
         (11, "NETS") if r.2 > 66 => "refusal 11 of a NETS line, odd terminals above 64",
         (11, "NETS") => "refusal 11 of a NETS line, odd terminals",
         (11, _) if missing => "refusal 11 of a GAP line, a field missing",
         (11, _) => "refusal 11 of a GAP line, a field extra",
         (12, "STACK") => "refusal 12 of a STACK line",
-        (12, "PART") => "refusal 12 of a PART line",
+        (12, "PART") if r.2 == 3 => "refusal 12 of a PART line's least position",
+        (12, "PART") if r.2 == 4 => "refusal 12 of a PART line's greatest position",
+        (12, "PART") if fields.len() == 4 => "refusal 12 of a PART line's length before a window",
+        (12, "PART") => "refusal 12 of a PART line's length",
         (12, "NETS") if r.2 > 65 => "refusal 12 of a NETS line, past the 64th terminal",
         (12, "NETS") => "refusal 12 of a NETS line",
         (12, _) if r.2 == 2 => "refusal 12 of a GAP line's channel",
@@ -102,6 +117,7 @@ fn behind_count(r: Refusal, due: &str, numbers: &[Option<u32>], unended: bool) -
     let wrong_count = match due {
         "NETS" => numbers.len() % 2 == 1,
         "GAP" => numbers.len() != 2,
+        "PART" => numbers.len() != 1 && numbers.len() != 3,
         _ => numbers.len() != 1,
     };
     let mut all = match (r.0, wrong_count, numbers.contains(&None)) {
@@ -126,6 +142,12 @@ fn behind_number(place: usize, due: &str, numbers: &[Option<u32>]) -> Vec<&'stat
     if due == "GAP" && (numbers[0].is_some_and(|channel| channel == 0 || channel > 8) || numbers[1].is_some_and(|floor| floor > 64)) {
         all.push("refusal 12 before 3 in a GAP line");
     }
+    if due == "PART" && numbers[0].is_some_and(|length| length == 0 || length > 1000) {
+        all.push("refusal 12 before 4 in a PART line");
+    }
+    if due == "PART" && is_inverted(numbers) {
+        all.push("refusal 12 before 14 in a PART line");
+    }
     if due == "NETS" {
         if numbers.len() > 64 {
             all.push("refusal 12 before 3 in a line");
@@ -141,20 +163,45 @@ fn behind_number(place: usize, due: &str, numbers: &[Option<u32>]) -> Vec<&'stat
     all
 }
 
+/// Whether these are a length, a least position and a lesser greatest one, the last two well-formed.
+fn is_inverted(numbers: &[Option<u32>]) -> bool {
+    matches!(numbers, [_, Some(least), Some(greatest)] if least > greatest)
+}
+
+/// The numbers of a line, none for those that are ill-formed.
+fn numbers_in(line: &[u8]) -> Vec<Option<u32>> {
+    line.split(|b| *b == b'\t').skip(1).map(value).collect()
+}
+
+/// A refusal as 14 where another line is at fault too, behind it, or a refusal where 14 is.
+fn in_later_lines(text: &[u8], r: Refusal) -> Option<&'static str> {
+    let mut lines: Vec<&[u8]> = text.split(|b| *b == b'\n').collect();
+    let at = r.1 as usize - 1;
+    if r.0 == 14 {
+        lines[at] = b"PART\t1000";
+        return reader::read(&lines.join(&b'\n')).is_err().then_some("refusal 14 before another in a later line");
+    }
+    let is_part = |line: &&&[u8]| line.starts_with(b"PART\t");
+    let behind = lines.iter().skip(at + 1).filter(is_part).any(|line| is_inverted(&numbers_in(line)));
+    behind.then_some("another refusal before 14 in a later line")
+}
+
 /// All that is counted of a refused text.
 pub fn met(text: &[u8], r: Refusal) -> Vec<&'static str> {
     let mut all = vec![numbered(r.0)];
     if r.1 == 0 {
         return all;
     }
+    all.extend(in_later_lines(text, r));
     let due = due_word(text, r.1 as usize);
     let mut rest = text.split(|b| *b == b'\n').skip(r.1 as usize - 1);
     let line = rest.next().unwrap_or_default();
     let unended = rest.next().is_none();
     let fields: Vec<&[u8]> = line.split(|b| *b == b'\t').collect();
-    let numbers: Vec<Option<u32>> = fields[1..].iter().map(|f| value(f)).collect();
+    let numbers = numbers_in(line);
     all.extend(kind(r, due, &fields));
     match r.0 {
+        4 if is_inverted(&numbers) => all.push("refusal 4 before 14 in a PART line"),
         12 => all.extend(behind_number(r.2 as usize - 2, due, &numbers)),
         _ if !line.is_empty() => all.extend(behind_count(r, due, &numbers, unended && line.starts_with(due.as_bytes()))),
         _ => (),

@@ -8,7 +8,7 @@ use crate::session::{self, Session, Step};
 use crate::{check_placed, damage, expect, padded, refusal_of, same_code, specimens, Checked, Placed, Run};
 
 /// What must have been met in a run of at least the usual counts.
-pub const MET: [&str; 55] = [
+pub const MET: [&str; 56] = [
     "sessions, nine strips reached",
     "sessions, of a stack at the limits",
     "session steps, begin",
@@ -53,6 +53,7 @@ pub const MET: [&str; 55] = [
     "damaged steps, refused 1",
     "damaged steps, refused 2 at a step's first line",
     "damaged steps, refused 2 at a PART line",
+    "damaged steps, refused 2 at a PART line with a window",
     "damaged steps, refused 2 at a NETS line",
     "damaged steps, refused 2 at an unended line",
     "damaged steps, refused 2 at a missing line",
@@ -67,10 +68,10 @@ pub const MET: [&str; 55] = [
 ];
 
 /// So many damaged texts for each session.
-const DAMAGED: usize = 30;
+const DAMAGED: usize = 31;
 
 /// Kinds of damage to steps, besides those to any lines.
-const KINDS: usize = 5;
+const KINDS: usize = 6;
 
 /// How a session's steps are chosen: strips up to a length, up to so many pairs a channel, one step in so many with faults, and whether most add a strip.
 struct Style {
@@ -221,6 +222,11 @@ fn refused_damaged(text: &[u8], r: Refusal) -> Vec<&'static str> {
     vec![what]
 }
 
+/// Whether a line is a `PART` line that a stack may have, with a window.
+fn has_window(line: &[u8]) -> bool {
+    reader::read(&[b"STACK\t1\n", line, b"PART\t1\nNETS\n"].concat()).is_ok_and(|stack| stack.windows[0].is_some())
+}
+
 /// What is counted of a text that has no step at a line: by the line that is due there, and where it is unended or missing.
 fn no_step(text: &[u8], line: usize) -> Vec<&'static str> {
     let lines: Vec<&[u8]> = text.split_inclusive(|b| *b == b'\n').collect();
@@ -232,6 +238,9 @@ fn no_step(text: &[u8], line: usize) -> Vec<&'static str> {
     }];
     match lines.get(line - 1) {
         None => all.push("damaged steps, refused 2 at a missing line"),
+        Some(line) if all[0].ends_with("PART line") && has_window(line) => {
+            all.push("damaged steps, refused 2 at a PART line with a window")
+        }
         Some(line) if !line.ends_with(b"\n") => all.push("damaged steps, refused 2 at an unended line"),
         _ => (),
     }
@@ -260,6 +269,16 @@ fn damaged(random: &mut Random, text: &[u8], kind: usize) -> Vec<u8> {
                 lines[at] = line;
             } else {
                 lines.insert(at, line);
+            }
+            return lines.concat();
+        }
+        // A window in a line that has none.
+        5 => {
+            let parts: Vec<usize> = (0..lines.len()).filter(|i| lines[*i].starts_with(b"PART")).collect();
+            if !parts.is_empty() {
+                let line = &mut lines[parts[random.below(parts.len())]];
+                line.truncate(line.len() - 1);
+                line.extend([&b"\t0\t9999\n"[..], b"\t1\t3\n", b"\t0\t0\n"][random.below(3)]);
             }
             return lines.concat();
         }

@@ -64,13 +64,14 @@ fn check_specimens() {
     }
 }
 
-/// The steps that make the stack of an accepted text without floors.
+/// The steps that make the stack of an accepted text without floors and windows.
 fn steps_to(text: &str) -> Option<Vec<u8>> {
     let stack = reader::read(&tabbed(text)).ok()?;
-    (!text.contains("GAP")).then(|| session::text(&session::steps_to(&stack)).into_bytes())
+    let free = stack.windows.iter().all(Option::is_none);
+    (free && !text.contains("GAP")).then(|| session::text(&session::steps_to(&stack)).into_bytes())
 }
 
-/// The specimens without floors as sessions: at each row, at other spreads, and for stated totals.
+/// The specimens without floors and windows as sessions: at each row, at other spreads, and for stated totals.
 fn check_stacks() {
     for (name, text, table) in specimens::TABLES {
         for line in table.lines().filter(|line| line.starts_with("ROW")) {
@@ -434,7 +435,7 @@ fn check_prefixes(all: &mut Vec<Refused>) {
 }
 
 /// Lines that stand for no line of a step where one of these words is due: by word. A dash stands for every word.
-const NO_LINES: [(&str, &str); 55] = [
+const NO_LINES: [(&str, &str); 61] = [
     ("-", ""),
     ("-", " "),
     ("-", "STACK 1"),
@@ -479,6 +480,12 @@ const NO_LINES: [(&str, &str); 55] = [
     ("PART", " PART 4"),
     ("PART", "PART"),
     ("PART", "PART 4 4"),
+    ("PART", "PART 4 1 3"),
+    ("PART", "PART 4 0 9999"),
+    ("PART", "PART 4 0 0"),
+    ("PART", "PART 4 3 1"),
+    ("PART", "PART 0 1 3"),
+    ("PART", "PART 4 1 3 5"),
     ("PART", "PART 4 "),
     ("PART", "PART  4"),
     ("NETS", "BEGIN"),
