@@ -9,9 +9,9 @@ use lib.ListN.{length, getD, set, drop, length-set, replicate, length-replicate,
 use lib.Seq.{getD-set-same, getD-set-other, set-set, drop-cons}
 use lib.Dec.{leb}
 use borrow.Author.Tests.{leb-true, le-leb, lt-leb}
-use Rattle.numbers.specs.Lists.{padded}
+use Rattle.numbers.specs.Lists.{tabulate, padded}
 use Rattle.numbers.proofs.Bools.{ands}
-use Rattle.numbers.proofs.Lists.{getD-tabulate}
+use Rattle.numbers.proofs.Lists.{length-tabulate, getD-tabulate}
 use Rattle.numbers.proofs.Orders.{lt-or-eq, eq-or-not, le-or-lt}
 use Rattle.stack.specs.Stack.{no-channel, channel-in, Window, free, held, Strip, no-strip, Stack, greatest-of, least-position, first-spread}
 use Rattle.stack.specs.Limits.{pairs-within, channel-within, channels-within, strip-within, strips-within, within-limits}
@@ -37,8 +37,8 @@ use Rattle.arrays.proofs.Levels.{most-small, most-fewer, above-at}
 use Rattle.arrays.specs.Arrays.{bias, entry, sides, lasts-in, sums-in, Given, given, low-of, high-of, last-of, window-of, limits-from, level-of, levels, Sized, span-in, Plan-is, Stack-asks, Filled, In-band, Banded}
 use Rattle.separations.specs.Separations.{Separate-asks}
 use Rattle.solver.specs.Placing.{separations-of, Place-asks, Placement-is}
-use Rattle.answer.specs.Solve.{last-use, window-span, window, channel-limits, stack-levels, bottom, levels-of, total-with, separations-with, positions-with, answer-total, separations-for}
-use Rattle.answer.specs.Arrays.{strip-in, window-ends, Limits-sized, Limits-in, Held, Windows-in, Placed-is, Answer-is}
+use Rattle.answer.specs.Solve.{last-use, window-span, window, growth, channel-limits, stack-levels, bottom, levels-of, total-with, separations-with, positions-with, answer-total, separations-for}
+use Rattle.answer.specs.Arrays.{strip-in, window-ends, Limits-sized, Limits-in, Held, Windows-in, Below-growths, Placed-is, Answer-is}
 use Rattle.answer.proofs.Legal.{low-bounded}
 use Rattle.answer.proofs.Answers.{total-most, widening-with, exactly-with, total-any-bias, placement-any-bias}
 
@@ -64,7 +64,7 @@ limits-start k limits z =
     }
 
 -- one place more of a list, by a rule
-next-place : {A : Type 0} (xs : List A) (n i : ℕ) (x d : A) (f : ℕ → A) → n < length xs → ((j : ℕ) → j < n → getD xs j d ≡ f j) → x ≡ f n → i < n + 1 → getD (set xs n x) i d ≡ f i
+pub next-place : {A : Type 0} (xs : List A) (n i : ℕ) (x d : A) (f : ℕ → A) → n < length xs → ((j : ℕ) → j < n → getD xs j d ≡ f j) → x ≡ f n → i < n + 1 → getD (set xs n x) i d ≡ f i
 next-place xs n i x d f h all e l = go (lt-or-eq i n (omega arith))
   where
     go : (i < n) ⊎ (i ≡ n) → getD (set xs n x) i d ≡ f i
@@ -115,6 +115,14 @@ windows-step k n s x windows h few w e =
       sized = length-set windows n _ ∙ w .sized;
       windows-are = λ i m. next-place windows n i _ [] _ (omega (arith, w .sized)) (w .windows-are) (rw (e, stack-strip k n h)) m;
     }
+
+pub growths-step : (k : Stack-struct) (n s least end : ℕ) → n < suc (k .count) → Below-growths (stack-of k) n s least → end ≡ growth bias s (strip-at k n) →
+    Below-growths (stack-of k) (n + 1) s (min least end)
+growths-step k n s least end h w e i m = go (lt-or-eq i n (omega arith))
+  where
+    go : (i < n) ⊎ (i ≡ n) → min least end ≤ growth bias s (strip-in (stack-of k) i)
+    go (inl l) = omega (arith, w i l)
+    go (inr q) = rw (q, stack-strip k n h) (omega arith)
 
 -- limits that agree up to the last separation
 limits-same : (low₁ low₂ high₁ high₂ : ℕ → ℕ) (q n : ℕ) → ((j : ℕ) → q ≤ j → j < q + n → (low₁ j ≡ low₂ j) × (high₁ j ≡ high₂ j)) → limits-from low₁ high₁ q n ≡ limits-from low₂ high₂ q n
@@ -333,6 +341,9 @@ module _ (k : Stack-struct) (s : ℕ) (limits : List (List (List ℕ))) (plan wi
       let m = total-most bias s (omega arith) (stack-of k) (held .good) wide in
       omega (arith, ap most (rw (stack-channels k) at (levels-are (stack-of k) s made held-stands)))
 
+  total-within : answer-total (stack-of k) s ≤ entry (sums-in plan) 0
+  total-within = omega (arith, least-is (stack-of k) s made held-stands fits wide, total-used, all-used)
+
   -- a placement for a total from the least one on, with a table that is filled in its bands
   module _ (total : ℕ) (t : List (List (List ℕ))) (least : answer-total (stack-of k) s ≤ total) where
     pub held-place-asks : total < 4294967296 → Banded made (k .count) total 1 t → Place-asks made (k .count) total × Separate-asks made (k .count) total t
@@ -399,3 +410,13 @@ module _ (k : Stack-struct) (s : ℕ) (limits : List (List (List ℕ))) (plan wi
 
       pub band-placed : (p : Placement) → Placement-is made (k .count) total p → Placed-is (stack-of k) s total p
       band-placed p q = held-placed total t (leb-true (answer-total (stack-of k) s) total h) p q
+
+-- no least total is more than all last separations of use
+pub total-capped : (k : Stack-struct) (s : ℕ) (limits : List (List (List ℕ))) (plan : List (List ℕ)) → s < 4294967296 → first-spread (stack-of k .strips) ≤ s → Held k limits plan →
+    answer-total (stack-of k) s ≤ entry (sums-in plan) 0
+total-capped k s limits plan fits wide a =
+    total-within k s limits plan (tabulate strips-held 0 at) fits wide a
+    (record { sized = length-tabulate strips-held 0 at; windows-are = λ i h. getD-tabulate strips-held i at [] (omega (arith, few-channels k (a .good))) })
+  where
+    at : ℕ → List ℕ
+    at i = window-ends (window s (strip-in (stack-of k) i))

@@ -2,7 +2,7 @@
 use mathlib.Core.Path.{_≡_}
 use mathlib.Core.Bool.{true}
 use mathlib.Core.List.{List, [], _∷_}
-use Prim.Native.Nat.{ℕ, _<_}
+use Prim.Native.Nat.{ℕ, _≤_, _<_}
 use lib.ListN.{length, getD}
 use Rattle.stack.specs.Value.{tracks-of, columns-of, stack-of}
 use Rattle.numbers.specs.Lists.{tabulate, padded}
@@ -14,7 +14,7 @@ use Rattle.spans.specs.Spans.{Span}
 use Rattle.limits.specs.Limits.{low-floored, high-floored}
 use Rattle.arrays.specs.Arrays.{bias, entry, row, sides, lasts-in, Plan-is}
 use Rattle.solver.specs.declared.Placement.{Placement}
-use Rattle.answer.specs.Solve.{last-use, window, answer-total, separations-for, positions-for}
+use Rattle.answer.specs.Solve.{last-use, window, growth, answer-total, separations-for, positions-for}
 
 abbrev pub strip-in : Stack → (i : ℕ) → Strip
 strip-in k i = getD (k .strips) i no-strip
@@ -45,6 +45,10 @@ window-ends w = w .from ∷ w .upto ∷ []
 pub record Windows-in (k : Stack) (n s : ℕ) (windows : List (List ℕ)) : Type 0 where
   pub sized : length windows ≡ strips-held
   pub windows-are : (i : ℕ) → i < n → row windows i ≡ window-ends (window s (strip-in k i))
+
+-- a number that is above none of the first n strips' growing ends
+abbrev pub Below-growths : Stack → (n s least : ℕ) → Type 0
+Below-growths k n s least = (i : ℕ) → i < n → least ≤ growth bias s (strip-in k i)
 
 -- an array that has a place for each channel's two rows
 pub record Limits-sized (limits : List (List (List ℕ))) : Type 0 where

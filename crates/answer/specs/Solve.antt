@@ -1,7 +1,9 @@
 -- The least total of a stack in a spread and the placement for a total as executable definitions: the stack's windows and limits handed to the solver. Assumes
 -- nothing: these are definitions. They are proved to be Stack.antt's Least-total and Placement; nobody has to believe them.
+use mathlib.Core.Bool.{cond}
 use mathlib.Core.List.{List, [], _∷_}
 use Prim.Native.Nat.{ℕ, suc, _+_, _-_, min, max}
+use lib.Dec.{ltb}
 use lib.ListN.{length, getD, drop}
 use Rattle.stack.specs.Stack.{Channel, Window, free, held, Strip, no-strip, Stack}
 use Rattle.limits.specs.Limits.{low-floored, high-floored, open-from}
@@ -16,6 +18,14 @@ window-span s l (held a e) = span a (min (suc e) (suc s - l))
 
 abbrev pub window : (s : ℕ) → Strip → Span
 window s l = window-span s (l .length) (l .window)
+
+-- the GROWING END of a window: its end, raised by b, where that moves on with the spread; none, 0, once the greatest position is within the spread
+unfoldable pub window-growth : (b s length : ℕ) → Window → ℕ
+window-growth b s l free = suc s - l + b
+window-growth b s l (held a e) = cond (ltb e (suc s - l)) 0 (suc s - l + b)
+
+abbrev pub growth : (b s : ℕ) → Strip → ℕ
+growth b s l = window-growth b s (l .length) (l .window)
 
 -- the last separation of use in a channel, the greater of its floor and of that from which on its pairs leave every offset open
 abbrev pub last-use : Channel → ℕ

@@ -8,9 +8,10 @@ ghost use Rattle.stack.specs.Sizes.{channels-held, strips-held};
 ghost use Rattle.stack.specs.Limits.{within-limits};
 ghost use Rattle.stack.specs.Value.{tracks-of, columns-of, strip-of, stack-of};
 ghost use Rattle.stack.specs.Stack.{first-spread};
+ghost use Rattle.arrays.specs.Arrays.{bias};
 ghost use Rattle.limits.specs.Limits.{open-from};
-ghost use Rattle.answer.specs.Arrays.{Limits-in, window-ends, Windows-in, Limits-sized, Held, Placed-is, Answer-is};
-ghost use Rattle.answer.specs.Solve.{window, answer-total};
+ghost use Rattle.answer.specs.Arrays.{Limits-in, window-ends, Windows-in, Below-growths, Limits-sized, Held, Placed-is, Answer-is};
+ghost use Rattle.answer.specs.Solve.{window, growth, answer-total};
 use arrays::ABOVE;
 use arrays::FROM;
 use arrays::HIGH;
@@ -75,17 +76,35 @@ fn window(strip: Strip, spread: u32) -> Window
     [0, end]
 }
 
-// The strips' windows in a spread.
-pub fn fill_windows(stack: Stack, spread: u32, windows: &mut Windows)
+// The growing end of a strip's window in a spread, raised by the bias; 0 once its greatest position is within the spread.
+pub fn growing_end(strip: Strip, spread: u32) -> u64
+    ensures { λ r. ⌜ r ≡ growth bias spread (strip-of strip) ⌝ }
+{
+    let end = difference(spread as u64 + 1, strip.length.0 as u64);
+    if strip.held {
+        if (strip.greatest.0 as u64) < end {
+            return 0;
+        }
+        return end + Stack::BIAS;
+    }
+    end + Stack::BIAS
+}
+
+// The strips' windows in a spread; the answer is not above any of their growing ends.
+pub fn fill_windows(stack: Stack, spread: u32, windows: &mut Windows) -> u64
     requires { ⌜ within-limits (stack-of stack) ≡ true ⌝ }
     requires { ⌜ Windows-in (stack-of stack) 0 spread (now windows) ⌝ }
-    ensures { λ _. ⌜ Windows-in (stack-of stack) (suc (stack .count)) spread (now (windows .exit)) ⌝ }
+    ensures { λ r. ⌜ Windows-in (stack-of stack) (suc (stack .count)) spread (now (windows .exit)) × Below-growths (stack-of stack) (suc (stack .count)) spread r ⌝ }
 {
     let strips = stack.count + 1;
+    let mut least = Stack::BIAS;
     for i in 0..strips {
-        let ends = window(stack.strips[i], spread);
+        let strip = stack.strips[i];
+        let ends = window(strip, spread);
         windows[i] = ends;
+        least = lesser(least, growing_end(strip, spread));
     }
+    least
 }
 
 // The limits of a stack's channels and the windows of its strips in a spread, in the solver's arrays; its plan.

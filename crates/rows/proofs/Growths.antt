@@ -1,51 +1,37 @@
 -- The growing ends that the code puts into an array are those of the stack's windows; where none of them is 0 every window's end grows. Assumes nothing.
-use mathlib.Core.Path.{_≡_, refl, sym, ap₂, _∙_}
+use mathlib.Core.Path.{_≡_, refl, ap₂}
 use mathlib.Core.Bool.{Bool, true, false, cond}
-use mathlib.Core.Logic.{_⊎_, inl, inr}
 use mathlib.Core.List.{List, [], _∷_}
 use Prim.Native.Nat.{ℕ, zero, suc, _+_, _-_, _≤_, _<_, min}
 use native.Mathlib.Omega.{arith}
 use lib.Dec.{ltb}
-use lib.ListN.{length, getD, set, drop, length-set, drop-of-length-le}
-use lib.Seq.{getD-set-same, getD-set-other, drop-cons}
-use borrow.Author.Tests.{ltb-true, ltb-false}
-use Rattle.numbers.proofs.Orders.{lt-or-eq}
+use lib.ListN.{length, getD, set, drop, drop-of-length-le}
+use lib.Seq.{drop-cons}
+use borrow.Author.Tests.{ltb-false}
 use Rattle.stack.specs.Stack.{Window, free, held, Strip, no-strip, Stack}
 use Rattle.stack.specs.Limits.{within-limits}
 use Rattle.stack.specs.Value.{strip-at, stack-of}
-use Rattle.stack.specs.Sizes.{channels-held, strips-held}
 use Rattle.stack.specs.declared.Stack.{Stack as Stack-struct}
 use Rattle.stack.proofs.Within.{stack-strip, strips-count}
 use Rattle.arrays.specs.Arrays.{bias, entry, Given, window-of, taken}
-use Rattle.answer.specs.Solve.{window-span}
-use Rattle.answer.specs.Arrays.{strip-in, Windows-in}
-use Rattle.rows.specs.Growths.{window-growth, growth, growths-of, bottom-growth, upper-growths, Growths-in}
+use Rattle.answer.specs.Solve.{window-span, window-growth, growth}
+use Rattle.answer.specs.Arrays.{strip-in, Windows-in, Below-growths}
+use Rattle.answer.proofs.Standing.{next-place}
+use Rattle.rows.specs.Growths.{growths-of, bottom-growth, upper-growths, Growths-in}
 
 -- the loop that puts them into the array
-pub growths-start : (k : Stack) (s : ℕ) (growths : List ℕ) (least : ℕ) → length growths ≡ strips-held → Growths-in k 0 s growths least
-growths-start k s growths least e = record { sized = e; growths-are = λ i h. absurd (omega arith); least-is = λ i h. absurd (omega arith) }
+pub growths-step : (k : Stack-struct) (n s end : ℕ) (growths : List ℕ) → n < suc (k .count) → n < length growths → Growths-in (stack-of k) n s growths → end ≡ growth bias s (strip-at k n) →
+    Growths-in (stack-of k) (n + 1) s (set growths n end)
+growths-step k n s end growths h room w e i m = next-place growths n i end 0 _ room w (rw (e, stack-strip k n h)) m
 
-pub growths-step : (k : Stack-struct) (n s end : ℕ) (growths : List ℕ) (least : ℕ) → n < suc (k .count) → k .count ≤ channels-held → Growths-in (stack-of k) n s growths least →
-    end ≡ growth bias s (strip-at k n) → Growths-in (stack-of k) (n + 1) s (set growths n end) (min least end)
-growths-step k n s end growths least h few w e =
-    record {
-      sized = length-set growths n end ∙ w .sized;
-      growths-are = λ i m. are i (lt-or-eq i n (omega arith));
-      least-is = λ i m. below i (lt-or-eq i n (omega arith));
-    }
-  where
-    room : n < length growths
-    room = omega (arith, w .sized)
+-- without an array: the list of them
+pub growths-listed : (b s : ℕ) (ls : List Strip) (i : ℕ) → i < length ls → entry (growths-of b s ls) i ≡ growth b s (getD ls i no-strip)
+unfolding growths-of
+growths-listed b s [] i h = absurd (omega arith)
+growths-listed b s (l ∷ ls) zero h = refl
+growths-listed b s (l ∷ ls) (suc i) h = growths-listed b s ls i (omega arith)
 
-    are : (i : ℕ) → (i < n) ⊎ (i ≡ n) → entry (set growths n end) i ≡ growth bias s (strip-in (stack-of k) i)
-    are i (inl m) = getD-set-other growths n i end 0 (omega arith) ∙ w .growths-are i m
-    are i (inr m) = rw m (getD-set-same growths n end 0 room ∙ rw (stack-strip k n h) e)
-
-    below : (i : ℕ) → (i < n) ⊎ (i ≡ n) → min least end ≤ entry (set growths n end) i
-    below i (inl m) = omega (arith, getD-set-other growths n i end 0 (omega arith), w .least-is i m)
-    below i (inr m) = rw m (omega (arith, getD-set-same growths n end 0 room))
-
-module _ (k : Stack) (s : ℕ) (good : within-limits k ≡ true) (hs : List ℕ) (least : ℕ) (w : Growths-in k (suc (length (k .channels))) s hs least) where
+module _ (k : Stack) (s : ℕ) (good : within-limits k ≡ true) (hs : List ℕ) (w : Growths-in k (suc (length (k .channels))) s hs) where
   abbrev m : ℕ
   m = length (k .channels)
 
@@ -55,13 +41,13 @@ module _ (k : Stack) (s : ℕ) (good : within-limits k ≡ true) (hs : List ℕ)
       let none : drop (suc i) (k .strips) ≡ [] = drop-of-length-le (k .strips) {i = suc i} (omega (arith, strips-count k good)) in
       rw none
   taken-from i (suc n) e =
-      rw (drop-cons (k .strips) (suc i) no-strip (omega (arith, strips-count k good))) (ap₂ _∷_ (w .growths-are (suc i) (omega arith)) (taken-from (suc i) n (omega arith)))
+      rw (drop-cons (k .strips) (suc i) no-strip (omega (arith, strips-count k good))) (ap₂ _∷_ (w (suc i) (omega arith)) (taken-from (suc i) n (omega arith)))
 
   pub upper-grown : taken hs 1 m ≡ upper-growths bias k s
   upper-grown = taken-from 0 m (omega arith)
 
   pub bottom-grown : entry hs 0 ≡ bottom-growth bias k s
-  bottom-grown = w .growths-are 0 (omega arith)
+  bottom-grown = w 0 (omega arith)
 
 -- no growing end is beyond its window's end; it is that end where it is not 0
 growth-below : (b s n : ℕ) (w : Window) → window-growth b s n w ≤ window-span s n w .upto + b
@@ -82,11 +68,10 @@ growth-whole b s n (held a e) h = go (ltb e (suc s - n)) refl h
     go true i j = absurd (omega arith)
     go false i j = omega (arith, ltb-false e (suc s - n) i)
 
-module _ (k : Stack) (n s : ℕ) (g : Given) (hs : List ℕ) (least : ℕ) (v : Windows-in k n s (g .windows)) (w : Growths-in k n s hs least) where
+module _ (k : Stack) (n s : ℕ) (g : Given) (hs : List ℕ) (v : Windows-in k n s (g .windows)) (w : Growths-in k n s hs) where
   pub growths-below : (i : ℕ) → i < n → entry hs i ≤ window-of g i .upto + bias
-  growths-below i h = rw (w .growths-are i h, v .windows-are i h) (growth-below bias s (strip-in k i .length) (strip-in k i .window))
+  growths-below i h = rw (w i h, v .windows-are i h) (growth-below bias s (strip-in k i .length) (strip-in k i .window))
 
-  pub growths-whole : 0 < least → (i : ℕ) → i < n → entry hs i ≡ window-of g i .upto + bias
-  growths-whole p i h =
-      let some : 0 < growth bias s (strip-in k i) = omega (arith, w .growths-are i h, w .least-is i h) in
-      rw (w .growths-are i h, v .windows-are i h) (growth-whole bias s (strip-in k i .length) (strip-in k i .window) some)
+  pub growths-whole : (least : ℕ) → 0 < least → Below-growths k n s least → (i : ℕ) → i < n → entry hs i ≡ window-of g i .upto + bias
+  growths-whole least p b i h =
+      rw (w i h, v .windows-are i h) (growth-whole bias s (strip-in k i .length) (strip-in k i .window) (omega (arith, b i h)))

@@ -15,11 +15,11 @@ use Rattle.spans.specs.Spans.{span}
 use Rattle.spans.specs.Solver.{most}
 use Rattle.spans.specs.Growth.{Window-grows, Wider, Lows, None-lacks}
 use Rattle.spans.proofs.Growths.{total-stays}
-use Rattle.answer.specs.Solve.{window-span, window, stack-levels, bottom, levels-of, total-with, answer-total, answer-separations, answer-positions}
+use Rattle.answer.specs.Solve.{window-span, window, window-growth, growth, stack-levels, bottom, levels-of, total-with, answer-total, answer-separations, answer-positions}
 use Rattle.answer.proofs.Legal.{Stand, channel-low, low-bounded}
 use Rattle.answer.proofs.Answers.{all-stand, total-most, answer-there, answer-sum, total-any-bias}
 use Rattle.rows.specs.Walk.{rows-walk}
-use Rattle.rows.specs.Growths.{window-growth, growth, growths-of, bottom-growth, upper-growths}
+use Rattle.rows.specs.Growths.{growths-of, bottom-growth, upper-growths}
 use Rattle.rows.proofs.Settled.{legal-wider}
 
 -- a window in a spread wider by d

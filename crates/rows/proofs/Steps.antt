@@ -64,11 +64,11 @@ module _ (k : Stack) (s : ℕ) (g : Given) (st : Stands k s g) (fits : s < 42949
       omega (arith, total-here, first-past (λ v. nonempty (back bias (window-of g 0) (levels g 0 m) v)) cap (most (levels g 0 m)) h total-use (rw (i .total-is) at l))
 
   -- UNTIL THE JUMP IS REACHED THE LEAST TOTAL STAYS
-  pub scan-stays : (growths : List ℕ) (least jump : ℕ) → Growths-in k (suc m) s growths least → None-less g growths m (r .total) 0 jump → (v : ℕ) → answer-total k s ≡ suc v → r .total ≡ suc v →
+  pub scan-stays : (growths : List ℕ) (jump : ℕ) → Growths-in k (suc m) s growths → None-less g growths m (r .total) 0 jump → (v : ℕ) → answer-total k s ≡ suc v → r .total ≡ suc v →
       (d : ℕ) → d < jump → s + d + 32 ≤ bias → answer-total k (s + d) ≡ suc v
-  scan-stays hs least jump w n v e t d j b =
+  scan-stays hs jump w n v e t d j b =
       let clear : None-lacks bias bias d v (bottom k s) (bottom-growth bias k s) (levels-of bias k s) (upper-growths bias k s) =
-      rw (bottom-is k s g st, levels-are k s g st, bottom-grown k s (st .good) hs least w, upper-grown k s (st .good) hs least w) at (none-lacks g hs m (r .total) jump d v n j (omega arith) 0 m (omega arith)) in
+      rw (bottom-is k s g st, levels-are k s g st, bottom-grown k s (st .good) hs w, upper-grown k s (st .good) hs w) at (none-lacks g hs m (r .total) jump d v n j (omega arith) 0 m (omega arith)) in
       jump-stays k (st .good) bias s d v b wide clear (omega arith) ∙ e
 
   pub scan-most : r .total ≤ suc cap

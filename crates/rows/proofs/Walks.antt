@@ -20,35 +20,30 @@ unfolding rows-walk
 walk-zero k zero s = refl
 walk-zero k (suc n) s = rw (le-ltb (answer-total k s) 0 (omega arith)) (walk-zero k n (suc s))
 
-module _ (k : Stack) (good : within-limits k ≡ true) (w s v : ℕ) where
-  -- the total stays up to below the next spread
-  abbrev Stay-to : ℕ → Type 0
-  Stay-to next = (d : ℕ) → s + d < next → v ≤ answer-total k (s + d)
+module _ (k : Stack) (good : within-limits k ≡ true) (w s v : ℕ) (h : s ≤ w) where
+  one : suc w - s ≡ suc (w - s)
+  one = omega arith
 
-  walk-to : (next : ℕ) → s < next → next ≤ suc w → Stay-to next → rows-walk k (w - s) (suc s) v ≡ rows-walk k (suc w - next) next v
-  walk-to next h l stay =
-      let e : w - s ≡ (next - suc s) + (suc w - next) = omega arith in
-      let f : suc s + (next - suc s) ≡ next = omega arith in
-      rw e (walk-jumps k good (suc w - next) (next - suc s) (suc s) v (λ i j. rw (moved s i) (stay (suc i) (omega arith))) ∙ rw f)
-
-  pub walk-ends : (next : ℕ) → s < next → w < next → Stay-to next → rows-walk k (w - s) (suc s) v ≡ []
+  -- a spread at which the total stays, and one at which it falls
+  pub walk-stays : v ≤ answer-total k s → rows-walk k (suc w - s) s v ≡ rows-walk k (w - s) (suc s) v
   unfolding rows-walk
-  walk-ends next h l stay = go (le-or-lt s w)
+  walk-stays t = rw (one, le-ltb (answer-total k s) v t)
+
+  pub walk-falls : answer-total k s < v → rows-walk k (suc w - s) s v ≡ row-at k s ∷ rows-walk k (w - s) (suc s) (answer-total k s)
+  unfolding rows-walk
+  walk-falls t = rw (one, lt-ltb (answer-total k s) v t)
+
+  -- on to the next event
+  pub walk-next : (jump : ℕ) → 0 < jump → ((d : ℕ) → d < jump → s + d ≤ w → v ≤ answer-total k (s + d)) → rows-walk k (w - s) (suc s) v ≡ rows-walk k (suc w - (s + jump)) (s + jump) v
+  unfolding rows-walk
+  walk-next jump j stay = go (le-or-lt (s + jump) (suc w))
     where
-      go : (s ≤ w) ⊎ (w < s) → rows-walk k (w - s) (suc s) v ≡ []
-      go (inl i) =
-          let e : suc w - suc w ≡ 0 = omega arith in
-          walk-to (suc w) (omega arith) (omega arith) (λ d j. stay d (omega arith)) ∙ rw e
-      go (inr i) = let e : w - s ≡ 0 = omega arith in rw e
-
-  module _ (next : ℕ) (h : s < next) (l : next ≤ w) (stay : Stay-to next) where
-    one : suc w - next ≡ suc (w - next)
-    one = omega arith
-
-    pub walk-on : v ≤ answer-total k next → rows-walk k (w - s) (suc s) v ≡ rows-walk k (w - next) (suc next) v
-    unfolding rows-walk
-    walk-on t = walk-to next h (omega arith) stay ∙ rw (one, le-ltb (answer-total k next) v t)
-
-    pub walk-falls : answer-total k next < v → rows-walk k (w - s) (suc s) v ≡ row-at k next ∷ rows-walk k (w - next) (suc next) (answer-total k next)
-    unfolding rows-walk
-    walk-falls t = walk-to next h (omega arith) stay ∙ rw (one, lt-ltb (answer-total k next) v t)
+      go : (s + jump ≤ suc w) ⊎ (suc w < s + jump) → rows-walk k (w - s) (suc s) v ≡ rows-walk k (suc w - (s + jump)) (s + jump) v
+      go (inl l) =
+          let e : w - s ≡ (jump - 1) + (suc w - (s + jump)) = omega arith in
+          let f : suc s + (jump - 1) ≡ s + jump = omega arith in
+          rw e (walk-jumps k good (suc w - (s + jump)) (jump - 1) (suc s) v (λ i m. rw (moved s i) (stay (suc i) (omega arith) (omega arith))) ∙ rw f)
+      go (inr l) =
+          let e : w - s ≡ (w - s) + 0 = omega arith in
+          let z : suc w - (s + jump) ≡ 0 = omega arith in
+          rw (e, z) (walk-jumps k good 0 (w - s) (suc s) v (λ i m. rw (moved s i) (stay (suc i) (omega arith) (omega arith))))

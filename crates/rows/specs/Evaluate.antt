@@ -28,8 +28,7 @@ pub record Evaluated (k : Stack-struct) (s cap : ℕ) (limits : List (List (List
   pub short : ℕ
   pub scanned : Scan-is (given limits plan windows) (k .count) cap t (record { total = r .total; jump = short })
   pub growths : List ℕ
-  pub least : ℕ
-  pub spread-growths : Growths-in (stack-of k) (suc (k .count)) s growths least
+  pub spread-growths : Growths-in (stack-of k) (suc (k .count)) s growths
   pub jump-some : 0 < r .jump
   pub none-less : None-less (given limits plan windows) growths (k .count) (r .total) 0 (r .jump)
 

@@ -17,7 +17,7 @@ use Rattle.scan.specs.declared.Scan.{Scan}
 use Rattle.answer.specs.Solve.{answer-total}
 use Rattle.rows.specs.Walk.{widest}
 use Rattle.answer.specs.Arrays.{Held}
-use Rattle.answer.proofs.Standing.{held-stands, cap-used, whole-found}
+use Rattle.answer.proofs.Standing.{held-stands, cap-used}
 use Rattle.rows.specs.Evaluate.{Evaluated, Place-row-asks}
 use Rattle.rows.proofs.Settled.{widest-small, first-widest}
 use Rattle.rows.proofs.Steps.{scan-passes, scan-stays, scan-most}
@@ -40,13 +40,10 @@ module _ (k : Stack-struct) (s cap : ℕ) (limits : List (List (List ℕ))) (pla
       go : (n : ℕ) → r .total ≡ n → n ≤ answer-total (stack-of k) (s + d)
       go zero z = omega arith
       go (suc v) z =
-          omega (arith, scan-stays (stack-of k) s (given limits plan windows) (held-stands k s limits plan windows fits wide held (e .spread-windows)) fits wide cap t _ scanned (e .growths) (e .least) (r .jump) (rw (stack-channels k) (e .spread-growths)) (rw (stack-channels k) (e .none-less)) v (e₀ ∙ z) z d j (omega (arith, widest-small (stack-of k) (held .good))))
+          omega (arith, scan-stays (stack-of k) s (given limits plan windows) (held-stands k s limits plan windows fits wide held (e .spread-windows)) fits wide cap t _ scanned (e .growths) (r .jump) (rw (stack-channels k) (e .spread-growths)) (rw (stack-channels k) (e .none-less)) v (e₀ ∙ z) z d j (omega (arith, widest-small (stack-of k) (held .good))))
 
   pub event-least : cap ≤ entry (sums-in plan) 0 → r .total ≤ cap → r .total ≡ answer-total (stack-of k) s
   event-least c f = found-total k s limits plan windows fits wide held (e .spread-windows) cap t _ (e .scanned) c f
-
-  pub event-whole : cap ≡ entry (sums-in plan) 0 → r .total ≤ cap
-  event-whole c = whole-found k s limits plan windows fits wide held (e .spread-windows) cap t _ (e .scanned) c
 
   -- no total up to the cap: the total before stays
   pub event-passed : (before : ℕ) → cap ≤ entry (sums-in plan) 0 → before ≡ suc cap → answer-total (stack-of k) s ≤ before → cap < r .total → (answer-total (stack-of k) s ≡ before) × (r .total ≡ before)

@@ -15,15 +15,13 @@ use Rattle.writing.specs.Output.{Written, table-bytes}
 use Rattle.writing.specs.TableText.{table-text, rows-text}
 use Rattle.table.specs.declared.Walk.{Walk}
 
--- at a spread: its total, how far it stays, and the whole table as the text so far and the rows to come
+-- from one event to the next: the least total there is not above the one before, and the whole table is the text so far and the rows from there on
 pub record Walking (k : Stack) (out : List ℕ) (w : Walk) : Type 0 where
   pub from : first-spread (k .strips) ≤ w .spread
   pub upto : w .spread ≤ widest k
-  pub total-is : answer-total k (w .spread) ≡ w .total
-  pub jump-some : 0 < w .jump
-  pub stays : (d : ℕ) → d < w .jump → w .spread + d ≤ widest k → w .total ≤ answer-total k (w .spread + d)
+  pub least : answer-total k (w .spread + w .jump) ≤ w .total
   pub text : List ℕ
-  pub whole : table-text (length (k .channels)) (rows-of k) ≡ text ++ rows-text (rows-walk k (widest k - w .spread) (suc (w .spread)) (w .total))
+  pub whole : table-text (length (k .channels)) (rows-of k) ≡ text ++ rows-text (rows-walk k (suc (widest k) - (w .spread + w .jump)) (w .spread + w .jump) (w .total))
   pub at-is : w .at ≡ length text
   pub written : Written text out out
 
@@ -33,11 +31,11 @@ pub record Holding (k : Stack-struct) (limits : List (List (List ℕ))) (plan wi
   pub sized-windows : length windows ≡ strips-held
   pub sized : Sized t
 
--- the walk with the arrays it is made in; no total is more than all last separations
+-- the walk with the arrays it is made in; no total is more than all last separations, and before the first row it is one more than these
 pub record Stepping (k : Stack-struct) (limits : List (List (List ℕ))) (plan windows : List (List ℕ)) (t : List (List (List ℕ))) (out : List ℕ) (w : Walk) : Type 0 where
   pub holding : Holding k limits plan windows t
   pub walking : Walking (stack-of k) out w
-  pub capped : w .total ≤ entry (sums-in plan) 0
+  pub capped : w .total ≤ suc (entry (sums-in plan) 0)
 
 -- the next event lies within the greatest spread of use
 pub record Step-asks (k : Stack-struct) (w : Walk) (limits : List (List (List ℕ))) (plan windows : List (List ℕ)) (t : List (List (List ℕ))) (out : List ℕ) : Type 0 where

@@ -1,7 +1,7 @@
 // The table over all spreads: rows found by jumps from event to event, each written directly behind the line before it.
 ghost use mathlib.Core.Path.{_≡_};
 ghost use mathlib.Core.Bool.{true};
-ghost use Prim.Native.Nat.{_+_, _^_, _≤_};
+ghost use Prim.Native.Nat.{_+_, _^_, _≤_, _<_};
 ghost use Rattle.stack.specs.Limits.{within-limits};
 ghost use Rattle.stack.specs.Value.{stack-of};
 ghost use Rattle.stack.specs.Stack.{first-spread};
@@ -9,7 +9,7 @@ ghost use Rattle.answer.specs.Arrays.{Answer-is};
 ghost use Rattle.rows.specs.Walk.{row-at};
 ghost use Rattle.writing.specs.Output.{Line-put-at};
 ghost use Rattle.writing.specs.TableText.{row-text};
-ghost use Rattle.table.specs.Walking.{Step-asks, Holding, Stepping, Table-put};
+ghost use Rattle.table.specs.Walking.{Step-asks, Stepping, Table-put};
 use answer::fill_limits;
 use arrays::ABOVE;
 use arrays::Plan;
@@ -24,7 +24,8 @@ use stack::Stack;
 use writing::put_head;
 use writing::put_row_at;
 
-// A spread, its least total, how far the spread may grow before a smaller total can be had, and where the text ends.
+// A spread, its least total, how far the spread may grow before a smaller total can be had, and where the text ends. Before the first row: the first spread, a
+// total above all, and no way to go.
 struct Walk {
     spread: u32,
     total: usize,
@@ -44,33 +45,6 @@ fn put_placed(stack: Stack, spread: u32, placement: Placement, out: &mut [u8], a
     put_row_at(out, at, k, spread, total.0, separations, positions)
 }
 
-// The first line, and the row of the first spread.
-fn begin(
-    stack: Stack,
-    limits: &StackLimits,
-    plan: &Plan,
-    windows: &mut Windows,
-    table: &mut SpanTable,
-    out: &mut [u8],
-) -> Walk
-    requires { ⌜ Holding stack (now limits) (now plan) (now windows) (now table) ⌝ }
-    ensures { λ w. ⌜ Stepping stack (now (limits .entry)) (now (plan .entry)) (now (windows .exit)) (now (table .exit)) (now (out .exit)) w ⌝ }
-{
-    let k = stack.count;
-    let spread = stack.first_spread() as u32;
-    let cap = plan[ABOVE][0];
-    let scan = evaluate(stack, spread, cap, limits, plan, windows, table);
-    let placement = place_row(stack, spread, scan, limits, plan, windows, table);
-    let head = put_head(out, k);
-    let at = put_placed(stack, spread, placement, out, head);
-    Walk {
-        spread,
-        total: scan.total,
-        jump: scan.jump,
-        at,
-    }
-}
-
 // The next event's spread, with its row if the total falls there.
 fn step(
     stack: Stack,
@@ -82,7 +56,7 @@ fn step(
     out: &mut [u8],
 ) -> Walk
     requires { ⌜ Step-asks stack w (now limits) (now plan) (now windows) (now table) (now out) ⌝ }
-    ensures { λ r. ⌜ Stepping stack (now (limits .entry)) (now (plan .entry)) (now (windows .exit)) (now (table .exit)) (now (out .exit)) r × (r .spread ≡ w .spread + w .jump) ⌝ }
+    ensures { λ r. ⌜ Stepping stack (now (limits .entry)) (now (plan .entry)) (now (windows .exit)) (now (table .exit)) (now (out .exit)) r × (r .spread ≡ w .spread + w .jump) × (0 < r .jump) ⌝ }
 {
     let next = (w.spread as u64 + w.jump) as u32;
     let cap = w.total - 1;
@@ -117,7 +91,15 @@ pub fn put_table(stack: Stack, out: &mut [u8]) -> usize
     let mut windows = [[0u64; 2]; Stack::STRIPS];
     let mut table = [[[0u32; Stack::TOTALS]; 2]; Stack::STRIPS];
     let widest = stack.last_position() + stack.lengths_sum();
-    let mut w = begin(stack, &limits, &plan, &mut windows, &mut table, out);
+    let first = stack.first_spread() as u32;
+    let beyond = plan[ABOVE][0] + 1;
+    let at = put_head(out, stack.count);
+    let mut w = Walk {
+        spread: first,
+        total: beyond,
+        jump: 0,
+        at,
+    };
     while 0 < w.total {
         let further = widest - w.spread as u64;
         if further < w.jump {

@@ -21,7 +21,7 @@ returns c =
     let w = c .before .before in
     let l = w .before .before in
     let a = l .before .before .before in
-    (held-made (a .args .stack) _ _ (a .pre .0) (l .fill-limits .ensures) _ (c .plan-for .ensures), w .fill-windows .ensures)
+    (held-made (a .args .stack) _ _ (a .pre .0) (l .fill-limits .ensures) _ (c .plan-for .ensures), w .fill-windows .ensures .0)
 
 pub fill-arrays-spec : {M : Type 1} → statement M
 fill-arrays-spec = tie.close (tie.spec fill-limits-requires fill-windows-requires plan-for-requires returns)

@@ -5,7 +5,6 @@ use native.Mathlib.Omega.{arith}
 use Rattle.stack.specs.Stack.{first-spread}
 use Rattle.stack.specs.Value.{stack-of}
 use Rattle.rows.proofs.Settled.{widest-small}
-use Rattle.rows.proofs.Jumps.{total-never-rises}
 use Rattle.table.proofs.Events.{holds-on, event-stays, event-least, event-passed, event-place-asks}
 use Rattle.table.proofs.Walks.{at-fits, stepped-on, stepped-down}
 use borrow.Author.Needs.{needs}
@@ -47,13 +46,14 @@ returns c =
     let next : ℕ = a .args .w .spread + a .args .w .jump in
     let fits : next < 4294967296 = omega (arith, a .pre .inside, widest-small (stack-of (a .args .stack)) good) in
     let wide : first-spread (stack-of (a .args .stack) .strips) ≤ next = omega (arith, a .pre .here .walking .from) in
-    let same = event-passed (a .args .stack) next _ _ _ _ _ (found .result) fits wide (a .pre .here .holding .held) (found .ensures) (a .args .w .total) (omega (arith, a .pre .here .capped, a .pre .some)) (omega (arith, a .pre .some)) (omega (arith, a .pre .here .walking .total-is, total-never-rises (stack-of (a .args .stack)) good (a .args .w .spread) next (a .pre .here .walking .from) (omega arith))) (omega (arith, c .if1)) in (
+    let same = event-passed (a .args .stack) next _ _ _ _ _ (found .result) fits wide (a .pre .here .holding .held) (found .ensures) (a .args .w .total) (omega (arith, a .pre .here .capped, a .pre .some)) (omega (arith, a .pre .some)) (a .pre .here .walking .least) (omega (arith, c .if1)) in (
       record {
         walking = stepped-on (stack-of (a .args .stack)) good _ (a .args .w) (a .pre .here .walking) next (found .result .jump) (found .ensures .jump-some) refl (a .pre .inside) (same .0) (rw (same .1) at (event-stays (a .args .stack) next _ _ _ _ _ (found .result) fits wide (a .pre .here .holding .held) (found .ensures) (same .0 ∙ sym (same .1))));
         holding = holds-on (a .args .stack) next _ _ _ _ _ (found .result) fits wide (a .pre .here .holding .held) (found .ensures);
         capped = a .pre .here .capped;
       },
       refl,
+      found .ensures .jump-some,
     )
 
 place-row-requires : tie.Need-place-row-requires
@@ -90,6 +90,7 @@ returns-2 c =
         capped = omega (arith, c .before .before .before .before .before .before .before .if1, a .pre .here .capped);
       },
       refl,
+      found .ensures .jump-some,
     )
 
 pub step-spec : {M : Type 1} → statement M

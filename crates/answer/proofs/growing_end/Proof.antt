@@ -5,10 +5,10 @@ use native.Mathlib.Omega.{arith}
 use borrow.Author.Tests.{lt-ltb, le-ltb}
 use Rattle.stack.specs.Stack.{held}
 use Rattle.stack.specs.Value.{window-of}
-use Rattle.rows.specs.Growths.{window-growth}
+use Rattle.answer.specs.Solve.{window-growth}
 use borrow.Author.Needs.{needs}
-use Rattle.rows.proofs.growing_end.Statement.{statement}
-use Rattle.rows.proofs.growing_end.Tie as tie
+use Rattle.answer.proofs.growing_end.Statement.{statement}
+use Rattle.answer.proofs.growing_end.Tie as tie
 
 -- a window's growing end with its end in the spread as the code has it
 reached : (b s n a e end : ℕ) → end ≡ s + 1 - n → e < end → 0 ≡ window-growth b s n (held a e)
