@@ -2,12 +2,12 @@
 use mathlib.Core.Path.{_≡_, refl, sym, ap, _∙_}
 use mathlib.Core.Bool.{true}
 use mathlib.Core.List.{List, [], _∷_}
-use Prim.Native.Nat.{ℕ, suc, _+_, _≤_, max}
+use Prim.Native.Nat.{ℕ, suc, _+_, _≤_}
 use native.Mathlib.Omega.{arith}
 use lib.ListN.{length}
 use borrow.Author.Tests.{leb-true}
 use Rattle.numbers.proofs.Bools.{ands, impossible}
-use Rattle.stack.specs.Stack.{Channel, Window, free, held, Strip, strip, Stack, in-window, stands, in-spread, channels-good, legal, sum, greatest-of, least-position, reach, first-spread, Total-met, Least-total, Placement, Answer}
+use Rattle.stack.specs.Stack.{Channel, Window, free, held, Strip, strip, Stack, in-window, stands, in-spread, channels-good, legal, sum, greatest-of, least-position, first-spread, Total-met, Least-total, Placement, Answer}
 use Rattle.spans.proofs.Order.{not-later-both}
 
 -- a placement's lengths

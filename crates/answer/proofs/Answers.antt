@@ -10,7 +10,7 @@ use lib.ListN.{length}
 use borrow.Author.Tests.{leb-true}
 use Rattle.numbers.proofs.Bools.{ands, impossible}
 use Rattle.stack.specs.Stack.{Channel, Window, free, held, Strip, Stack, stack, in-spread, channels-good, legal, sum, least-position, first-spread, not-later, Total-met, Least-total, Placement, Answer}
-use Rattle.stack.specs.Limits.{channels-within, strips-within, within-limits}
+use Rattle.stack.specs.Limits.{channels-within, within-limits}
 use Rattle.spans.specs.Spans.{In}
 use Rattle.spans.specs.Solver.{most, positions}
 use Rattle.spans.specs.Placed.{Placed, alone, under, Widening, Exactly, Chosen}

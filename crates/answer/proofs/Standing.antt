@@ -14,7 +14,7 @@ use Rattle.numbers.proofs.Bools.{ands}
 use Rattle.numbers.proofs.Lists.{length-tabulate, getD-tabulate}
 use Rattle.numbers.proofs.Orders.{lt-or-eq, eq-or-not, le-or-lt}
 use Rattle.stack.specs.Stack.{no-channel, channel-in, Window, free, held, Strip, no-strip, Stack, greatest-of, least-position, first-spread}
-use Rattle.stack.specs.Limits.{pairs-within, channel-within, channels-within, strip-within, strips-within, within-limits}
+use Rattle.stack.specs.Limits.{pairs-within, channel-within, channels-within, strip-within, within-limits}
 use Rattle.stack.specs.Value.{no-terminals, strip-at, floor-at, channel-at, stack-of}
 use Rattle.stack.specs.declared.Stack.{Stack as Stack-struct}
 use Rattle.stack.specs.Sizes.{channels-held, strips-held, separations-held, totals-held}

@@ -1,7 +1,7 @@
 // The least total of a stack in a spread, and the placement for a total.
 ghost use mathlib.Core.Path.{_≡_};
 ghost use mathlib.Core.Bool.{true};
-ghost use Prim.Native.Nat.{suc, _≤_, max};
+ghost use Prim.Native.Nat.{suc, _+_, _-_, _≤_, max};
 ghost use lib.Dec.{ltb, leb};
 ghost use lib.ListN.{length, replicate};
 ghost use Rattle.stack.specs.Sizes.{channels-held, strips-held};
@@ -64,14 +64,22 @@ pub fn fill_limits(stack: Stack, limits: &mut StackLimits, lasts: &mut [usize; S
     }
 }
 
+// Where a strip's positions within a spread end: one behind the last, where it fits.
+fn spread_end(strip: Strip, spread: u32) -> u64
+    ensures { λ r. ⌜ r ≡ spread + 1 - strip .length .0 ⌝ }
+{
+    difference(spread as u64 + 1, strip.length.0 as u64)
+}
+
 // A strip's window in a spread: within the spread, and inside its own where it is held.
 fn window(strip: Strip, spread: u32) -> Window
     ensures { λ r. ⌜ r ≡ window-ends (window spread (strip-of strip)) ⌝ }
 {
-    let end = difference(spread as u64 + 1, strip.length.0 as u64);
+    let end = spread_end(strip, spread);
     if strip.held {
-        let last = lesser(strip.greatest.0 as u64 + 1, end);
-        return [strip.least.0 as u64, last];
+        let from = strip.least.0 as u64;
+        let upto = lesser(strip.greatest.0 as u64 + 1, end);
+        return [from, upto];
     }
     [0, end]
 }
@@ -80,7 +88,7 @@ fn window(strip: Strip, spread: u32) -> Window
 pub fn growing_end(strip: Strip, spread: u32) -> u64
     ensures { λ r. ⌜ r ≡ growth bias spread (strip-of strip) ⌝ }
 {
-    let end = difference(spread as u64 + 1, strip.length.0 as u64);
+    let end = spread_end(strip, spread);
     if strip.held {
         if (strip.greatest.0 as u64) < end {
             return 0;

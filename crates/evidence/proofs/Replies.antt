@@ -8,7 +8,7 @@ use Prim.Native.Nat.{ℕ, zero, suc, _-_, _≤_}
 use native.Mathlib.Omega.{arith}
 use lib.Dec.{leb, ltb, eqb}
 use lib.ListN.{length}
-use borrow.Author.Tests.{eqb-true, eqb-false, ne-eqb, leb-true, leb-false, lt-ltb, le-ltb}
+use borrow.Author.Tests.{eqb-true, eqb-false, ne-eqb, leb-true, leb-false, lt-ltb}
 use Rattle.numbers.proofs.Bools.{ands, impossible}
 use Rattle.stack.specs.Stack.{Stack, stack, Total-met, Least-total, Placement, Answer, free, strip, greatest-of, least-position, first-spread}
 use Rattle.stack.specs.Limits.{within-limits}

@@ -4,7 +4,7 @@ use mathlib.Core.Path.{_≡_, refl, sym, ap, _∙_}
 use mathlib.Core.Bool.{Bool, true, false, _&&_, cond}
 use mathlib.Core.List.{List, [], _∷_}
 use mathlib.Core.Logic.{_⊎_, inl, inr, ⊎-elim}
-use Prim.Native.Nat.{ℕ, zero, suc, _-_, _≤_, _<_, min, max}
+use Prim.Native.Nat.{ℕ, zero, suc, _≤_, _<_, min, max}
 use native.Mathlib.Omega.{arith}
 use native.Mathlib.Nat.{zero-add}
 use borrow.Author.Tests.{leb-true, ltb-true, eqb-true, le-leb, lt-ltb, le-ltb, eq-eqb}

@@ -1,11 +1,11 @@
 -- The laws of the loops over a stack's strips, from the top down: the greatest number of a strip, and the sum of the lengths. Assumes nothing.
 use mathlib.Core.Path.{_≡_, _∙_}
-use mathlib.Core.List.{List, [], _∷_}
+use mathlib.Core.List.{[], _∷_}
 use Prim.Native.Nat.{ℕ, suc, _+_, _-_, _≤_, _<_, max}
 use native.Mathlib.Omega.{arith}
 use lib.ListN.{length, getD, drop, drop-of-length-le}
 use lib.Seq.{drop-cons}
-use Rattle.stack.specs.Stack.{Strip, no-strip, reach, greatest-of, first-spread, sum}
+use Rattle.stack.specs.Stack.{Strip, no-strip, greatest-of, sum}
 use Rattle.stack.specs.Value.{free-strip, strip-at, stack-of}
 use Rattle.stack.specs.Lengths.{lengths}
 use Rattle.stack.specs.Made.{Length-more, Number-of, Greatest-from, Sum-from}

@@ -1,7 +1,7 @@
 -- Lengths and greatest positions of strips, by which a table's end is found. Assumes nothing: these are definitions.
 use mathlib.Core.List.{List, [], _∷_}
-use Prim.Native.Nat.{ℕ, _+_}
-use Rattle.stack.specs.Stack.{Window, free, held, Strip, sum, greatest-of}
+use Prim.Native.Nat.{ℕ}
+use Rattle.stack.specs.Stack.{Window, free, held, Strip, greatest-of}
 
 unfoldable pub lengths : List Strip → List ℕ
 lengths [] = []

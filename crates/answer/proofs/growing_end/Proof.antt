@@ -19,43 +19,35 @@ not-reached : (b s n a e end : ℕ) → end ≡ s + 1 - n → end ≤ e → end 
 unfolding window-growth
 not-reached b s n a e end h i = let j : suc s - n ≡ end = omega arith in rw (j, le-ltb e end i)
 
-add-difference : tie.Need-add-difference
-add-difference c = search needs
-
-cast-difference : tie.Need-cast-difference
-cast-difference c = search needs
-
-difference-requires : tie.Need-difference-requires
-difference-requires c κs = search needs
+spread-end-requires : tie.Need-spread-end-requires
+spread-end-requires c κs = search needs
 
 cast-if2 : tie.Need-cast-if2
 cast-if2 c = search needs
 
 returns : tie.Need-returns
 unfolding window-of
-returns c = rw (c .before .before .if1 .taken) (reached _ _ _ _ _ _ (c .before .before .before .difference .ensures) (c .if2 .taken))
+returns c = rw (c .before .before .if1 .taken) (reached _ _ _ _ _ _ (c .before .before .before .spread-end .ensures) (c .if2 .taken))
 
 add-result : tie.Need-add-result
 add-result c = search needs
 
 returns-2 : tie.Need-returns-2
 unfolding window-of
-returns-2 c = rw (c .before .before .if1 .taken) (not-reached _ _ _ _ _ _ (c .before .before .before .difference .ensures) (c .if2 .left))
+returns-2 c = rw (c .before .before .if1 .taken) (not-reached _ _ _ _ _ _ (c .before .before .before .spread-end .ensures) (c .if2 .left))
 
 add-result-2 : tie.Need-add-result-2
 add-result-2 c = search needs
 
 returns-3 : tie.Need-returns-3
 unfolding window-of window-growth
-returns-3 c = rw (c .if1 .left) (omega (arith, c .before .difference .ensures))
+returns-3 c = rw (c .if1 .left) (omega (arith, c .before .spread-end .ensures))
 
 pub growing-end-spec : {M : Type 1} → statement M
 growing-end-spec =
     tie.close
     (tie.spec
-    add-difference
-    cast-difference
-    difference-requires
+    spread-end-requires
     cast-if2
     returns
     add-result

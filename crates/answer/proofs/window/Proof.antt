@@ -13,14 +13,11 @@ use Rattle.answer.proofs.window.Tie as tie
 ends : (a c d : ℕ) → c ≡ d → (a ∷ c ∷ []) ≡ (a ∷ d ∷ [])
 ends a c d e = rw e
 
-add-difference : tie.Need-add-difference
-add-difference c = search needs
+spread-end-requires : tie.Need-spread-end-requires
+spread-end-requires c κs = search needs
 
-cast-difference : tie.Need-cast-difference
-cast-difference c = search needs
-
-difference-requires : tie.Need-difference-requires
-difference-requires c κs = search needs
+cast-from : tie.Need-cast-from
+cast-from c = search needs
 
 cast-lesser : tie.Need-cast-lesser
 cast-lesser c = search needs
@@ -31,27 +28,22 @@ add-lesser c = search needs
 lesser-requires : tie.Need-lesser-requires
 lesser-requires c κs = search needs
 
-cast-t9 : tie.Need-cast-t9
-cast-t9 c = search needs
-
 returns : tie.Need-returns
 unfolding window-of window-span
-returns c = rw (c .before .before .before .if1 .taken) (ends _ _ _ (omega (arith, c .before .lesser .ensures, c .before .before .before .before .difference .ensures)))
+returns c = rw (c .before .before .before .if1 .taken) (ends _ _ _ (omega (arith, c .lesser .ensures, c .before .before .before .before .spread-end .ensures)))
 
 returns-2 : tie.Need-returns-2
 unfolding window-of window-span
-returns-2 c = rw (c .if1 .left) (ends _ _ _ (omega (arith, c .before .difference .ensures)))
+returns-2 c = rw (c .if1 .left) (ends _ _ _ (omega (arith, c .before .spread-end .ensures)))
 
 pub window-spec : {M : Type 1} → statement M
 window-spec =
     tie.close
     (tie.spec
-    add-difference
-    cast-difference
-    difference-requires
+    spread-end-requires
+    cast-from
     cast-lesser
     add-lesser
     lesser-requires
-    cast-t9
     returns
     returns-2)

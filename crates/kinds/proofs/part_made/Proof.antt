@@ -1,6 +1,4 @@
 -- part_made meets its contract, case by case of what was made. Assumes nothing.
-use Rattle.text.specs.Text.{refusal}
-use Rattle.kinds.specs.Readers.{Part-made}
 use borrow.Author.Needs.{needs}
 use Rattle.kinds.proofs.part_made.Statement.{statement}
 use Rattle.kinds.proofs.part_made.Tie as tie

@@ -1,5 +1,4 @@
 -- evaluate meets its contract: where every window's end grows by the scan's jump, else by that of the growing ends. Assumes nothing.
-use native.Mathlib.Omega.{arith}
 use Rattle.stack.specs.Value.{stack-of}
 use Rattle.answer.proofs.Standing.{windows-start, held-scan-asks}
 use Rattle.rows.proofs.Evaluating.{growth-asks, evaluated, evaluated-grown}

@@ -1,5 +1,4 @@
 -- single_outcome meets its contract. Assumes nothing.
-use native.Mathlib.Omega.{arith}
 use Rattle.spread.proofs.Single.{narrow-told, wide-told}
 use borrow.Author.Needs.{needs}
 use Rattle.spread.proofs.single_outcome.Statement.{statement}

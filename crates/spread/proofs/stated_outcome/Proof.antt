@@ -1,5 +1,4 @@
 -- stated_outcome meets its contract. Assumes nothing.
-use Rattle.text.specs.Text.{fine, refusal}
 use borrow.Author.Tests.{ne-eqb}
 use Rattle.spread.specs.Single.{stated-refusal}
 use borrow.Author.Needs.{needs}

@@ -1,7 +1,7 @@
 -- reach meets its contract. Assumes nothing.
 use mathlib.Core.Path.{refl}
 use native.Mathlib.Omega.{arith}
-use Rattle.stack.specs.Stack.{reach, least-position}
+use Rattle.stack.specs.Stack.{least-position}
 use Rattle.stack.specs.Value.{window-of}
 use borrow.Author.Needs.{needs}
 use Rattle.stack.proofs.reach.Statement.{statement}
