@@ -10,9 +10,9 @@ use lib.Seq.{length-take-le}
 use borrow.Author.Tests.{leb-true, leb-false, eqb-true, eqb-false, le-leb}
 use Rattle.numbers.proofs.Bools.{ands, impossible}
 use Rattle.stack.specs.Stack.{Stack, stack, Channel, channel, Window, free, held, Strip, strip, no-strip}
-use Rattle.stack.specs.Limits.{all-rising, channel-within, channels-within, window-within, strip-within, strips-within, within-limits}
+use Rattle.stack.specs.Limits.{all-rising, channel-within, channels-within, strip-within, strips-within, within-limits}
 use Rattle.stack.proofs.Within.{strips-length, channels-rising}
-use Rattle.text.specs.Text.{fine, or-else, entry, first-of, in-pairs, misplaced, nets-content, pairs-of, window-in, strip-in}
+use Rattle.text.specs.Text.{fine, or-else, entry, in-pairs, misplaced, nets-content, pairs-of, window-in, strip-in}
 use Rattle.text.proofs.Refusals.{or-else-fine, when-fine}
 use Rattle.kinds.proofs.Contents.{strip-fine, pairs-fine}
 use Rattle.session.specs.Session.{nothing, Step, begin, add, off, room-refusal, top-length, length-refusal, nets-refusal, step-refusal, taken, left, after, Made, made-empty, made-after}
@@ -161,27 +161,14 @@ unfolding is-free
 free-window free h = refl
 free-window (held a e) h = impossible h
 
--- a single strip
-record Only (k : Stack) (l : ℕ) : Type 0 where
-  pub some : 1 ≤ l
-  pub most : l ≤ 1000
-  pub is : k ≡ stack (strip l free ∷ []) []
-
-only-strip : (ls : List Strip) (cs : List Channel) → free-within ls ≡ true → channels-within ls cs ≡ true → length ls < 2 → Only (stack ls cs) (getD ls 0 no-strip .length)
+single-held : (ls : List Strip) (cs : List Channel) → free-within ls ≡ true → channels-within ls cs ≡ true → length ls < 2 → Held (stack ls cs)
 unfolding free-within strip-within channels-within
-only-strip [] cs a b h = impossible b
-only-strip (l ∷ []) [] a b h = record {
-  some = leb-true 1 (l .length) (search ands);
-  most = leb-true (l .length) 1000 (search ands);
-  is = ap (λ w. stack (strip (l .length) w ∷ []) []) (free-window (l .window) (search ands));
-}
-only-strip (l ∷ []) (c ∷ cs) a b h = impossible b
-only-strip (l ∷ u ∷ ls) cs a b h = absurd (omega arith)
-
-pub built-single : (k : Stack) → Built k → length (k .strips) ≡ 1 → k ≡ stack (strip (getD (k .strips) 0 no-strip .length) free ∷ []) []
-unfolding stack nothing
-built-single k none-built h = absurd (omega arith)
-built-single k (strips-built ls cs a b c) h = only-strip ls cs a b (omega arith) .is
+single-held [] cs a b h = impossible b
+single-held (l ∷ []) [] a b h =
+    single (l .length) (leb-true 1 (l .length) (search ands)) (leb-true (l .length) 1000 (search ands))
+    (ap (λ w. stack (strip (l .length) w ∷ []) []) (free-window (l .window) (search ands)))
+single-held (l ∷ []) (c ∷ cs) a b h = impossible b
+single-held (l ∷ u ∷ ls) cs a b h = absurd (omega arith)
 
 pub built-held : (k : Stack) → Built k → Held k
 unfolding stack
@@ -190,7 +177,7 @@ built-held k (strips-built ls cs a b c) = go (leb 2 (length ls)) refl
   where
     go : (v : Bool) → leb 2 (length ls) ≡ v → Held (stack ls cs)
     go true e = stacked (built-within (stack ls cs) (strips-built ls cs a b c) (leb-true 2 (length ls) e))
-    go false e = let o = only-strip ls cs a b (leb-false 2 (length ls) e) in single _ (o .some) (o .most) (o .is)
+    go false e = single-held ls cs a b (leb-false 2 (length ls) e)
 
 -- where there is a strip: every channel rises, and there is one strip more than channels
 pub built-rising : (k : Stack) → Built k → all-rising (k .channels) ≡ true

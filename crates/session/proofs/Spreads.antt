@@ -4,10 +4,10 @@ use mathlib.Core.Bool.{true}
 use Prim.Native.Nat.{ℕ, _≤_}
 use native.Mathlib.Omega.{arith}
 use lib.Dec.{eqb}
-use lib.ListN.{length, getD}
+use lib.ListN.{length}
 use borrow.Author.Tests.{ne-eqb, eqb-false}
-use Rattle.numbers.proofs.Lists.{getD-tabulate}
-use Rattle.stack.specs.Stack.{Strip, no-strip, Stack, stack}
+use Rattle.numbers.specs.Lists.{tabulate}
+use Rattle.stack.specs.Stack.{Stack, stack}
 use Rattle.stack.specs.Limits.{within-limits}
 use Rattle.text.specs.Text.{refusal, fine, or-else}
 use Rattle.text.specs.Outcome.{refusal-of, refused}
@@ -28,7 +28,7 @@ use Rattle.session.specs.Session.{Made, session-refusal, Session-total-s
 use Rattle.session.specs.Value.{strip-at, held-of}
 use Rattle.session.specs.declared.Session.{Session}
 use Rattle.session.proofs.Values.{strips-long}
-use Rattle.session.proofs.Made.{made-built, built-within, built-single, built-rising, built-count}
+use Rattle.session.proofs.Made.{made-built, built-within, built-rising, built-count}
 
 -- where a spread is not refused there is a strip
 pub some-strip : (k : Stack) (s : ℕ) → session-refusal k s .number ≡ 0 → length (k .strips) ≡ 0 → ⊥
@@ -56,11 +56,9 @@ module _ (s : Session) (w : ℕ) where
   unfolding session-refusal
   some-refused h = rw (strips-long s, ne-eqb (s .count) 0 h)
 
-  single-is : Made (held-of s) → s .count ≡ 1 → held-of s ≡ one-strip (strip-at s 0 .length)
-  unfolding held-of stack
-  single-is m e =
-      let first : getD (held-of s .strips) 0 no-strip ≡ strip-at s 0 = getD-tabulate (s .count) 0 (λ i. strip-at s i) no-strip (omega arith) in
-      built-single (held-of s) (made-built (held-of s) m) (strips-long s ∙ e) ∙ ap (λ (l : Strip). one-strip (l .length)) first
+  single-is : s .count ≡ 1 → held-of s ≡ one-strip (strip-at s 0 .length)
+  unfolding held-of stack tabulate
+  single-is e = rw e
 
   -- an empty session
   pub empty-total : (r : TotalAnswer) → s .count ≡ 0 → r .outcome ≡ refused Empty 0 0 → r .total .0 ≡ 0 → Session-total-says (held-of s) w r
@@ -74,18 +72,18 @@ module _ (s : Session) (w : ℕ) where
       rw (none-refused e) (placed-refused 13 (refusal 13 0 0) (held-of s) w v r (λ y. omega arith) (refused-zeros u (refusal 13 0 0) r z (ap refusal-of o)))
 
   -- a single strip
-  single-refused : Made (held-of s) → s .count ≡ 1 → session-refusal (held-of s) w ≡ narrow-refusal (one-strip (strip-at s 0 .length)) w
-  single-refused m e = some-refused (λ z. omega arith) ∙ ap (λ k. narrow-refusal k w) (single-is m e)
+  single-refused : s .count ≡ 1 → session-refusal (held-of s) w ≡ narrow-refusal (one-strip (strip-at s 0 .length)) w
+  single-refused e = some-refused (λ z. omega arith) ∙ ap (λ k. narrow-refusal k w) (single-is e)
 
-  pub single-total-says : (r : TotalAnswer) → Made (held-of s) → s .count ≡ 1 →
+  pub single-total-says : (r : TotalAnswer) → s .count ≡ 1 →
       Total-or (narrow-refusal (one-strip (strip-at s 0 .length)) w) (one-strip (strip-at s 0 .length)) w r → Session-total-says (held-of s) w r
   unfolding Session-total-says
-  single-total-says r m e t = rw (single-refused m e, single-is m e) t
+  single-total-says r e t = rw (single-refused e, single-is e) t
 
-  pub single-placement-says : (v : ℕ) (r : PlacementAnswer) → Made (held-of s) → s .count ≡ 1 →
+  pub single-placement-says : (v : ℕ) (r : PlacementAnswer) → s .count ≡ 1 →
       Placement-or (narrow-refusal (one-strip (strip-at s 0 .length)) w) (one-strip (strip-at s 0 .length)) w v r → Session-placement-says (held-of s) w v r
   unfolding Session-placement-says
-  single-placement-says v r m e p = rw (single-refused m e, single-is m e) p
+  single-placement-says v r e p = rw (single-refused e, single-is e) p
 
   -- two strips or more
   module _ (k : Stack) (some : s .count ≡ 0 → ⊥) (q : k ≡ held-of s) where

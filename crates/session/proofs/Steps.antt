@@ -7,7 +7,7 @@ use lib.Dec.{eqb}
 use lib.ListN.{length}
 use borrow.Author.Tests.{eqb-true, ne-eqb}
 use Rattle.stack.specs.Stack.{free, Strip, strip, Stack, stack}
-use Rattle.stack.specs.Value.{strip-of, channel-of}
+use Rattle.stack.specs.Value.{channel-of}
 use Rattle.stack.specs.declared.Strip.{Strip as Strip-struct}
 use Rattle.text.specs.Text.{Refusal, refusal, fine, or-else, entry, in-pairs, misplaced, nets-content, pairs-of, window-in, strip-in}
 use Rattle.text.specs.Outcome.{refusal-of, is-accepted}
@@ -38,11 +38,11 @@ stepped k a o t u r c e f g = record { outcome = ap refusal-of (c .outcome-is) �
         rw (s, zero-there) (f zero-there)
     go false h s = rw (s, ne-eqb (step-refusal k a .number) 0 (λ z. refused-number o h (number ∙ z))) g
 
-pub begun : (k : Stack) (l : ℕ) (p : PartRead) (t u : Session) (r : SessionStep) → Part-content 0 (l ∷ []) p → held-of t ≡ stack (strip-of (p .strip) ∷ []) [] →
+pub begun : (k : Stack) (l : ℕ) (p : PartRead) (t u : Session) (r : SessionStep) → Part-content 0 (l ∷ []) p → held-of t ≡ stack (strip (p .strip .length .0) free ∷ []) [] →
     held-of u ≡ nothing → Chosen (p .outcome) t u r → Stepped k (begin l) r
 unfolding step-refusal length-refusal taken left strip-in window-in
 begun k l p t u r c e g s =
-    stepped k (begin l) (p .outcome) t u r s (c .outcome) (λ z. e ∙ rw (c .strip (ap (λ (x : Refusal). x .number) (c .outcome) ∙ z))) g
+    stepped k (begin l) (p .outcome) t u r s (c .outcome) (λ z. e ∙ ap (λ (x : Strip). stack (strip (x .length) free ∷ []) []) (c .strip (ap (λ (x : Refusal). x .number) (c .outcome) ∙ z))) g
 
 pub taken-off : (k : Stack) (o : Outcome) (t u : Session) (r : SessionStep) → refusal-of o ≡ step-refusal k off → held-of t ≡ taken k off → held-of u ≡ k → Chosen o t u r →
     Stepped k off r
@@ -76,7 +76,7 @@ terminals-read lo hi vs c odd o q d n e ns g =
 module _ (k : Stack) (l : ℕ) (vs : List ℕ) (c : ℕ) (room : Outcome) (p : PartRead) (top : Strip-struct) (q : NetsRead) (fits o : Outcome) (t u : Session) (r : SessionStep)
     (roomy : refusal-of room ≡ room-refusal k) (part : Part-content 0 (l ∷ []) p) (upper : Top-is k (top .length .0)) (nets : Terminals-read (top .length .0) (p .strip .length .0) vs c q)
     (e : refusal-of fits ≡ or-else (refusal-of room) (refusal-of (p .outcome))) (f : refusal-of o ≡ or-else (refusal-of fits) (refusal-of (q .outcome)))
-    (topped : Topped k (strip-of (p .strip)) (channel-of (q .terminals)) t) (kept : held-of u ≡ k) (s : Chosen o t u r) where
+    (topped : Topped k (strip (p .strip .length .0) free) (channel-of (q .terminals)) t) (kept : held-of u ≡ k) (s : Chosen o t u r) where
   fits-is : refusal-of fits ≡ or-else (room-refusal k) (length-refusal l)
   unfolding length-refusal
   fits-is = rw (roomy, part .outcome) at e
@@ -86,12 +86,10 @@ module _ (k : Stack) (l : ℕ) (vs : List ℕ) (c : ℕ) (room : Outcome) (p : P
     room-good : room-refusal k .number ≡ 0
     room-good = or-else-fine (room-refusal k) (length-refusal l) z .0
 
-    strip-is : strip-of (p .strip) ≡ strip l free
-    unfolding length-refusal strip-in window-in
-    strip-is = part .strip (ap (λ (x : Refusal). x .number) (part .outcome) ∙ or-else-fine (room-refusal k) (length-refusal l) z .1)
-
     length-is : p .strip .length .0 ≡ l
-    length-is = ap (λ (x : Strip). x .length) strip-is
+    unfolding length-refusal strip-in window-in
+    length-is =
+        ap (λ (x : Strip). x .length) (part .strip (ap (λ (x : Refusal). x .number) (part .outcome) ∙ or-else-fine (room-refusal k) (length-refusal l) z .1))
 
     pairs-read : (ns : List ℕ) → Given ns vs c → Pairs-read (top-length k) l ns q
     pairs-read ns g =
@@ -112,4 +110,4 @@ module _ (k : Stack) (l : ℕ) (vs : List ℕ) (c : ℕ) (room : Outcome) (p : P
           let both = or-else-fine (or-else (room-refusal k) (length-refusal l)) (nets-refusal (top-length k) l ns) z in
           let read = pairs-read (both .0) ns g in
           let pairs : channel-of (q .terminals) ≡ pairs-of ns = read .pairs (ap (λ (x : Refusal). x .number) (read .outcome) ∙ both .1) in
-          topped (room-good (both .0)) ∙ rw (strip-is (both .0), pairs)
+          topped (room-good (both .0)) ∙ rw (length-is (both .0), pairs)

@@ -1,11 +1,12 @@
--- What the parts of a step answer. Assumes nothing: these are definitions.
+-- What the parts of a step and of a spread answer. Assumes nothing: these are definitions.
 use mathlib.Core.Path.{_≡_}
 use mathlib.Core.Bool.{cond}
-use mathlib.Core.List.{List, [], _∷_, _++_}
-use Prim.Native.Nat.{ℕ, _-_}
-use lib.ListN.{length}
+use mathlib.Core.List.{List, [], _∷_, _++_, map}
+use Prim.Native.Nat.{ℕ}
 use Rattle.stack.specs.Stack.{Pair, channel, Strip, Stack, stack}
-use Rattle.stack.specs.Value.{channel-of}
+use Rattle.stack.specs.Value.{free-strip, channel-of}
+use Rattle.stack.specs.declared.Columns.{Columns}
+use Rattle.stack.specs.declared.Strip.{Strip as Strip-struct}
 use Rattle.text.specs.Text.{pairs-of}
 use Rattle.text.specs.Outcome.{refusal-of, is-accepted}
 use Rattle.text.specs.declared.Outcome.{Outcome}
@@ -27,6 +28,10 @@ pub record Pairs-read (lower upper : ℕ) (ns : List ℕ) (r : NetsRead) : Type 
 
 abbrev pub Terminals-read : (lower upper : ℕ) → (values : List ℕ) → (count : ℕ) → NetsRead → Type 0
 Terminals-read lo hi vs c r = (ns : List ℕ) → Given ns vs c → Pairs-read lo hi ns r
+
+-- the free strips of these lengths
+abbrev pub free-strips : List Columns → List Strip-struct
+free-strips ls = map (λ (l : Columns). free-strip (l .0)) ls
 
 -- where there is room for one strip more: the top strip's length, and the session with one strip on it
 abbrev pub Top-is : Stack → (length : ℕ) → Type 0

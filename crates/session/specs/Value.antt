@@ -4,15 +4,15 @@ use mathlib.Core.List.{List}
 use Prim.Native.Nat.{ℕ, _-_, _<_}
 use lib.ListN.{length, getD}
 use Rattle.numbers.specs.Lists.{tabulate}
-use Rattle.stack.specs.Stack.{Strip, Stack, stack, Channel, channel}
-use Rattle.stack.specs.Value.{free-strip, strip-of, no-terminals, channel-of}
+use Rattle.stack.specs.Stack.{free, Strip, strip, Stack, stack, Channel, channel}
+use Rattle.stack.specs.Value.{columns, no-terminals, channel-of}
 use Rattle.text.specs.Outcome.{refusal-of}
 use Rattle.session.specs.Session.{Step, add, step-refusal, after}
 use Rattle.session.specs.declared.Session.{Session}
 use Rattle.session.specs.declared.SessionStep.{SessionStep}
 
 abbrev pub strip-at : Session → (i : ℕ) → Strip
-strip-at s i = strip-of (getD (s .strips) i (free-strip 0))
+strip-at s i = strip (getD (s .lengths) i (columns 0) .0) free
 
 abbrev pub channel-at : Session → (i : ℕ) → Channel
 channel-at s i = channel (channel-of (getD (s .channels) i no-terminals)) 0

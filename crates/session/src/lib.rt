@@ -3,13 +3,13 @@
 ghost use mathlib.Core.Path.{_≡_};
 ghost use mathlib.Core.List.{[], _∷_};
 ghost use Prim.Native.Nat.{_≤_};
-ghost use Rattle.stack.specs.Stack.{stack};
-ghost use Rattle.stack.specs.Value.{strip-of, channel-of, stack-of};
+ghost use Rattle.stack.specs.Stack.{free, strip, stack};
+ghost use Rattle.stack.specs.Value.{free-strip, channel-of, stack-of};
 ghost use Rattle.text.specs.Outcome.{refusal-of};
 ghost use Rattle.spread.specs.Best.{Best-total, Best-placement};
 ghost use Rattle.session.specs.Session.{begin, off, nothing, room-refusal, step-refusal, taken, Made, session-refusal, Session-total-says, Session-placement-says};
 ghost use Rattle.session.specs.Value.{held-of, Stepped, Added};
-ghost use Rattle.session.specs.Parts.{Chosen, Terminals-read, Top-is, Topped};
+ghost use Rattle.session.specs.Parts.{Chosen, Terminals-read, free-strips, Top-is, Topped};
 use kinds::NetsRead;
 use kinds::nets_content;
 use kinds::part_content;
@@ -26,17 +26,17 @@ use stack::Stack;
 use stack::Strip;
 use stack::Terminals;
 use stack::Tracks;
-use stack::strip_stored;
+use stack::columns_stored;
 use stack::terminals_stored;
 use text::Counts;
 use text::Outcome;
 use text::Refusal;
 use text::count_outcome;
 
-// One to nine strips, strip 0 at the bottom, and the channels between them, or none. Places past them are unused.
+// One to nine free strips, strip 0 at the bottom, as their lengths, and the channels between them, or none. Places past them are unused.
 pub struct Session {
     pub count: usize,
-    pub strips: [Strip; Stack::STRIPS],
+    pub lengths: [Columns; Stack::STRIPS],
     pub channels: [Terminals; Stack::MAX_CHANNELS],
 }
 
@@ -76,30 +76,47 @@ fn read_terminals(values: &[u32; KEPT], count: u16, lower: Strip, upper: Strip) 
     NetsRead { outcome, terminals }
 }
 
+// The free strip of a length.
+fn free(length: Columns) -> Strip
+    ensures { λ r. ⌜ r ≡ free-strip (length .0) ⌝ }
+{
+    Strip {
+        length,
+        held: false,
+        least: Columns(0),
+        greatest: Columns(0),
+    }
+}
+
+// The free strips of these lengths.
+fn free_strips(lengths: [Columns; Stack::STRIPS]) -> [Strip; Stack::STRIPS]
+    ensures { λ r. ⌜ r ≡ free-strips lengths ⌝ }
+{
+    let mut strips = [free(Columns(0)); Stack::STRIPS];
+    for i in 0..Stack::STRIPS {
+        strips[i] = free(lengths[i]);
+    }
+    strips
+}
+
 impl Session {
     pub fn empty() -> Session
         ensures { λ r. ⌜ held-of r ≡ nothing ⌝ }
     {
-        let shortest = Strip {
-            length: Columns(Strip::MIN_LENGTH),
-            held: false,
-            least: Columns(0),
-            greatest: Columns(0),
-        };
         Session {
             count: 0,
-            strips: [shortest; Stack::STRIPS],
+            lengths: [Columns(Strip::MIN_LENGTH); Stack::STRIPS],
             channels: [Terminals::none(); Stack::MAX_CHANNELS],
         }
     }
 
     // A single strip.
-    fn single(strip: Strip) -> Session
-        ensures { λ r. ⌜ held-of r ≡ stack (strip-of strip ∷ []) [] ⌝ }
+    fn single(length: Columns) -> Session
+        ensures { λ r. ⌜ held-of r ≡ stack (strip (length .0) free ∷ []) [] ⌝ }
     {
         Session {
             count: 1,
-            strips: [strip; Stack::STRIPS],
+            lengths: [length; Stack::STRIPS],
             channels: [Terminals::none(); Stack::MAX_CHANNELS],
         }
     }
@@ -111,7 +128,7 @@ impl Session {
         let part = part_content(length, 0);
         let outcome = part.outcome;
         let strip = part.strip;
-        let begun = Session::single(strip);
+        let begun = Session::single(strip.length);
         let none = Session::empty();
         SessionStep::new(outcome, begun, none)
     }
@@ -129,23 +146,23 @@ impl Session {
         Outcome::Accepted
     }
 
-    // The top strip where there is room for one more, else any.
-    fn top(self) -> Strip
-        ensures { λ r. ⌜ Top-is (held-of self) (r .length .0) ⌝ }
+    // The top strip's length where there is room for one more, else any.
+    fn top(self) -> Columns
+        ensures { λ r. ⌜ Top-is (held-of self) (r .0) ⌝ }
     {
         let n = self.count;
         if n < 1 {
-            return self.strips[0];
+            return self.lengths[0];
         }
         if Stack::STRIPS < n {
-            return self.strips[0];
+            return self.lengths[0];
         }
-        self.strips[n - 1]
+        self.lengths[n - 1]
     }
 
     // The session with one strip more, where there is room for it.
-    fn with_top(self, strip: Strip, terminals: Terminals) -> Session
-        ensures { λ r. ⌜ Topped (held-of self) (strip-of strip) (channel-of terminals) r ⌝ }
+    fn with_top(self, length: Columns, terminals: Terminals) -> Session
+        ensures { λ r. ⌜ Topped (held-of self) (strip (length .0) free) (channel-of terminals) r ⌝ }
     {
         let n = self.count;
         if n < 1 {
@@ -154,13 +171,13 @@ impl Session {
         if Stack::STRIPS <= n {
             return self;
         }
-        let old_strips = self.strips;
+        let old_lengths = self.lengths;
         let old_channels = self.channels;
-        let strips = strip_stored(old_strips, n, strip);
+        let lengths = columns_stored(old_lengths, n, length);
         let channels = terminals_stored(old_channels, n - 1, terminals);
         Session {
             count: n + 1,
-            strips,
+            lengths,
             channels,
         }
     }
@@ -173,12 +190,12 @@ impl Session {
         let part = part_content(length, 0);
         let sized = part.outcome;
         let strip = part.strip;
-        let nets = read_terminals(terminals, count, self.top(), strip);
+        let nets = read_terminals(terminals, count, free(self.top()), strip);
         let wired = nets.outcome;
         let pairs = nets.terminals;
         let fits = room.or_else(sized);
         let outcome = fits.or_else(wired);
-        let taller = self.with_top(strip, pairs);
+        let taller = self.with_top(strip.length, pairs);
         SessionStep::new(outcome, taller, self)
     }
 
@@ -217,8 +234,9 @@ impl Session {
         requires { ⌜ 1 ≤ self .count ⌝ }
         ensures { λ r. ⌜ stack-of r ≡ held-of self ⌝ }
     {
-        let strips = self.strips;
+        let lengths = self.lengths;
         let channels = self.channels;
+        let strips = free_strips(lengths);
         Stack {
             count: self.count - 1,
             strips,
@@ -241,7 +259,7 @@ impl Session {
             };
         }
         if n == 1 {
-            return single_total(self.strips[0], spread);
+            return single_total(free(self.lengths[0]), spread);
         }
         total_of(Outcome::Accepted, self.stack(), spread)
     }
@@ -257,7 +275,7 @@ impl Session {
             return refused_placement(Outcome::refused(Refusal::Empty, 0, 0));
         }
         if n == 1 {
-            return single_placement(self.strips[0], spread, total);
+            return single_placement(free(self.lengths[0]), spread, total);
         }
         placement_of(Outcome::Accepted, self.stack(), spread, total)
     }

@@ -219,7 +219,19 @@ fn is_not_above(before: [Columns; Terminals::MAX_PAIRS], n: usize, x: u32) -> bo
 }
 
 // The stores also say how long their arrays are, which is known of an array that is passed and not of a struct's field.
-pub fn strip_stored(mut all: [Strip; Stack::STRIPS], i: usize, x: Strip) -> [Strip; Stack::STRIPS]
+fn strip_stored(mut all: [Strip; Stack::STRIPS], i: usize, x: Strip) -> [Strip; Stack::STRIPS]
+    requires { ⌜ i < 9 ⌝ }
+    ensures { λ r. ⌜ Stored all 9 i x r ⌝ }
+{
+    all[i] = x;
+    all
+}
+
+pub fn columns_stored(
+    mut all: [Columns; Stack::STRIPS],
+    i: usize,
+    x: Columns,
+) -> [Columns; Stack::STRIPS]
     requires { ⌜ i < 9 ⌝ }
     ensures { λ r. ⌜ Stored all 9 i x r ⌝ }
 {

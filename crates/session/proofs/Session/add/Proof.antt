@@ -14,6 +14,9 @@ part-content-requires c κs = search needs
 top-requires : tie.Need-top-requires
 top-requires c κs = search needs
 
+free-requires : tie.Need-free-requires
+free-requires c κs = search needs
+
 read-terminals-requires : tie.Need-read-terminals-requires
 read-terminals-requires c κs = search needs
 
@@ -35,11 +38,12 @@ returns c =
     let whole = c .before .before .or-else2 in
     let fits = c .before .before .before .or-else in
     let nets = c .before .before .before .before .before .read-terminals in
-    let top = c .before .before .before .before .before .before .top in
-    let part = c .before .before .before .before .before .before .before .before .part-content in
-    let room = c .before .before .before .before .before .before .before .before .before .room in
-    added _ _ _ _ (room .result) (part .result) (top .result) (nets .result) (fits .result) (whole .result) (grown .result) _ (c .new .result)
-    (room .ensures) (part .ensures) (top .ensures) (nets .ensures) (fits .ensures) (whole .ensures) (grown .ensures) refl (c .new .ensures)
+    let lower = c .before .before .before .before .before .before .free in
+    let top = c .before .before .before .before .before .before .before .top in
+    let part = c .before .before .before .before .before .before .before .before .before .part-content in
+    let room = c .before .before .before .before .before .before .before .before .before .before .room in
+    added _ _ _ _ (room .result) (part .result) (lower .result) (nets .result) (fits .result) (whole .result) (grown .result) _ (c .new .result)
+    (room .ensures) (part .ensures) (rw (lower .ensures) (top .ensures)) (nets .ensures) (fits .ensures) (whole .ensures) (grown .ensures) refl (c .new .ensures)
 
 pub add-spec : {M : Type 1} → statement M
 add-spec =
@@ -48,6 +52,7 @@ add-spec =
     room-requires
     part-content-requires
     top-requires
+    free-requires
     read-terminals-requires
     or-else-requires
     or-else-requires-2

@@ -14,16 +14,19 @@ returns c =
     let a = c .before .before in
     total-both _ _ (a .pre) _ (empty-total (a .args .t1) _ _ (c .before .if1 .taken) (c .refused .ensures) refl)
 
-element-copy-out-single-total : tie.Need-element-copy-out-single-total
-element-copy-out-single-total c = search needs
+element-copy-out-free : tie.Need-element-copy-out-free
+element-copy-out-free c = search needs
+
+free-requires : tie.Need-free-requires
+free-requires c κs = search needs
 
 single-total-requires : tie.Need-single-total-requires
 single-total-requires c κs = search needs
 
 returns-2 : tie.Need-returns-2
 returns-2 c =
-    let a = c .before .before .before .before in
-    total-both _ _ (a .pre) _ (single-total-says (a .args .t1) _ _ (a .pre) (c .before .before .if2 .taken) (c .single-total .ensures))
+    let a = c .before .before .before .before .before in
+    total-both _ _ (a .pre) _ (single-total-says (a .args .t1) _ _ (c .before .before .before .if2 .taken) (rw (c .before .free .ensures) at (c .single-total .ensures)))
 
 stack-requires : tie.Need-stack-requires
 stack-requires c κs = search needs
@@ -44,7 +47,8 @@ least-total-spec =
     (tie.spec
     refused-requires
     returns
-    element-copy-out-single-total
+    element-copy-out-free
+    free-requires
     single-total-requires
     returns-2
     stack-requires

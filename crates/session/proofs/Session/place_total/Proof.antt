@@ -16,16 +16,19 @@ returns c =
     let a = c .before .before .before in
     placement-both _ _ (a .pre) _ _ (empty-placement (a .args .t1) _ _ (c .before .refused .result) _ (c .before .before .if1 .taken) (c .before .refused .ensures) (c .refused-placement .ensures))
 
-element-copy-out-single-placement : tie.Need-element-copy-out-single-placement
-element-copy-out-single-placement c = search needs
+element-copy-out-free : tie.Need-element-copy-out-free
+element-copy-out-free c = search needs
+
+free-requires : tie.Need-free-requires
+free-requires c κs = search needs
 
 single-placement-requires : tie.Need-single-placement-requires
 single-placement-requires c κs = search needs
 
 returns-2 : tie.Need-returns-2
 returns-2 c =
-    let a = c .before .before .before .before in
-    placement-both _ _ (a .pre) _ _ (single-placement-says (a .args .t1) _ _ _ (a .pre) (c .before .before .if2 .taken) (c .single-placement .ensures))
+    let a = c .before .before .before .before .before in
+    placement-both _ _ (a .pre) _ _ (single-placement-says (a .args .t1) _ _ _ (c .before .before .before .if2 .taken) (rw (c .before .free .ensures) at (c .single-placement .ensures)))
 
 stack-requires : tie.Need-stack-requires
 stack-requires c κs = search needs
@@ -47,7 +50,8 @@ place-total-spec =
     refused-requires
     refused-placement-requires
     returns
-    element-copy-out-single-placement
+    element-copy-out-free
+    free-requires
     single-placement-requires
     returns-2
     stack-requires
