@@ -116,9 +116,9 @@ windows-step k n s x windows h few w e =
       windows-are = λ i m. next-place windows n i _ [] _ (omega (arith, w .sized)) (w .windows-are) (rw (e, stack-strip k n h)) m;
     }
 
-pub growths-step : (k : Stack-struct) (n s least end : ℕ) → n < suc (k .count) → Below-growths (stack-of k) n s least → end ≡ growth bias s (strip-at k n) →
+pub below-step : (k : Stack-struct) (n s least end : ℕ) → n < suc (k .count) → Below-growths (stack-of k) n s least → end ≡ growth bias s (strip-at k n) →
     Below-growths (stack-of k) (n + 1) s (min least end)
-growths-step k n s least end h w e i m = go (lt-or-eq i n (omega arith))
+below-step k n s least end h w e i m = go (lt-or-eq i n (omega arith))
   where
     go : (i < n) ⊎ (i ≡ n) → min least end ≤ growth bias s (strip-in (stack-of k) i)
     go (inl l) = omega (arith, w i l)

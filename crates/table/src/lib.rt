@@ -25,7 +25,7 @@ use writing::put_head;
 use writing::put_row_at;
 
 // A spread, its least total, how far the spread may grow before a smaller total can be had, and where the text ends. Before the first row: the first spread, a
-// total above all, and no way to go.
+// total above all, and a jump of 0.
 struct Walk {
     spread: u32,
     total: usize,

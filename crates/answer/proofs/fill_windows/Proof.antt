@@ -6,7 +6,7 @@ use borrow.Author.Count.{falls}
 use Rattle.stack.specs.Value.{stack-of}
 use Rattle.stack.proofs.Within.{few-channels}
 use Rattle.answer.specs.Arrays.{Windows-in, Below-growths}
-use Rattle.answer.proofs.Standing.{windows-step, growths-step}
+use Rattle.answer.proofs.Standing.{windows-step, below-step}
 use borrow.Author.Needs.{needs}
 use Rattle.answer.proofs.fill_windows.Statement.{statement}
 use Rattle.answer.proofs.fill_windows.Tie as tie
@@ -57,7 +57,7 @@ loop-again c =
     let less = c .before .before .before .before .loop-test .taken in (
       omega arith,
       windows-step (a .args .t1) (b .loop .i) (a .args .spread) (c .before .before .window .result) _ (omega arith) (few-channels (a .args .t1) (a .pre .0)) (b .loop .inv .1) (c .before .before .window .ensures),
-      rw (c .lesser .ensures) (growths-step (a .args .t1) (b .loop .i) (a .args .spread) (b .loop .least) (c .before .growing-end .result) (omega arith) (b .loop .inv .2) (c .before .growing-end .ensures)),
+      rw (c .lesser .ensures) (below-step (a .args .t1) (b .loop .i) (a .args .spread) (b .loop .least) (c .before .growing-end .result) (omega arith) (b .loop .inv .2) (c .before .growing-end .ensures)),
     )
 
 returns : tie.Need-returns Inv-loop μ-loop
