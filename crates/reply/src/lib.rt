@@ -9,6 +9,7 @@ ghost use Rattle.text.specs.Text.{or-else};
 ghost use Rattle.text.specs.Outcome.{refusal-of};
 ghost use Rattle.reply.specs.Refusals.{narrow-refusal, asked-refusal};
 ghost use Rattle.reply.specs.Parts.{Refused-placement, Refused-table, Finished};
+use extent::first_spread;
 use stack::Columns;
 use stack::Stack;
 use stack::Tracks;
@@ -44,7 +45,7 @@ pub fn spread_outcome(outcome: Outcome, stack: Stack, spread: u32) -> Outcome
     if !outcome.is_accepted() {
         return outcome;
     }
-    if stack.first_spread() <= spread as u64 {
+    if first_spread(stack) <= spread as u64 {
         return outcome;
     }
     Outcome::refused(Refusal::Narrow, 0, 0)
@@ -92,7 +93,7 @@ pub fn page_outcome(stack: Stack, spread: u32, channel: u32) -> Outcome
     if stack.count < channel as usize {
         return Outcome::refused(Refusal::Crowd, 0, 0);
     }
-    let first = stack.first_spread();
+    let first = first_spread(stack);
     if (spread as u64) < first {
         return Outcome::refused(Refusal::Narrow, 0, 0);
     }

@@ -5,4 +5,3 @@ pub mod Rising
 pub mod Feasible
 pub mod OnStrips
 pub mod Within
-pub mod Lengths

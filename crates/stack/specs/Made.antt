@@ -7,10 +7,9 @@ use Prim.Native.Nat.{ℕ, suc, _+_, _*_, _-_, _≤_, _<_}
 use lib.Dec.{ltb, leb}
 use lib.ListN.{length, getD, set, drop, replicate}
 use Rattle.numbers.specs.Lists.{tabulate}
-use Rattle.stack.specs.Stack.{Pair, pair, p-at, q-at, channel, no-channel, channel-in, Window, free, held, Strip, strip, Stack, stack, greatest-of, sum}
+use Rattle.stack.specs.Stack.{Pair, pair, p-at, q-at, channel, no-channel, channel-in, Window, free, held, Strip, strip, Stack, stack}
 use Rattle.stack.specs.Limits.{window-within}
 use Rattle.stack.specs.Value.{free-strip, held-strip, channel-of, stack-of}
-use Rattle.stack.specs.Lengths.{lengths}
 use Rattle.stack.specs.declared.Strip.{Strip as Strip-struct}
 use Rattle.stack.specs.declared.StripMade.{StripMade}
 use Rattle.stack.specs.declared.StripMade.the-variants.{Made, Length, Inverted}
@@ -126,23 +125,7 @@ pub record Stored {A : Type 0} (all : List A) (n i : ℕ) (x : A) (r : List A) :
   pub long : length all ≡ n
   pub stored : r ≡ set all i x
 
--- a length added, and that it is one of 32 bits
-pub record Length-more (l rest r : ℕ) : Type 0 where
-  pub all : r ≡ l + rest
-  pub small : l < 4294967296
-
 -- a strip's number below 2^33
 pub record Number-of (x r : ℕ) : Type 0 where
   pub is : r ≡ x
   pub small : r < 8589934592
-
--- of the strips from i on the greatest number, and the sum of the lengths
-pub record Greatest-from (f : Strip → ℕ) (k : Stack-struct) (i most : ℕ) : Type 0 where
-  pub inside : i ≤ suc (k .count)
-  pub most-is : most ≡ greatest-of f (drop i (stack-of k .strips))
-  pub small : most < 8589934592
-
-pub record Sum-from (k : Stack-struct) (i all : ℕ) : Type 0 where
-  pub inside : i ≤ suc (k .count)
-  pub sum-is : all ≡ sum (lengths (drop i (stack-of k .strips)))
-  pub small : all + 4294967296 * i ≤ 4294967296 * suc (k .count)

@@ -1,12 +1,10 @@
 // Stacks of strips and channels, with the limits of documents 01 and 02 as constants of the types and constructors that test them.
-use numbers::greater;
 ghost use mathlib.Core.Path.{_≡_};
 ghost use mathlib.Core.List.{[]};
 ghost use Prim.Native.Nat.{_-_, _≤_, _<_};
 ghost use lib.ListN.{getD};
-ghost use Rattle.stack.specs.Stack.{free, held, reach, first-spread, sum};
+ghost use Rattle.stack.specs.Stack.{free, held, reach};
 ghost use Rattle.stack.specs.Value.{columns, strip-of, channel-of, stack-of};
-ghost use Rattle.stack.specs.Lengths.{lengths, greatest-position, last-position};
 ghost use Rattle.stack.specs.Made.{
   strip-made,
   is-good,
@@ -19,7 +17,6 @@ ghost use Rattle.stack.specs.Made.{
   Channel-set,
   Floor-set,
   Stored,
-  Length-more,
   Number-of,
 };
 
@@ -90,6 +87,16 @@ impl Strip {
             least: Columns(least),
             greatest: Columns(greatest),
         })
+    }
+
+    // The length with the least position.
+    pub fn reach(self) -> u64
+        ensures { λ r. ⌜ Number-of (reach (strip-of self)) r ⌝ }
+    {
+        if self.held {
+            return self.length.0 as u64 + self.least.0 as u64;
+        }
+        self.length.0 as u64
     }
 }
 
@@ -374,74 +381,4 @@ impl Stack {
         self.floors = floors;
         self
     }
-
-    // The first spread: the greatest length with the least position.
-    pub fn first_spread(self) -> u64
-        requires { ⌜ self .count ≤ 8 ⌝ }
-        ensures { λ r. ⌜ Number-of (first-spread (stack-of self .strips)) r ⌝ }
-    {
-        let mut most: u64 = 0;
-        let mut left = self.count + 1;
-        while 0 < left {
-            left -= 1;
-            most = greater(most, reach(self.strips[left]));
-        }
-        most
-    }
-
-    // The greatest position of a strip that is held; 0 where none is.
-    pub fn last_position(self) -> u64
-        requires { ⌜ self .count ≤ 8 ⌝ }
-        ensures { λ r. ⌜ Number-of (last-position (stack-of self .strips)) r ⌝ }
-    {
-        let mut most: u64 = 0;
-        let mut left = self.count + 1;
-        while 0 < left {
-            left -= 1;
-            most = greater(most, greatest_position(self.strips[left]));
-        }
-        most
-    }
-
-    // The sum of the strips' lengths.
-    pub fn lengths_sum(self) -> u64
-        requires { ⌜ self .count ≤ 8 ⌝ }
-        ensures { λ r. ⌜ r ≡ sum (lengths (stack-of self .strips)) ⌝ }
-    {
-        let mut all: u64 = 0;
-        let mut i = self.count + 1;
-        while 0 < i {
-            i -= 1;
-            all = length_more(self.strips[i], all);
-        }
-        all
-    }
-}
-
-// A strip's length with its least position.
-fn reach(strip: Strip) -> u64
-    ensures { λ r. ⌜ Number-of (reach (strip-of strip)) r ⌝ }
-{
-    if strip.held {
-        return strip.length.0 as u64 + strip.least.0 as u64;
-    }
-    strip.length.0 as u64
-}
-
-// A strip's greatest position, 0 where it is free.
-fn greatest_position(strip: Strip) -> u64
-    ensures { λ r. ⌜ Number-of (greatest-position (strip-of strip .window)) r ⌝ }
-{
-    if strip.held {
-        return strip.greatest.0 as u64;
-    }
-    0
-}
-
-// A strip's length and what is below 2^48 together.
-fn length_more(strip: Strip, rest: u64) -> u64
-    requires { ⌜ rest < 281474976710656 ⌝ }
-    ensures { λ r. ⌜ Length-more (strip .length .0) rest r ⌝ }
-{
-    strip.length.0 as u64 + rest
 }

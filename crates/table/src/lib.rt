@@ -16,6 +16,9 @@ use arrays::Plan;
 use arrays::SpanTable;
 use arrays::StackLimits;
 use arrays::Windows;
+use extent::first_spread;
+use extent::last_position;
+use extent::lengths_sum;
 use plan::plan_for;
 use rows::evaluate;
 use rows::place_row;
@@ -90,8 +93,8 @@ pub fn put_table(stack: Stack, out: &mut [u8]) -> usize
     let plan = plan_for(&limits, lasts, stack.count);
     let mut windows = [[0u64; 2]; Stack::STRIPS];
     let mut table = [[[0u32; Stack::TOTALS]; 2]; Stack::STRIPS];
-    let widest = stack.last_position() + stack.lengths_sum();
-    let first = stack.first_spread() as u32;
+    let widest = last_position(stack) + lengths_sum(stack);
+    let first = first_spread(stack) as u32;
     let beyond = plan[ABOVE][0] + 1;
     let at = put_head(out, stack.count);
     let mut w = Walk {

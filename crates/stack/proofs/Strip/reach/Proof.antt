@@ -1,11 +1,11 @@
--- reach meets its contract. Assumes nothing.
+-- Strip::reach meets its contract. Assumes nothing.
 use mathlib.Core.Path.{refl}
 use native.Mathlib.Omega.{arith}
 use Rattle.stack.specs.Stack.{least-position}
 use Rattle.stack.specs.Value.{window-of}
 use borrow.Author.Needs.{needs}
-use Rattle.stack.proofs.reach.Statement.{statement}
-use Rattle.stack.proofs.reach.Tie as tie
+use Rattle.stack.proofs.Strip.reach.Statement.{statement}
+use Rattle.stack.proofs.Strip.reach.Tie as tie
 
 cast-result : tie.Need-cast-result
 cast-result c = search needs

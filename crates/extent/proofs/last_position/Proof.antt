@@ -1,18 +1,18 @@
--- Stack::last_position meets its contract: the loop keeps Greatest-from. Assumes nothing.
+-- last_position meets its contract: the loop keeps Greatest-from. Assumes nothing.
 use native.Mathlib.Omega.{arith}
 use Rattle.stack.specs.Stack.{Strip}
 use Rattle.stack.specs.Lengths.{greatest-position, last-position}
-use Rattle.stack.specs.Made.{Greatest-from}
-use Rattle.stack.proofs.Lengths.{greatest-start, greatest-step, greatest-end}
+use Rattle.extent.specs.Extent.{Greatest-from}
+use Rattle.extent.proofs.Loops.{greatest-start, greatest-step, greatest-end}
 use borrow.Author.Needs.{needs}
-use Rattle.stack.proofs.Stack.last_position.Statement.{statement}
-use Rattle.stack.proofs.Stack.last_position.Tie as tie
+use Rattle.extent.proofs.last_position.Statement.{statement}
+use Rattle.extent.proofs.last_position.Tie as tie
 
 abbrev Inv-loop : tie.InvT-loop
-Inv-loop self most₀ left₀ most left = Greatest-from (λ (l : Strip). greatest-position (l .window)) self left most
+Inv-loop stack most₀ left₀ most left = Greatest-from (λ (l : Strip). greatest-position (l .window)) stack left most
 
 abbrev μ-loop : tie.MeasureT-loop
-μ-loop self most₀ left₀ most left = left
+μ-loop stack most₀ left₀ most left = left
 
 add-left : tie.Need-add-left Inv-loop μ-loop
 add-left c = search needs

@@ -5,12 +5,13 @@ use Prim.Native.Nat.{ℕ, suc, _+_, _-_, _≤_, _<_, max}
 use native.Mathlib.Omega.{arith}
 use lib.ListN.{length, getD, drop, drop-of-length-le}
 use lib.Seq.{drop-cons}
 use Rattle.stack.specs.Stack.{Strip, no-strip, greatest-of, sum}
 use Rattle.stack.specs.Value.{free-strip, strip-at, stack-of}
 use Rattle.stack.specs.Lengths.{lengths}
-use Rattle.stack.specs.Made.{Length-more, Number-of, Greatest-from, Sum-from}
+use Rattle.stack.specs.Made.{Number-of}
+use Rattle.extent.specs.Extent.{Length-more, Greatest-from, Sum-from}
 use Rattle.stack.specs.declared.Stack.{Stack as Stack-struct}
 use Rattle.stack.proofs.Within.{stack-strips, stack-strip}
 
 none-above : (k : Stack-struct) → drop (suc (k .count)) (stack-of k .strips) ≡ []
 none-above k = drop-of-length-le (stack-of k .strips) {i = suc (k .count)} (omega (arith, stack-strips k))

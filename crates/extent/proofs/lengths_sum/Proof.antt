@@ -1,16 +1,16 @@
--- Stack::lengths_sum meets its contract: the loop keeps Sum-from. Assumes nothing.
+-- lengths_sum meets its contract: the loop keeps Sum-from. Assumes nothing.
 use native.Mathlib.Omega.{arith}
-use Rattle.stack.specs.Made.{Sum-from}
-use Rattle.stack.proofs.Lengths.{sum-start, sum-room, sum-step, sum-end}
+use Rattle.extent.specs.Extent.{Sum-from}
+use Rattle.extent.proofs.Loops.{sum-start, sum-room, sum-step, sum-end}
 use borrow.Author.Needs.{needs}
-use Rattle.stack.proofs.Stack.lengths_sum.Statement.{statement}
-use Rattle.stack.proofs.Stack.lengths_sum.Tie as tie
+use Rattle.extent.proofs.lengths_sum.Statement.{statement}
+use Rattle.extent.proofs.lengths_sum.Tie as tie
 
 abbrev Inv-loop : tie.InvT-loop
-Inv-loop self all₀ i₀ all i = Sum-from self i all
+Inv-loop stack all₀ i₀ all i = Sum-from stack i all
 
 abbrev μ-loop : tie.MeasureT-loop
-μ-loop self all₀ i₀ all i = i
+μ-loop stack all₀ i₀ all i = i
 
 add-i : tie.Need-add-i Inv-loop μ-loop
 add-i c = search needs

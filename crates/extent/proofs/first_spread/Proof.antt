@@ -1,17 +1,17 @@
--- Stack::first_spread meets its contract: the loop keeps Greatest-from. Assumes nothing.
+-- first_spread meets its contract: the loop keeps Greatest-from. Assumes nothing.
 use native.Mathlib.Omega.{arith}
 use Rattle.stack.specs.Stack.{Strip, reach, first-spread}
-use Rattle.stack.specs.Made.{Greatest-from}
-use Rattle.stack.proofs.Lengths.{greatest-start, greatest-step, greatest-end}
+use Rattle.extent.specs.Extent.{Greatest-from}
+use Rattle.extent.proofs.Loops.{greatest-start, greatest-step, greatest-end}
 use borrow.Author.Needs.{needs}
-use Rattle.stack.proofs.Stack.first_spread.Statement.{statement}
-use Rattle.stack.proofs.Stack.first_spread.Tie as tie
+use Rattle.extent.proofs.first_spread.Statement.{statement}
+use Rattle.extent.proofs.first_spread.Tie as tie
 
 abbrev Inv-loop : tie.InvT-loop
-Inv-loop self most₀ left₀ most left = Greatest-from (λ (l : Strip). reach l) self left most
+Inv-loop stack most₀ left₀ most left = Greatest-from (λ (l : Strip). reach l) stack left most
 
 abbrev μ-loop : tie.MeasureT-loop
-μ-loop self most₀ left₀ most left = left
+μ-loop stack most₀ left₀ most left = left
 
 add-left : tie.Need-add-left Inv-loop μ-loop
 add-left c = search needs

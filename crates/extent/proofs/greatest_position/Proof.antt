@@ -1,11 +1,11 @@
 -- greatest_position meets its contract. Assumes nothing.
 use mathlib.Core.Path.{refl}
 use native.Mathlib.Omega.{arith}
 use Rattle.stack.specs.Value.{window-of}
 use Rattle.stack.specs.Lengths.{greatest-position}
 use borrow.Author.Needs.{needs}
-use Rattle.stack.proofs.greatest_position.Statement.{statement}
-use Rattle.stack.proofs.greatest_position.Tie as tie
+use Rattle.extent.proofs.greatest_position.Statement.{statement}
+use Rattle.extent.proofs.greatest_position.Tie as tie
 
 cast-result : tie.Need-cast-result
 cast-result c = search needs

@@ -1,0 +1,2 @@
+-- The laws of the loops over a stack's strips.
+pub mod Loops

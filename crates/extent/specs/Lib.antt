@@ -1,0 +1,2 @@
+-- How far a stack's strips reach.
+pub mod Extent
