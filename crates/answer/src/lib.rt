@@ -1,4 +1,5 @@
 // The least total of a stack in a spread, and the placement for a total.
+#![tactic(auto)]
 ghost use Rattle.std.specs.Prelude.{◌≡◌, true, suc, ◌+◌, ◌-◌, ◌≤◌, max, ltb, leb, length, replicate};
 ghost use Rattle.stack.specs.Sizes.{channels_held, strips_held};
 ghost use Rattle.stack.specs.Limits.{within_limits};
@@ -161,7 +162,7 @@ fn no_placement() -> Placement
 }
 
 // Whether a stated total is met, and its placement where it is.
-#[derive(Drop)]
+#[derive(Clone, Copy)]
 pub struct StatedPlacement {
     pub met: bool,
     pub placement: Placement,

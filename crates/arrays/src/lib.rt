@@ -1,4 +1,5 @@
 // The arrays that the solver's functions share: references to them are covered by the prover, references to structs are not.
+#![tactic(auto)]
 use stack::Stack;
 
 // The two rows of a channel's limits, with a place for each separation.
@@ -39,7 +40,7 @@ pub type WindowGrowths = [u64; Stack::STRIPS];
 pub type StripGrowths = [u64; Stack::TOTALS];
 
 // A span of positions: from ≤ x < upto.
-#[derive(Drop)]
+#[derive(Clone, Copy)]
 pub struct Span {
     pub from: u64,
     pub upto: u64,

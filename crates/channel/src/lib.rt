@@ -1,4 +1,5 @@
 // The limits on a channel's offset.
+#![tactic(auto)]
 ghost use Rattle.std.specs.Prelude.{◌≡◌, true, ◌≤◌, min, max, length, get_or};
 ghost use Rattle.stack.specs.Stack.{channel};
 ghost use Rattle.stack.specs.Limits.{on_strips};
@@ -18,7 +19,7 @@ const TERM_BIAS: u16 = 2048;
 const PLACES: usize = 2 * Terminals::MAX_PAIRS;
 
 // The least and greatest offset for each separation from 0 on, raised by Stack::BIAS.
-#[derive(Drop)]
+#[derive(Clone, Copy)]
 pub struct Limits {
     pub low: [u64; Stack::SEPARATIONS],
     pub high: [u64; Stack::SEPARATIONS],

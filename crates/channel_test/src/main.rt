@@ -1,5 +1,6 @@
 // Prints the limits and the feasibility of the channels in standard input, for comparison with what another program made of the same input.
 // Input: how many channels; for each its count of pairs, p(0), q(0), p(1), q(1) and so on, how many pairs of positions, and those.
+#![tactic(auto)]
 ghost use Rattle.std.specs.Prelude.{◌≤◌};
 
 use channel::{Limits, channel_limits, open_from};

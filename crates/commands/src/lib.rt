@@ -1,5 +1,6 @@
 // The program's commands, on slices: what its arguments stand for, and for each command what is printed of a text, what is refused, and the exit status that
 // goes with it.
+#![tactic(auto)]
 ghost use Rattle.std.specs.Prelude.{◌≡◌, ◌≤◌, length, take};
 ghost use Rattle.stack.specs.Value.{tracks_of, columns_of};
 ghost use Rattle.text.specs.Text.{text_refusal};
@@ -47,7 +48,7 @@ const MAX_DIGITS: usize = 10;
 const MAX_NUMBER: u64 = 4294967295;
 
 // Whether a word is a number, and which; 0 where it is none.
-#[derive(Drop)]
+#[derive(Clone, Copy)]
 pub struct Number {
     pub good: bool,
     pub value: u32,
@@ -80,7 +81,7 @@ pub fn read_number(word: &[u8]) -> Number
     }
 }
 
-#[derive(Drop)]
+#[derive(Clone, Copy)]
 pub enum Command {
     Table,
     Total,
@@ -176,7 +177,7 @@ pub fn read_command(word: &[u8], words: usize) -> Command
 }
 
 // What stands at the start of an output: how many bytes, the status that goes with them, and what is refused.
-#[derive(Drop)]
+#[derive(Clone, Copy)]
 pub struct Reply {
     pub length: usize,
     pub status: u32,

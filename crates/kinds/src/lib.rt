@@ -1,4 +1,5 @@
 // The readers of each kind of line: what it holds, or why not.
+#![tactic(auto)]
 ghost use Rattle.std.specs.Prelude.{◌≡◌, [], ◌∷◌, ◌≤◌, ◌<◌, length};
 ghost use Rattle.lines.specs.Lines.{line};
 ghost use Rattle.stack.specs.Value.{free_strip, stack_of};
@@ -23,7 +24,7 @@ use stack::{Columns, Stack, StackFound, Strip, StripMade, Terminals, TerminalsFo
 use text::{Counts, Outcome, Refusal, read_kind};
 
 // What a text is found to be, and the stack in it; on a refusal a stack of one channel without pairs.
-#[derive(Drop)]
+#[derive(Clone, Copy)]
 pub struct Reading {
     pub outcome: Outcome,
     pub stack: Stack,
@@ -76,7 +77,7 @@ pub fn read_head(bytes: &[u8], ended: bool) -> Reading
 }
 
 // What a PART line is found to be, and its strip; on a refusal the shortest.
-#[derive(Drop)]
+#[derive(Clone, Copy)]
 pub struct PartRead {
     pub outcome: Outcome,
     pub strip: Strip,
@@ -135,7 +136,7 @@ pub fn read_part(bytes: &[u8], ended: bool, n: u32) -> PartRead
 }
 
 // What a NETS line is found to be, and its channel's terminals; on a refusal none.
-#[derive(Drop)]
+#[derive(Clone, Copy)]
 pub struct NetsRead {
     pub outcome: Outcome,
     pub terminals: Terminals,
@@ -208,7 +209,7 @@ fn gap_content(channel: u32, floor: u32, k: usize, before: u32, n: u32) -> Outco
 }
 
 // What a GAP line is found to be, and its channel and floor where it is accepted.
-#[derive(Drop)]
+#[derive(Clone, Copy)]
 pub struct GapRead {
     pub outcome: Outcome,
     pub channel: u32,

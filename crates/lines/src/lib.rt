@@ -1,4 +1,5 @@
 // A text's lines: where each ends, and one reader for the lines of every word.
+#![tactic(auto)]
 ghost use Rattle.std.specs.Prelude.{◌≡◌, suc, ◌≤◌, length, set, replicate};
 ghost use Rattle.lines.specs.Lines.{line, is_digit, same_bytes};
 ghost use Rattle.lines.specs.Cut.{run, LineFrom};
@@ -77,7 +78,7 @@ fn is_sized(field: &[u8]) -> bool
 }
 
 // Whether bytes are all digits, and their value; 0 where they are not.
-#[derive(Drop)]
+#[derive(Clone, Copy)]
 pub struct DigitsRead {
     pub good: bool,
     pub value: u64,
@@ -102,7 +103,7 @@ pub fn read_digits(bytes: &[u8]) -> DigitsRead
 }
 
 // Whether a field is a number, and which; 0 where it is none.
-#[derive(Drop)]
+#[derive(Clone, Copy)]
 struct FieldRead {
     good: bool,
     value: u32,
@@ -128,7 +129,7 @@ fn read_field(field: &[u8]) -> FieldRead
 pub const KEPT: usize = 64;
 
 // The first of a line's fields that is no number, 0 where all are numbers, and how many they are.
-#[derive(Drop)]
+#[derive(Clone, Copy)]
 struct Numbers {
     ill: usize,
     count: usize,
@@ -178,7 +179,7 @@ fn numbers_from(line: &[u8], from: usize, values: &mut [u32; KEPT]) -> Numbers
 
 // A line as one of a word: whether it is ended and has the word; of the fields behind it the first that is no number, 0 where all are numbers, and how many they
 // are.
-#[derive(Drop)]
+#[derive(Clone, Copy)]
 pub struct LineRead {
     pub worded: bool,
     pub ill: usize,
@@ -200,7 +201,7 @@ pub fn read_line(bytes: &[u8], ended: bool, word: &[u8], values: &mut [u32; KEPT
 }
 
 // Where a line ends, and whether by a line feed.
-#[derive(Drop)]
+#[derive(Clone, Copy)]
 pub struct LineEnd {
     pub end: usize,
     pub ended: bool,

@@ -1,5 +1,6 @@
 // The public entries: the table of a text, the least total and the placement for a total in one spread, both also for the session that a text of steps makes, a
 // channel's page, the verdict on a placement. Each answers whatever comes in, or refuses.
+#![tactic(auto)]
 ghost use Rattle.stack.specs.Value.{tracks_of, columns_of, stack_of};
 ghost use Rattle.stack.specs.Limits.{within_limits};
 ghost use Rattle.std.specs.Prelude.{true, leb, length, get_or, take, drop, ◌∷◌, ◌++◌, ◌≡◌};
@@ -112,7 +113,7 @@ pub fn write_page(text: &[u8], spread: u32, channel: u32, output: &mut [u8]) -> 
 }
 
 // The verdict on a placement; false where the text is refused.
-#[derive(Drop)]
+#[derive(Clone, Copy)]
 pub struct TrialAnswer {
     pub outcome: Outcome,
     pub legal: bool,

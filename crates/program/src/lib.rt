@@ -1,6 +1,7 @@
 // The program stacktable: it prints the table of a stack, the least total in one spread, the placement for a total, both together, the page of a channel, the
 // verdict on a placement, or the rows behind the steps of a session. No contract can say what is read or written, so what is printed, what is refused and the status that goes with it come from crate
 // commands, the words for a refusal from crate complaint; the functions here read, write and pass the status on.
+#![tactic(auto)]
 ghost use Rattle.std.specs.Prelude.{◌≡◌, false, ◌≤◌, ◌<◌, length, set};
 ghost use Rattle.io.specs.Counts.{IsPrefixLen};
 ghost use Rattle.text.specs.Text.{or_else, text_refusal};
@@ -125,7 +126,7 @@ fn print_wrong(what: &[u8]) -> u32
 }
 
 // How many bytes of a text were read, and whether that went well.
-#[derive(Drop)]
+#[derive(Clone, Copy)]
 struct Input {
     good: bool,
     length: usize,
@@ -179,7 +180,7 @@ fn read_from(fd: i32, name: &[u8], text: &mut [u8; TEXT_BYTES]) -> Input
 }
 
 // A file that is open to be read, below 0 where it is not, and how many bytes its name has.
-#[derive(Drop)]
+#[derive(Clone, Copy)]
 struct Opened {
     fd: i32,
     name: usize,
@@ -273,7 +274,7 @@ fn number_stored(mut values: [u32; NUMBERS], i: usize, x: u32) -> [u32; NUMBERS]
 }
 
 // Whether the arguments are all numbers, and the first of them.
-#[derive(Drop)]
+#[derive(Clone, Copy)]
 struct Numbers {
     good: bool,
     values: [u32; NUMBERS],
@@ -436,7 +437,7 @@ fn shift(text: &mut [u8], from: usize, end: usize) -> usize
 }
 
 // The next line of the input: where it is among so many bytes, and whether it is ended, which fails at the end of the input and for a line that is too long.
-#[derive(Drop)]
+#[derive(Clone, Copy)]
 struct NextLine {
     good: bool,
     at: usize,
@@ -498,7 +499,7 @@ fn print_step(replay: Replay, spread: u32) -> u32
 }
 
 // A session behind a line, the status of that line, and whether its output could be written.
-#[derive(Drop)]
+#[derive(Clone, Copy)]
 struct LineRun {
     replay: Replay,
     status: u32,

@@ -1,4 +1,5 @@
 // Reading a stack's text line by line: the first refusal that applies, or the stack.
+#![tactic(auto)]
 ghost use Rattle.std.specs.Prelude.{◌≡◌, ◌+◌, ◌*◌, ◌≤◌, ◌<◌, length};
 ghost use Rattle.reading.specs.Driver.{
   HeadTaken,
@@ -21,7 +22,7 @@ use stack::{Stack, Tracks};
 use text::{Outcome, Refusal};
 
 // How far a text has been read: what was found, where the next line begins, and the stack so far.
-#[derive(Drop)]
+#[derive(Clone, Copy)]
 struct Progress {
     outcome: Outcome,
     at: usize,
@@ -139,7 +140,7 @@ fn line_behind(k: usize) -> u32
 }
 
 // How far a text has been read with a GAP line, and its channel where it is accepted.
-#[derive(Drop)]
+#[derive(Clone, Copy)]
 struct GapTaken {
     read: Progress,
     channel: u32,

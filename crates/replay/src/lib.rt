@@ -1,4 +1,5 @@
 // A session's steps replayed from their text, line by line.
+#![tactic(auto)]
 ghost use Rattle.std.specs.Prelude.{◌≡◌, [], ◌≤◌, length};
 ghost use Rattle.lines.specs.Lines.{line};
 ghost use Rattle.text.specs.Text.{refusal, fine};
@@ -15,7 +16,7 @@ use steps::{StepLine, read_step_line};
 use text::{Outcome, Refusal};
 
 // A session, what the last line is refused for, and what that line is.
-#[derive(Drop)]
+#[derive(Clone, Copy)]
 pub struct Replay {
     pub session: Session,
     pub outcome: Outcome,

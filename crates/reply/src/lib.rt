@@ -1,4 +1,5 @@
 // What the entries answer with: the answers that have zeros in unused places, the refusals of a spread and of a channel, and how an output ends.
+#![tactic(auto)]
 ghost use Rattle.std.specs.Prelude.{◌≡◌, true, leb, length};
 ghost use Rattle.stack.specs.Value.{stack_of};
 ghost use Rattle.stack.specs.Limits.{within_limits};
@@ -13,7 +14,7 @@ use text::{Outcome, Refusal};
 use writing::clear_from;
 
 // The placement for a total in one spread: total, separations and positions with zeros in unused places; a refused one has zeros in all of them.
-#[derive(Drop)]
+#[derive(Clone, Copy)]
 pub struct PlacementAnswer {
     pub outcome: Outcome,
     pub total: Tracks,
@@ -48,7 +49,7 @@ pub fn spread_outcome(outcome: Outcome, stack: Stack, spread: u32) -> Outcome
 }
 
 // How many bytes of a table or a page were written; none where it is refused.
-#[derive(Drop)]
+#[derive(Clone, Copy)]
 pub struct TableAnswer {
     pub outcome: Outcome,
     pub written: usize,

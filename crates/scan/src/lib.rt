@@ -1,4 +1,5 @@
 // The least total of a stack in a spread, from windows and limit lists: totals tried in rising order, with the jump to the next event.
+#![tactic(auto)]
 ghost use Rattle.std.specs.Prelude.{◌≡◌, ◌+◌, ◌-◌, ◌*◌, ◌≤◌, ◌<◌, min, max, ltb, eqb};
 ghost use Rattle.stack.specs.Sizes.{channels_held, separations_held, totals_held};
 ghost use Rattle.spans.specs.Spans.{span};
@@ -14,7 +15,7 @@ use numbers::{difference, greater, lesser};
 use stack::Stack;
 
 // Of spans shifted back: the nearest start and the furthest end, each raised by the bias once more.
-#[derive(Drop)]
+#[derive(Clone, Copy)]
 pub struct Ends {
     pub near: u64,
     pub reach: u64,
@@ -22,7 +23,7 @@ pub struct Ends {
 
 // Strip i at total v: its window, the separations of its channel from the least open one to the last of use, what the channels above can use, and below
 // which total the strip above has empty spans.
-#[derive(Drop)]
+#[derive(Clone, Copy)]
 pub struct Cell {
     pub i: usize,
     pub v: usize,
@@ -35,7 +36,7 @@ pub struct Cell {
 }
 
 // One total of a scan of k channels, and the jump before it.
-#[derive(Drop)]
+#[derive(Clone, Copy)]
 struct Turn {
     k: usize,
     v: usize,
@@ -43,7 +44,7 @@ struct Turn {
 }
 
 // The first total that can be had, and how far the spread may grow before a smaller total can be had.
-#[derive(Drop)]
+#[derive(Clone, Copy)]
 pub struct Scan {
     pub total: usize,
     pub jump: u64,

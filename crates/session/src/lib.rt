@@ -1,5 +1,6 @@
 // Sessions, document 02's P6: strips that come and go. Each step hands the session back by value with its new state; each spread is answered as that of the text of
 // the same stack.
+#![tactic(auto)]
 ghost use Rattle.std.specs.Prelude.{◌≡◌, [], ◌∷◌, ◌≤◌};
 ghost use Rattle.stack.specs.Stack.{free, strip, stack};
 ghost use Rattle.stack.specs.Value.{free_strip, channel_of, stack_of};
@@ -17,7 +18,7 @@ use stack::{Columns, Stack, Strip, Terminals, Tracks, columns_stored, terminals_
 use text::{Counts, Outcome, Refusal, count_outcome};
 
 // One to nine free strips, strip 0 at the bottom, as their lengths, and the channels between them, or none. Places past them are unused.
-#[derive(Drop)]
+#[derive(Clone, Copy)]
 pub struct Session {
     pub count: usize,
     pub lengths: [Columns; Stack::STRIPS],
@@ -25,7 +26,7 @@ pub struct Session {
 }
 
 // What a step is refused for, and the session after it.
-#[derive(Drop)]
+#[derive(Clone, Copy)]
 pub struct SessionStep {
     pub outcome: Outcome,
     pub session: Session,

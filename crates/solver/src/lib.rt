@@ -1,4 +1,5 @@
 // The placement of a stack for a total: its separations, and then its positions.
+#![tactic(auto)]
 ghost use Rattle.arrays.specs.Arrays.{given};
 ghost use Rattle.separations.specs.Separations.{SeparateAsks};
 ghost use Rattle.solver.specs.Placing.{PlaceAsks, PlacementIs};
@@ -9,7 +10,7 @@ use separations::separations_for;
 use stack::{Columns, Stack, Tracks};
 
 // A placement: its total, its separations from channel 1 up, its positions from strip 0 up; zeros in unused places.
-#[derive(Drop)]
+#[derive(Clone, Copy)]
 pub struct Placement {
     pub total: Tracks,
     pub separations: [Tracks; Stack::MAX_CHANNELS],

@@ -1,1 +1,2 @@
 // Spans of positions: the definitions of the least total and its placement, and their theorems. No code.
+#![tactic(auto)]

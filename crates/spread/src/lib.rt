@@ -1,4 +1,5 @@
 // One spread of a stack: the least total, and the placement for a stated total, or what is refused.
+#![tactic(auto)]
 ghost use Rattle.std.specs.Prelude.{◌≡◌, true};
 ghost use Rattle.stack.specs.Value.{stack_of};
 ghost use Rattle.stack.specs.Limits.{within_limits};
@@ -14,7 +15,7 @@ use stack::{Stack, Strip, Tracks};
 use text::{Outcome, Refusal};
 
 // The least total in one spread; 0 where it is refused.
-#[derive(Drop)]
+#[derive(Clone, Copy)]
 pub struct TotalAnswer {
     pub outcome: Outcome,
     pub total: Tracks,

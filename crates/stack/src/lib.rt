@@ -1,4 +1,5 @@
 // Stacks of strips and channels, with the limits of documents 01 and 02 as constants of the types and constructors that test them.
+#![tactic(auto)]
 ghost use Rattle.std.specs.Prelude.{◌≡◌, [], ◌-◌, ◌≤◌, ◌<◌, get_or};
 ghost use Rattle.stack.specs.Stack.{free, held, reach};
 ghost use Rattle.stack.specs.Value.{columns, strip_of, channel_of, stack_of};
@@ -18,15 +19,15 @@ ghost use Rattle.stack.specs.Made.{
 };
 
 // A count of tracks: a separation. Document 01, "Strips, columns and tracks".
-#[derive(Drop)]
+#[derive(Clone, Copy)]
 pub struct Tracks(pub u32);
 
 // A count of columns: a position, a terminal or a length. Document 01, "Strips, columns and tracks".
-#[derive(Drop)]
+#[derive(Clone, Copy)]
 pub struct Columns(pub u32);
 
 // A strip of components. Where it is held, it may stand from its least to its greatest position, else anywhere.
-#[derive(Drop)]
+#[derive(Clone, Copy)]
 pub struct Strip {
     pub length: Columns,
     pub held: bool,
@@ -34,7 +35,7 @@ pub struct Strip {
     pub greatest: Columns,
 }
 
-#[derive(Drop)]
+#[derive(Clone, Copy)]
 pub enum StripMade {
     Made(Strip),
     Length,
@@ -102,7 +103,7 @@ impl Strip {
 }
 
 // The terminals of a channel's pairs: pair j joins lower[j] to upper[j]; places from count on are unused.
-#[derive(Drop)]
+#[derive(Clone, Copy)]
 pub struct Terminals {
     pub lower: [Columns; Terminals::MAX_PAIRS],
     pub upper: [Columns; Terminals::MAX_PAIRS],
@@ -110,7 +111,7 @@ pub struct Terminals {
 }
 
 // Whether terminals keep the limits; a fault carries its place in p(0), q(0), p(1), q(1) and so on.
-#[derive(Drop)]
+#[derive(Clone, Copy)]
 pub enum TerminalsFound {
     Good,
     Crowd,
@@ -132,7 +133,7 @@ impl TerminalsFound {
 }
 
 // What was found of terminals, and those that are good.
-#[derive(Drop)]
+#[derive(Clone, Copy)]
 pub struct TerminalsMade {
     pub found: TerminalsFound,
     pub terminals: Terminals,
@@ -275,7 +276,7 @@ fn tracks_stored(
 }
 
 // k channels and k + 1 strips, strip 0 at the bottom; of each channel its terminals and its floor. Places past them are unused.
-#[derive(Drop)]
+#[derive(Clone, Copy)]
 pub struct Stack {
     pub count: usize,
     pub strips: [Strip; Stack::STRIPS],
@@ -283,13 +284,13 @@ pub struct Stack {
     pub floors: [Tracks; Stack::MAX_CHANNELS],
 }
 
-#[derive(Drop)]
+#[derive(Clone, Copy)]
 pub enum StackFound {
     Sized,
     Oversized,
 }
 
-#[derive(Drop)]
+#[derive(Clone, Copy)]
 pub struct StackMade {
     pub found: StackFound,
     pub stack: Stack,

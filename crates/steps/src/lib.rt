@@ -1,4 +1,5 @@
 // The lines of a session's steps: BEGIN and a PART line; ADD, a PART line and a NETS line; OFF.
+#![tactic(auto)]
 ghost use Rattle.std.specs.Prelude.{◌≡◌, cond, ◌≤◌, length, replicate};
 ghost use Rattle.lines.specs.Lines.{line};
 ghost use Rattle.steps.specs.Steps.{word_line};
@@ -9,7 +10,7 @@ use lines::{KEPT, is_word};
 use text::{Counts, read_kind};
 
 // What a line is behind another: no line of a step; the first line of a step, or the first two, with the length of the second; or the last, which makes the step whole.
-#[derive(Drop)]
+#[derive(Clone, Copy)]
 pub enum StepLine {
     NoStep,
     BeginPart,
@@ -40,7 +41,7 @@ fn word_line(bytes: &[u8], ended: bool) -> StepLine
 }
 
 // Whether a line is a PART line with a length alone by its layout, and that length.
-#[derive(Drop)]
+#[derive(Clone, Copy)]
 struct PartLine {
     good: bool,
     length: u32,
@@ -60,7 +61,7 @@ fn part_line(bytes: &[u8], ended: bool) -> PartLine
 }
 
 // Whether a line is a NETS line by its layout, an odd count let pass, and how many numbers it has.
-#[derive(Drop)]
+#[derive(Clone, Copy)]
 struct ListLine {
     good: bool,
     count: usize,
@@ -79,7 +80,7 @@ fn list_line(bytes: &[u8], ended: bool, values: &mut [u32; KEPT]) -> ListLine
 }
 
 // What a line is behind another, and where it is the last of ADD how many terminals it has.
-#[derive(Drop)]
+#[derive(Clone, Copy)]
 pub struct StepLineRead {
     pub line: StepLine,
     pub count: u16,

@@ -1,4 +1,5 @@
 // The table over all spreads: rows found by jumps from event to event, each written directly behind the line before it.
+#![tactic(auto)]
 ghost use Rattle.std.specs.Prelude.{◌≡◌, true, ◌+◌, ◌^◌, ◌≤◌, ◌<◌};
 ghost use Rattle.stack.specs.Limits.{within_limits};
 ghost use Rattle.stack.specs.Value.{stack_of};
@@ -20,7 +21,7 @@ use writing::{put_head, put_row_at};
 
 // A spread, its least total, how far the spread may grow before a smaller total can be had, and where the text ends. Before the first row: the first spread, a
 // total above all, and a jump of 0.
-#[derive(Drop)]
+#[derive(Clone, Copy)]
 struct Walk {
     spread: u32,
     total: usize,

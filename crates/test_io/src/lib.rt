@@ -1,8 +1,9 @@
 // Numbers read and printed by the test programs.
+#![tactic(auto)]
 ghost use Rattle.std.specs.Prelude.{◌≤◌};
 
 // A number of a text and the place behind it.
-#[derive(Drop)]
+#[derive(Clone, Copy)]
 pub struct Scan {
     pub value: u32,
     pub at: usize,

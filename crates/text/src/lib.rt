@@ -1,4 +1,5 @@
 // The refusals of documents 01 and 02 with their lines and fields, and the layout of a line of any kind.
+#![tactic(auto)]
 ghost use Rattle.std.specs.Prelude.{◌≡◌, ◌^◌, ◌≤◌, ◌<◌, length, replicate};
 ghost use Rattle.lines.specs.Lines.{line};
 ghost use Rattle.text.specs.Text.{or_else, exactly, one_or_three, in_pairs, misplaced};
@@ -8,7 +9,7 @@ ghost use Rattle.text.specs.Kinds.{fault_of, layout_found, IsKindRead};
 use lines::{KEPT, read_line};
 
 // The refusals of documents 01 and 02, numbered from 1 in this order.
-#[derive(Drop)]
+#[derive(Clone, Copy)]
 pub enum Refusal {
     Overlong,
     Layout,
@@ -50,14 +51,14 @@ impl Refusal {
 }
 
 // A refusal at its line and field, both from 1, and 0 where it concerns none.
-#[derive(Drop)]
+#[derive(Clone, Copy)]
 pub struct Refused {
     pub why: Refusal,
     pub line: u32,
     pub field: u32,
 }
 
-#[derive(Drop)]
+#[derive(Clone, Copy)]
 pub enum Outcome {
     Accepted,
     Refused(Refused),
@@ -127,7 +128,7 @@ fn in_pairs(numbers: usize) -> usize
 }
 
 // How many numbers a kind of line may have.
-#[derive(Drop)]
+#[derive(Clone, Copy)]
 pub enum Counts {
     Exactly(usize),
     OneOrThree,
@@ -183,7 +184,7 @@ pub fn count_outcome(counts: Counts, count: u16, n: u32) -> Outcome
 }
 
 // A line of a kind: what its layout is found to be, and how many numbers it has.
-#[derive(Drop)]
+#[derive(Clone, Copy)]
 pub struct KindRead {
     pub layout: Outcome,
     pub count: usize,
