@@ -1,5 +1,6 @@
 // The least total of a stack in a spread, and the placement for a total.
 #![tactic(auto)]
+
 ghost use Rattle.std.specs.Prelude.{◌≡◌, true, suc, ◌+◌, ◌-◌, ◌≤◌, max, ltb, leb, length, replicate};
 ghost use Rattle.stack.specs.Sizes.{channels_held, strips_held};
 ghost use Rattle.stack.specs.Limits.{within_limits};

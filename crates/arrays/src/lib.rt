@@ -1,5 +1,6 @@
 // The arrays that the solver's functions share: references to them are covered by the prover, references to structs are not.
 #![tactic(auto)]
+
 use stack::Stack;
 
 // The two rows of a channel's limits, with a place for each separation.

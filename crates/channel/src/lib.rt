@@ -1,5 +1,6 @@
 // The limits on a channel's offset.
 #![tactic(auto)]
+
 ghost use Rattle.std.specs.Prelude.{◌≡◌, true, ◌≤◌, min, max, length, get_or};
 ghost use Rattle.stack.specs.Stack.{channel};
 ghost use Rattle.stack.specs.Limits.{on_strips};

@@ -1,5 +1,6 @@
 // How far a stack's strips reach: the first spread, the greatest position of a strip that is held, and the lengths together.
 #![tactic(auto)]
+
 ghost use Rattle.std.specs.Prelude.{◌≡◌, ◌≤◌, ◌<◌};
 ghost use Rattle.stack.specs.Stack.{first_spread, sum};
 ghost use Rattle.stack.specs.Value.{strip_of, stack_of};

@@ -1,6 +1,7 @@
 // How far the spread may grow before a span that is empty can fill, where a window's end need not grow with the spread: growing ends and lacks, strip by
 // strip from the top down, from a table of spans.
 #![tactic(auto)]
+
 ghost use Rattle.std.specs.Prelude.{◌≡◌, ◌+◌, ◌-◌, ◌*◌, ◌≤◌, ◌<◌};
 ghost use Rattle.spans.specs.Growth.{shifted, furthest_grow, end_lack};
 ghost use Rattle.arrays.specs.Arrays.{bias, entry, low_in, span_at, given, span_in};

@@ -1,5 +1,6 @@
 // The readers of each kind of line: what it holds, or why not.
 #![tactic(auto)]
+
 ghost use Rattle.std.specs.Prelude.{◌≡◌, [], ◌∷◌, ◌≤◌, ◌<◌, length};
 ghost use Rattle.lines.specs.Lines.{line};
 ghost use Rattle.stack.specs.Value.{free_strip, stack_of};

@@ -1,5 +1,6 @@
 // A text's lines: where each ends, and one reader for the lines of every word.
 #![tactic(auto)]
+
 ghost use Rattle.std.specs.Prelude.{◌≡◌, suc, ◌≤◌, length, set, replicate};
 ghost use Rattle.lines.specs.Lines.{line, is_digit, same_bytes};
 ghost use Rattle.lines.specs.Cut.{run, LineFrom};

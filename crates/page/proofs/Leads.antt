@@ -34,7 +34,7 @@ once_rest a ws e = and_right (not (on_path a ws)) (once ws) e
 
 pub on_here : (z a : Point) (ws : List Point) → z ≡ a → on_path z (a ∷ ws) ≡ true
 unfolding on_path
-on_here z a ws e = rw e (or_left (same_point a a) (on_path a ws) (same_point_self a))
+on_here z a ws e = or_left (same_point z a) (on_path z ws) (rw e (same_point_self a))
 
 pub on_later : (z a : Point) (ws : List Point) → on_path z ws ≡ true → on_path z (a ∷ ws) ≡ true
 unfolding on_path

@@ -1,5 +1,6 @@
 // The plan of a stack: what is worked out of its channels' limits once for all spreads.
 #![tactic(auto)]
+
 ghost use Rattle.std.specs.Prelude.{◌≡◌, ◌<◌};
 ghost use Rattle.stack.specs.Sizes.{separations_held};
 ghost use Rattle.spans.specs.Solver.{first_open};

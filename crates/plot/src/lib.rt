@@ -1,5 +1,6 @@
 // Drawing a channel's page line by line: the columns at which paths come to each track, and the lines around the tracks' rows.
 #![tactic(auto)]
+
 ghost use Rattle.std.specs.Prelude.{◌≡◌, suc, ◌+◌, ◌-◌, ◌*◌, ◌/◌, ◌%◌, ◌≤◌, ◌<◌, min, max, ltb, length, get_or, take, replicate};
 ghost use Rattle.numbers.specs.Lists.{tabulate};
 ghost use Rattle.stack.specs.Value.{channel_of};

@@ -1,5 +1,6 @@
 // The positions of a stack for separations that can be had, bottom strip first, each as far left as can be, from windows and limits.
 #![tactic(auto)]
+
 ghost use Rattle.std.specs.Prelude.{◌≡◌, ◌+◌, ◌-◌, ◌*◌, ◌≤◌, ◌<◌, min, max, replicate};
 ghost use Rattle.stack.specs.Value.{tracks_of, columns_of};
 ghost use Rattle.stack.specs.Sizes.{strips_held, separations_held};

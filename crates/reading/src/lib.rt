@@ -1,5 +1,6 @@
 // Reading a stack's text line by line: the first refusal that applies, or the stack.
 #![tactic(auto)]
+
 ghost use Rattle.std.specs.Prelude.{◌≡◌, ◌+◌, ◌*◌, ◌≤◌, ◌<◌, length};
 ghost use Rattle.reading.specs.Driver.{
   HeadTaken,

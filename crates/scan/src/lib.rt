@@ -1,5 +1,6 @@
 // The least total of a stack in a spread, from windows and limit lists: totals tried in rising order, with the jump to the next event.
 #![tactic(auto)]
+
 ghost use Rattle.std.specs.Prelude.{◌≡◌, ◌+◌, ◌-◌, ◌*◌, ◌≤◌, ◌<◌, min, max, ltb, eqb};
 ghost use Rattle.stack.specs.Sizes.{channels_held, separations_held, totals_held};
 ghost use Rattle.spans.specs.Spans.{span};

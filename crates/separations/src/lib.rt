@@ -1,5 +1,6 @@
 // The separations of a stack for a total, channel 1 first, from windows, limits and a table of spans.
 #![tactic(auto)]
+
 ghost use Rattle.std.specs.Prelude.{◌≡◌, ◌*◌, ◌≤◌, ◌<◌, min, replicate};
 ghost use Rattle.stack.specs.Value.{tracks_of};
 ghost use Rattle.stack.specs.Sizes.{channels_held, strips_held, separations_held};

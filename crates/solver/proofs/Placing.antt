@@ -1,14 +1,14 @@
 -- The tables, the least total and the placement put together. Assumes nothing.
 use mathlib.Core.Path.{◌≡◌, refl, ap, ◌∙◌}
 use mathlib.Core.List.{List, [], ◌∷◌}
-use Prim.Native.Nat.{ℕ, zero, suc}
+use Prim.Native.Nat.{ℕ, zero, suc, ◌+◌, ◌-◌, max}
 use native.Mathlib.Omega.{arith}
 use lib.ListN.{length, replicate}
 use Rattle.numbers.specs.Lists.{padded}
 use Rattle.stack.specs.Value.{tracks_of, columns_of}
 use Rattle.stack.specs.Sizes.{channels_held, strips_held}
-use Rattle.spans.specs.Spans.{Span}
-use Rattle.spans.specs.Solver.{Level, separations, positions_on, positions}
+use Rattle.spans.specs.Spans.{Span, low_at}
+use Rattle.spans.specs.Solver.{forward, least_serving, fixed, Level, separations, positions_on, positions}
 use Rattle.spans.specs.Placed.{Chosen}
 use Rattle.arrays.specs.Arrays.{bias, Given, window_of, levels, store, taken}
 use Rattle.positions.specs.Positions.{PositionAsks}
@@ -27,13 +27,13 @@ separations_length : (b : ℕ) (s : Span) (cs : List Level) (v : ℕ) → length
 unfolding separations
 separations_length b s [] v = refl
 separations_length b s (c ∷ []) v = refl
-separations_length b s (c ∷ d ∷ cs) v = ap suc (separations_length b _ (d ∷ cs) _)
+separations_length b s (c ∷ d ∷ cs) v = ap suc (separations_length b (forward b s c (least_serving b s c (d ∷ cs) v)) (d ∷ cs) _)
 
 positions_on_length : (b x : ℕ) (cs : List Level) (ts : List ℕ) → length ts ≡ length cs → length (positions_on b x cs ts) ≡ length cs
 unfolding positions_on
 positions_on_length b x [] ts e = refl
 positions_on_length b x (c ∷ cs) [] e = absurd (omega arith)
-positions_on_length b x (c ∷ cs) (t ∷ ts) e = ap suc (positions_on_length b _ cs ts (omega arith))
+positions_on_length b x (c ∷ cs) (t ∷ ts) e = ap suc (positions_on_length b (max (fixed b c.window cs ts).from (x + low_at c.limits t - b)) cs ts (omega arith))
 
 module _ (g : Given) (k total : ℕ) (a : PlaceAsks g k total) where
   separations_count : length (separations_of g k total) ≡ k

@@ -1,5 +1,6 @@
 // The placement of a stack for a total: its separations, and then its positions.
 #![tactic(auto)]
+
 ghost use Rattle.arrays.specs.Arrays.{given};
 ghost use Rattle.separations.specs.Separations.{SeparateAsks};
 ghost use Rattle.solver.specs.Placing.{PlaceAsks, PlacementIs};

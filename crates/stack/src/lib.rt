@@ -1,5 +1,6 @@
 // Stacks of strips and channels, with the limits of documents 01 and 02 as constants of the types and constructors that test them.
 #![tactic(auto)]
+
 ghost use Rattle.std.specs.Prelude.{◌≡◌, [], ◌-◌, ◌≤◌, ◌<◌, get_or};
 ghost use Rattle.stack.specs.Stack.{free, held, reach};
 ghost use Rattle.stack.specs.Value.{columns, strip_of, channel_of, stack_of};

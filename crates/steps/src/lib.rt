@@ -1,5 +1,6 @@
 // The lines of a session's steps: BEGIN and a PART line; ADD, a PART line and a NETS line; OFF.
 #![tactic(auto)]
+
 ghost use Rattle.std.specs.Prelude.{◌≡◌, cond, ◌≤◌, length, replicate};
 ghost use Rattle.lines.specs.Lines.{line};
 ghost use Rattle.steps.specs.Steps.{word_line};

@@ -1,5 +1,6 @@
 // The refusals of documents 01 and 02 with their lines and fields, and the layout of a line of any kind.
 #![tactic(auto)]
+
 ghost use Rattle.std.specs.Prelude.{◌≡◌, ◌^◌, ◌≤◌, ◌<◌, length, replicate};
 ghost use Rattle.lines.specs.Lines.{line};
 ghost use Rattle.text.specs.Text.{or_else, exactly, one_or_three, in_pairs, misplaced};

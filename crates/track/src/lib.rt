@@ -1,5 +1,6 @@
 // A track's row of characters: the points of each path on it, by the column at which the path comes to the track and the column at which it leaves.
 #![tactic(auto)]
+
 ghost use Rattle.std.specs.Prelude.{◌≡◌, false, cond, ◌+◌, ◌-◌, ◌*◌, ◌≤◌, ◌<◌, min, max, length, get_or};
 ghost use Rattle.numbers.specs.Lists.{tabulate};
 ghost use Rattle.page.specs.Page.{arms_character};

@@ -1,5 +1,6 @@
 // The trial of a placement: legal in a spread, or not.
 #![tactic(auto)]
+
 ghost use Rattle.std.specs.Prelude.{◌≡◌, true, drop};
 ghost use Rattle.stack.specs.Stack.{stands, in_spread, channels_good};
 ghost use Rattle.stack.specs.Limits.{within_limits};

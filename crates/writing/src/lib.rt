@@ -1,5 +1,6 @@
 // Writing a table's text: its first line and its rows, each whole or not at all, and zeros behind it; a total's line, and a refusal's.
 #![tactic(auto)]
+
 ghost use Rattle.std.specs.Prelude.{◌≡◌, [], ◌∷◌, ◌+◌, ◌^◌, ◌≤◌, min, length, take};
 ghost use Rattle.stack.specs.Value.{tracks_of, columns_of};
 ghost use Rattle.writing.specs.TableText.{digits, tabbed, row_text, table_text, total_text, refusal_text};

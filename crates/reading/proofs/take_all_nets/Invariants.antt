@@ -1,0 +1,10 @@
+-- take_all_nets meets its contract: the loop keeps Wiring. Assumes nothing.
+use Prim.Native.Nat.{◌-◌}
+use Rattle.reading.specs.Driver.{Wiring}
+use Rattle.reading.proofs.take_all_nets.Given as goal
+
+abbrev pub invariant-loop-c : goal.invariant-loop-c
+invariant-loop-c l = Wiring l.text l.c l.p
+
+abbrev pub decreases-loop-c : goal.decreases-loop-c
+decreases-loop-c l = l.channels - l.c

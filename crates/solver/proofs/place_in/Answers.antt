@@ -1,0 +1,10 @@
+-- place_in meets its contract: the placement for a stated total. Assumes nothing.
+use mathlib.Core.Path.{refl}
+use Rattle.solver.proofs.Placing.{position_asks, placement_is}
+use Rattle.solver.proofs.place_in.Goals as goal
+
+pub positions_for-xs-requires : goal.positions_for-xs-requires
+positions_for-xs-requires c = position_asks _ _ _ c.requires.0 _ c.separations_for-ts.ensures
+
+pub returns : goal.returns
+returns c = placement_is _ _ _ c.requires.0 _ refl c.separations_for-ts.ensures c.positions_for-xs.ensures
