@@ -160,6 +160,10 @@ module _ (b s : ℕ) (wide : s + 32 ≤ b) where
       let n = fits_spread u y above in
       joined (stands s l x) (in_spread s (u ∷ ls) (y ∷ xs)) (feasible c t x y) (channels_good cs ts (y ∷ xs)) here
       (fits_feasible l.length u.length x y t c (search ands) (omega arith) (omega arith) (omega arith) f) rest
+  placed_legal l [] [] [] x (y ∷ xs) e p = elim p [ ]
+  placed_legal l [] [] (t ∷ ts) x xs e p = elim p [ ]
+  placed_legal l (u ∷ ls) (c ∷ cs) [] x xs e p = elim p [ ]
+  placed_legal l (u ∷ ls) (c ∷ cs) (t ∷ ts) x [] e p = elim p [ ]
 
   -- limits widen where terminals rise
   pub stack_widening : (l : Strip) (ls : List Strip) (cs : List Channel) → Stand s (l ∷ ls) → channels_within (l ∷ ls) cs ≡ true → Widening (stack_levels b s ls cs)

@@ -1,5 +1,6 @@
 // The spans that a placement for a stated total can ask for, strip by strip from the top down: no total is searched for.
 #![tactic(auto)]
+
 ghost use Rattle.std.specs.Prelude.{◌≡◌, ◌+◌, ◌-◌, ◌<◌, min};
 ghost use Rattle.arrays.specs.Arrays.{given, Banded};
 ghost use Rattle.band.specs.Band.{StripAsked, StripFilled, BandAsks};

@@ -1,5 +1,6 @@
 // What the entries answer with: the answers that have zeros in unused places, the refusals of a spread and of a channel, and how an output ends.
 #![tactic(auto)]
+
 ghost use Rattle.std.specs.Prelude.{◌≡◌, true, leb, length};
 ghost use Rattle.stack.specs.Value.{stack_of};
 ghost use Rattle.stack.specs.Limits.{within_limits};

@@ -24,11 +24,11 @@ put_row-requires c = let pre = c.requires in
 
 pub bounds-out : goal.bounds-out
 bounds-out c = let put = c.put_row in
-    omega (arith, line_room c.args.out.now put.new.0 c.place.result c.place-2.result c.place-3.result c.requires.3 (rule_long _ put.ensures), c.requires.3)
+    omega (arith, line_room c.args.out.now put.new.row c.place.result c.place-2.result c.place-3.result c.requires.3 (rule_long _ put.ensures), c.requires.3)
 
 pub shape_of-out : goal.shape_of-out
 shape_of-out c = let put = c.put_row in
-    simp length-set (line_room c.args.out.now put.new.0 c.place.result c.place-2.result c.place-3.result c.requires.3 (rule_long _ put.ensures))
+    simp length-set (line_room c.args.out.now put.new.row c.place.result c.place-2.result c.place-3.result c.requires.3 (rule_long _ put.ensures))
 
 pub returns : goal.returns
 returns c = line_put _ _ c.args.out.now _ _ _ _ c.requires.3 c.requires.4 c.place.ensures c.place-2.ensures c.place-3.ensures

@@ -6,9 +6,7 @@ use native.Mathlib.Omega.{arith}
 use lib.Dec.{ltb}
 use borrow.Author.Tests.{lt-ltb, le-ltb}
 use Rattle.numbers.proofs.Orders.{le_or_lt}
-use borrow.Author.Rules.{rules}
-use Rattle.answer.proofs.has_position.Statement.{statement}
-use Rattle.answer.proofs.has_position.Tie as tie
+use Rattle.answer.proofs.has_position.Goals as goal
 
 some_between : (from upto d : ℕ) → d ≡ upto - from → ltb 0 d ≡ ltb from upto
 some_between from upto d e = go (le_or_lt upto from)
@@ -17,11 +15,5 @@ some_between from upto d e = go (le_or_lt upto from)
     go (inl h) = le-ltb 0 d (omega arith) ∙ sym (le-ltb from upto h)
     go (inr h) = lt-ltb 0 d (omega arith) ∙ sym (lt-ltb from upto h)
 
-difference-requires : tie.Need-difference-requires
-difference-requires c κs = search rules
-
-returns : tie.Need-returns
-returns c = some_between c.before.args.from c.before.args.upto c.difference.result c.difference.ensures
-
-pub has-position-spec : {M : Type 1} → statement M
-has-position-spec = tie.close (tie.spec difference-requires returns)
+pub returns : goal.returns
+returns c = some_between c.args.from c.args.upto c.difference.result c.difference.ensures
