@@ -1,5 +1,6 @@
 // A refusal in words, as the program says it on standard error: a line made at the end of a room.
 #![tactic(auto)]
+
 ghost use Rattle.std.specs.Prelude.{◌≡◌, ◌++◌, ◌+◌, length};
 ghost use Rattle.text.specs.Outcome.{refusal_of};
 ghost use Rattle.writing.specs.TableText.{digits};

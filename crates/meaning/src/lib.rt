@@ -1,5 +1,6 @@
 // What each refusal means, in words: a constant text for each, put in front of a place.
 #![tactic(auto)]
+
 ghost use Rattle.text.specs.Outcome.{number_of};
 ghost use Rattle.writing.specs.Room.{Prepended, Space};
 ghost use Rattle.meaning.specs.Meaning.{bytes, meaning};

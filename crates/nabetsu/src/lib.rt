@@ -186,8 +186,7 @@ fn code(outcome: Outcome, value: u64) -> u64
 }
 
 // write_table for callers in other languages: the table's bytes, or the refusal in one number.
-#[unsafe(no_mangle)]
-pub extern "C" fn nabetsu_write_table(text: &[u8], output: &mut [u8]) -> u64
+pub fn nabetsu_write_table(text: &[u8], output: &mut [u8]) -> u64
     ensures { TableCoded text.now result output.old output.new }
 {
     let answer = write_table(text, output);
@@ -196,8 +195,7 @@ pub extern "C" fn nabetsu_write_table(text: &[u8], output: &mut [u8]) -> u64
 }
 
 // write_page for callers in other languages: the page's bytes, or the refusal in one number.
-#[unsafe(no_mangle)]
-pub extern "C" fn nabetsu_write_page(
+pub fn nabetsu_write_page(
     text: &[u8],
     spread: u32,
     channel: u32,
@@ -244,8 +242,7 @@ fn put_numbers(answer: PlacementAnswer, output: &mut [u32])
 }
 
 // least_total for callers in other languages: the total, or the refusal in one number.
-#[unsafe(no_mangle)]
-pub extern "C" fn nabetsu_least_total(text: &[u8], spread: u32) -> u64
+pub fn nabetsu_least_total(text: &[u8], spread: u32) -> u64
     ensures { TotalCoded text.now spread result }
 {
     let answer = least_total(text, spread);
@@ -270,8 +267,7 @@ fn put_answer(answer: PlacementAnswer, output: &mut [u32]) -> u64
 }
 
 // place_total for callers in other languages.
-#[unsafe(no_mangle)]
-pub extern "C" fn nabetsu_place_total(
+pub fn nabetsu_place_total(
     text: &[u8],
     spread: u32,
     total: u32,
@@ -284,8 +280,7 @@ pub extern "C" fn nabetsu_place_total(
 }
 
 // session_total for callers in other languages: the total, or the refusal in one number.
-#[unsafe(no_mangle)]
-pub extern "C" fn nabetsu_session_total(steps: &[u8], spread: u32) -> u64
+pub fn nabetsu_session_total(steps: &[u8], spread: u32) -> u64
     ensures { StepsTotalCoded steps.now spread result }
 {
     let answer = session_total(steps, spread);
@@ -295,8 +290,7 @@ pub extern "C" fn nabetsu_session_total(steps: &[u8], spread: u32) -> u64
 }
 
 // session_place for callers in other languages.
-#[unsafe(no_mangle)]
-pub extern "C" fn nabetsu_session_place(
+pub fn nabetsu_session_place(
     steps: &[u8],
     spread: u32,
     total: u32,
@@ -360,8 +354,7 @@ fn verdict(legal: bool) -> u64
 }
 
 // try_placement for callers in other languages, of eight separations and nine positions: 1 for a legal placement, 2 for another, or the refusal in one number.
-#[unsafe(no_mangle)]
-pub extern "C" fn nabetsu_try_placement(text: &[u8], spread: u32, placement: &[u32]) -> u64
+pub fn nabetsu_try_placement(text: &[u8], spread: u32, placement: &[u32]) -> u64
     ensures { result ≡ code (text_refusal text.now) (verdict (is_legal_numbers (stack_in text.now) spread placement.now)) }
 {
     let answer = try_numbers(text, spread, placement);

@@ -1,5 +1,6 @@
 // A session's steps replayed from their text, line by line.
 #![tactic(auto)]
+
 ghost use Rattle.std.specs.Prelude.{◌≡◌, [], ◌≤◌, length};
 ghost use Rattle.lines.specs.Lines.{line};
 ghost use Rattle.text.specs.Text.{refusal, fine};

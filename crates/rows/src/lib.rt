@@ -1,5 +1,6 @@
 // The rows of a stack's table: one spread worked out in arrays that are held from spread to spread.
 #![tactic(auto)]
+
 ghost use Rattle.std.specs.Prelude.{◌≡◌, true, suc, length};
 ghost use Rattle.stack.specs.Sizes.{strips_held};
 ghost use Rattle.stack.specs.Limits.{within_limits};

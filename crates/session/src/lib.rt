@@ -1,6 +1,7 @@
 // Sessions, document 02's P6: strips that come and go. Each step hands the session back by value with its new state; each spread is answered as that of the text of
 // the same stack.
 #![tactic(auto)]
+
 ghost use Rattle.std.specs.Prelude.{◌≡◌, [], ◌∷◌, ◌≤◌};
 ghost use Rattle.stack.specs.Stack.{free, strip, stack};
 ghost use Rattle.stack.specs.Value.{free_strip, channel_of, stack_of};

@@ -1,5 +1,6 @@
 // The table over all spreads: rows found by jumps from event to event, each written directly behind the line before it.
 #![tactic(auto)]
+
 ghost use Rattle.std.specs.Prelude.{◌≡◌, true, ◌+◌, ◌^◌, ◌≤◌, ◌<◌};
 ghost use Rattle.stack.specs.Limits.{within_limits};
 ghost use Rattle.stack.specs.Value.{stack_of};
