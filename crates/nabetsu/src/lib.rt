@@ -1,6 +1,7 @@
 // The public entries: the table of a text, the least total and the placement for a total in one spread, both also for the session that a text of steps makes, a
 // channel's page, the verdict on a placement. Each answers whatever comes in, or refuses.
 #![tactic(auto)]
+
 ghost use Rattle.stack.specs.Value.{tracks_of, columns_of, stack_of};
 ghost use Rattle.stack.specs.Limits.{within_limits};
 ghost use Rattle.std.specs.Prelude.{true, leb, length, get_or, take, drop, ◌∷◌, ◌++◌, ◌≡◌};
@@ -195,12 +196,7 @@ pub fn nabetsu_write_table(text: &[u8], output: &mut [u8]) -> u64
 }
 
 // write_page for callers in other languages: the page's bytes, or the refusal in one number.
-pub fn nabetsu_write_page(
-    text: &[u8],
-    spread: u32,
-    channel: u32,
-    output: &mut [u8],
-) -> u64
+pub fn nabetsu_write_page(text: &[u8], spread: u32, channel: u32, output: &mut [u8]) -> u64
     ensures { PageCoded text.now spread channel result output.old output.new }
 {
     let answer = write_page(text, spread, channel, output);
@@ -267,12 +263,7 @@ fn put_answer(answer: PlacementAnswer, output: &mut [u32]) -> u64
 }
 
 // place_total for callers in other languages.
-pub fn nabetsu_place_total(
-    text: &[u8],
-    spread: u32,
-    total: u32,
-    output: &mut [u32],
-) -> u64
+pub fn nabetsu_place_total(text: &[u8], spread: u32, total: u32, output: &mut [u32]) -> u64
     ensures { PlacementCoded text.now spread total result output.old output.new }
 {
     let answer = place_total(text, spread, Tracks(total));
@@ -290,12 +281,7 @@ pub fn nabetsu_session_total(steps: &[u8], spread: u32) -> u64
 }
 
 // session_place for callers in other languages.
-pub fn nabetsu_session_place(
-    steps: &[u8],
-    spread: u32,
-    total: u32,
-    output: &mut [u32],
-) -> u64
+pub fn nabetsu_session_place(steps: &[u8], spread: u32, total: u32, output: &mut [u32]) -> u64
     ensures { StepsPlacementCoded steps.now spread total result output.old output.new }
 {
     let answer = session_place(steps, spread, Tracks(total));

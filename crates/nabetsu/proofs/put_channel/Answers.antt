@@ -1,0 +1,29 @@
+-- put_channel meets its contract: the channel's terminals, separation and positions in the answer. Assumes nothing.
+use native.Mathlib.Omega.{arith}
+use Rattle.reply.proofs.Outcomes.{asked_fine}
+use Rattle.nabetsu.proofs.Pages.{channel_place, channel_asks, channel_put}
+use Rattle.nabetsu.proofs.put_channel.Goals as goal
+
+pub answer_in-placement-requires : goal.answer_in-placement-requires
+answer_in-placement-requires c = record { stack_value = c.requires.0; stack_bound = (asked_fine _ _ _ c.requires.1).wide }
+
+pub overflow_sub-i : goal.overflow_sub-i
+overflow_sub-i c = (asked_fine _ _ _ c.requires.1).some
+
+pub bounds-stack-i : goal.bounds-stack-i
+bounds-stack-i c = omega (arith, channel_place c.args.stack _ _ c.requires.0 c.requires.1)
+
+pub bounds-separations-i : goal.bounds-separations-i
+bounds-separations-i c = omega (arith, channel_place c.args.stack _ _ c.requires.0 c.requires.1)
+
+pub bounds-positions-i : goal.bounds-positions-i
+bounds-positions-i c = omega (arith, channel_place c.args.stack _ _ c.requires.0 c.requires.1)
+
+pub bounds-positions-i-2 : goal.bounds-positions-i-2
+bounds-positions-i-2 c = omega (arith, channel_place c.args.stack _ _ c.requires.0 c.requires.1)
+
+pub put_page-requires : goal.put_page-requires
+put_page-requires c = channel_asks c.args.stack _ _ c.requires.0 (asked_fine _ _ _ c.requires.1) _ c.answer_in-placement.ensures
+
+pub returns : goal.returns
+returns c = channel_put c.args.stack _ _ c.requires.0 (asked_fine _ _ _ c.requires.1) _ c.answer_in-placement.ensures _ _ _ c.put_page.ensures
