@@ -1,6 +1,7 @@
 // The program's commands, on slices: what its arguments stand for, and for each command what is printed of a text, what is refused, and the exit status that
 // goes with it.
 #![tactic(auto)]
+
 ghost use Rattle.std.specs.Prelude.{◌≡◌, ◌≤◌, length, take};
 ghost use Rattle.stack.specs.Value.{tracks_of, columns_of};
 ghost use Rattle.text.specs.Text.{text_refusal};
