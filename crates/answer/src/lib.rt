@@ -32,7 +32,7 @@ fn last_use(pairs: usize, floor: Tracks) -> usize
 
 // The limits and the last separations of use of a stack's channels, in the solver's arrays.
 pub fn fill_limits(stack: Stack, limits: &mut StackLimits, lasts: &mut [usize; Stack::STRIPS])
-    requires stack_value { within_limits (stack_of stack) ≡ true }
+    requires within { within_limits (stack_of stack) ≡ true }
     requires limits_in { LimitsIn (stack_of stack) 0 limits.old lasts.old }
     ensures { LimitsIn (stack_of stack) stack.count limits.new lasts.new }
 {
@@ -85,7 +85,7 @@ pub fn growing_end(strip: Strip, spread: u32) -> u64
 
 // The strips' windows in a spread; the answer is not above any of their growing ends.
 pub fn fill_windows(stack: Stack, spread: u32, windows: &mut Windows) -> u64
-    requires stack_value { within_limits (stack_of stack) ≡ true }
+    requires within { within_limits (stack_of stack) ≡ true }
     requires windows_in { WindowsIn (stack_of stack) 0 spread windows.old }
     ensures { WindowsIn (stack_of stack) (suc stack.count) spread windows.new × BelowGrowths (stack_of stack) (suc stack.count) spread result }
 {
@@ -115,8 +115,8 @@ fn fill_arrays(stack: Stack, spread: u32, limits: &mut StackLimits, windows: &mu
 
 // The least total in a spread from the first one on.
 pub fn total_in(stack: Stack, spread: u32) -> Tracks
-    requires stack_value { within_limits (stack_of stack) ≡ true }
-    requires stack_bound { first_spread (stack_of stack).strips ≤ spread }
+    requires within { within_limits (stack_of stack) ≡ true }
+    requires wide { first_spread (stack_of stack).strips ≤ spread }
     ensures { result.0 ≡ answer_total (stack_of stack) spread }
 {
     let mut limits = [[[0u64; Stack::SEPARATIONS]; 2]; Stack::MAX_CHANNELS];
@@ -130,8 +130,8 @@ pub fn total_in(stack: Stack, spread: u32) -> Tracks
 
 // The placement for the least total in a spread from the first one on.
 pub fn answer_in(stack: Stack, spread: u32) -> Placement
-    requires stack_value { within_limits (stack_of stack) ≡ true }
-    requires stack_bound { first_spread (stack_of stack).strips ≤ spread }
+    requires within { within_limits (stack_of stack) ≡ true }
+    requires wide { first_spread (stack_of stack).strips ≤ spread }
     ensures { AnswerIs (stack_of stack) spread result }
 {
     let k = stack.count;
@@ -172,8 +172,8 @@ pub struct StatedPlacement {
 // The placement for a stated total in a spread from the first one on, if some legal placement there has that total. The least total is not looked for: the
 // total is met exactly if the bottom strip has a position for it.
 pub fn placement_in(stack: Stack, spread: u32, total: Tracks) -> StatedPlacement
-    requires stack_value { within_limits (stack_of stack) ≡ true }
-    requires stack_bound { first_spread (stack_of stack).strips ≤ spread }
+    requires within { within_limits (stack_of stack) ≡ true }
+    requires wide { first_spread (stack_of stack).strips ≤ spread }
     ensures { (result.met ≡ leb (answer_total (stack_of stack) spread) total.0) × (result.met ≡ true → PlacedIs (stack_of stack) spread total.0 result.placement) }
 {
     let k = stack.count;

@@ -99,8 +99,8 @@ fn close_below(row: &mut [u64; Stack::SEPARATIONS], floor: Tracks, closed: u64)
 // Behind the last pair stand zeros, and TERM_BIAS where t is added to the index. So a term past the last is less than every term of L(t), or greater than every term of R(t), and
 // 32 terms can be taken for every t: a constant number, without a remainder of fewer than eight.
 pub fn channel_limits(terminals: Terminals, floor: Tracks) -> Limits
-    requires count_bound { (terminals.count ≤ 32) × (floor.0 ≤ 64) }
-    requires terminals_value { on_strips 1000 1000 (channel_of terminals) ≡ true }
+    requires few { (terminals.count ≤ 32) × (floor.0 ≤ 64) }
+    requires ordered { on_strips 1000 1000 (channel_of terminals) ≡ true }
     ensures { LimitsOf (channel (channel_of terminals) floor.0) result }
 {
     let pairs = terminals.count;

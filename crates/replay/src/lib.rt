@@ -142,7 +142,7 @@ impl Replay {
 
 // A text of steps replayed: the session, and what is refused of the text or of the last step.
 pub fn replay_steps(text: &[u8]) -> Replay
-    ensures result_value { state_of result ≡ replayed text.now }
+    ensures is_replayed { state_of result ≡ replayed text.now }
     ensures made { Made (held_of result.session) }
 {
     if Replay::MAX_BYTES < text.len() {

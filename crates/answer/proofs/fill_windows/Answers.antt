@@ -9,19 +9,19 @@ pub loop-i-init : goal.loop-i-init
 loop-i-init c = (omega arith, c.requires.windows_in, λ i h. absurd (omega arith))
 
 pub offset_bounds-strips-i : goal.offset_bounds-strips-i
-offset_bounds-strips-i c = omega (arith, c.loop-i-test.true, few_channels c.args.stack c.requires.stack_value)
+offset_bounds-strips-i c = omega (arith, c.loop-i-test.true, few_channels c.args.stack c.requires.within)
 
 pub bounds-strips-i : goal.bounds-strips-i
-bounds-strips-i c = omega (arith, c.loop-i-test.true, few_channels c.args.stack c.requires.stack_value)
+bounds-strips-i c = omega (arith, c.loop-i-test.true, few_channels c.args.stack c.requires.within)
 
 pub offset_bounds-windows-i : goal.offset_bounds-windows-i
-offset_bounds-windows-i c = omega (arith, c.loop-i-test.true, few_channels c.args.stack c.requires.stack_value)
+offset_bounds-windows-i c = omega (arith, c.loop-i-test.true, few_channels c.args.stack c.requires.within)
 
 pub bounds-windows-i : goal.bounds-windows-i
-bounds-windows-i c = omega (arith, c.loop-i-test.true, few_channels c.args.stack c.requires.stack_value)
+bounds-windows-i c = omega (arith, c.loop-i-test.true, few_channels c.args.stack c.requires.within)
 
 pub overflow_add-i : goal.overflow_add-i
-overflow_add-i c = omega (arith, c.loop-i-test.true, few_channels c.args.stack c.requires.stack_value)
+overflow_add-i c = omega (arith, c.loop-i-test.true, few_channels c.args.stack c.requires.within)
 
 pub loop-i-smaller : goal.loop-i-smaller
 loop-i-smaller c = omega (arith, c.loop-i-test.true)
@@ -29,7 +29,7 @@ loop-i-smaller c = omega (arith, c.loop-i-test.true)
 pub loop-i-preserved : goal.loop-i-preserved
 loop-i-preserved c = let less = c.loop-i-test.true in (
   omega arith,
-  windows_step c.args.stack c.loop-i.i c.args.spread c.window-ends.result _ (omega arith) (few_channels c.args.stack c.requires.stack_value) c.loop-i.invariant.1 c.window-ends.ensures,
+  windows_step c.args.stack c.loop-i.i c.args.spread c.window-ends.result _ (omega arith) (few_channels c.args.stack c.requires.within) c.loop-i.invariant.1 c.window-ends.ensures,
   rw c.lesser-least.ensures (below_step c.args.stack c.loop-i.i c.args.spread c.loop-i.least c.growing_end.result (omega arith) c.loop-i.invariant.2 c.growing_end.ensures),
 )
 

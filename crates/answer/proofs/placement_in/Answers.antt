@@ -7,36 +7,36 @@ use Rattle.answer.proofs.Standing.{limits_zero, cap_small, held_band_asks, band_
 use Rattle.answer.proofs.placement_in.Goals as goal
 
 pub fill_arrays-plan-requires : goal.fill_arrays-plan-requires
-fill_arrays-plan-requires c = (c.requires.stack_value, limits_zero, refl)
+fill_arrays-plan-requires c = (c.requires.within, limits_zero, refl)
 
 pub fill_band-requires : goal.fill_band-requires
-fill_band-requires c = held_band_asks c.args.stack c.args.spread _ _ _ c.ranges.spread.fits c.requires.stack_bound c.fill_arrays-plan.ensures.0 c.fill_arrays-plan.ensures.1 c.args.total.0 c.struct_known-1.given.0.fits
+fill_band-requires c = held_band_asks c.args.stack c.args.spread _ _ _ c.ranges.spread.fits c.requires.wide c.fill_arrays-plan.ensures.0 c.fill_arrays-plan.ensures.1 c.args.total.0 c.struct_known-1.given.0.fits
 
 pub bounds-table-used : goal.bounds-table-used
-bounds-table-used c = cap_small c.args.stack c.args.spread _ _ _ c.ranges.spread.fits c.requires.stack_bound c.fill_arrays-plan.ensures.0 c.fill_arrays-plan.ensures.1 c.lesser-used.result (omega (arith, c.lesser-used.ensures))
+bounds-table-used c = cap_small c.args.stack c.args.spread _ _ _ c.ranges.spread.fits c.requires.wide c.fill_arrays-plan.ensures.0 c.fill_arrays-plan.ensures.1 c.lesser-used.result (omega (arith, c.lesser-used.ensures))
 
 pub bounds-table-used-2 : goal.bounds-table-used-2
-bounds-table-used-2 c = cap_small c.args.stack c.args.spread _ _ _ c.ranges.spread.fits c.requires.stack_bound c.fill_arrays-plan.ensures.0 c.fill_arrays-plan.ensures.1 c.lesser-used.result (omega (arith, c.lesser-used.ensures))
+bounds-table-used-2 c = cap_small c.args.stack c.args.spread _ _ _ c.ranges.spread.fits c.requires.wide c.fill_arrays-plan.ensures.0 c.fill_arrays-plan.ensures.1 c.lesser-used.result (omega (arith, c.lesser-used.ensures))
 
 pub returns-then-not-met : goal.returns-then-not-met
 returns-then-not-met c = let used = c.lesser-used in
     let filled = c.fill_band in
     let test = c.has_position-met in
-    let met = test.ensures ∙ band_met c.args.stack c.args.spread _ _ _ c.ranges.spread.fits c.requires.stack_bound c.fill_arrays-plan.ensures.0 c.fill_arrays-plan.ensures.1 c.args.total.0 used.result _ filled.ensures used.ensures in
+    let met = test.ensures ∙ band_met c.args.stack c.args.spread _ _ _ c.ranges.spread.fits c.requires.wide c.fill_arrays-plan.ensures.0 c.fill_arrays-plan.ensures.1 c.args.total.0 used.result _ filled.ensures used.ensures in
     (met, λ e. impossible (sym (c.if-not-met.true) ∙ e))
 
 pub place_in-placement-requires : goal.place_in-placement-requires
 place_in-placement-requires c = let used = c.lesser-used in
     let filled = c.fill_band in
     let test = c.has_position-met in
-    let met = test.ensures ∙ band_met c.args.stack c.args.spread _ _ _ c.ranges.spread.fits c.requires.stack_bound c.fill_arrays-plan.ensures.0 c.fill_arrays-plan.ensures.1 c.args.total.0 used.result _ filled.ensures used.ensures in
+    let met = test.ensures ∙ band_met c.args.stack c.args.spread _ _ _ c.ranges.spread.fits c.requires.wide c.fill_arrays-plan.ensures.0 c.fill_arrays-plan.ensures.1 c.args.total.0 used.result _ filled.ensures used.ensures in
     let known = c.struct_known-1.given in
-    band_place_asks c.args.stack c.args.spread _ _ _ c.ranges.spread.fits c.requires.stack_bound c.fill_arrays-plan.ensures.0 c.fill_arrays-plan.ensures.1 c.args.total.0 used.result _ filled.ensures used.ensures
+    band_place_asks c.args.stack c.args.spread _ _ _ c.ranges.spread.fits c.requires.wide c.fill_arrays-plan.ensures.0 c.fill_arrays-plan.ensures.1 c.args.total.0 used.result _ filled.ensures used.ensures
     (sym met ∙ c.if-not-met.false) known.0.fits
 
 pub returns : goal.returns
 returns c = let used = c.lesser-used in
     let filled = c.fill_band in
     let test = c.has_position-met in
-    let met = test.ensures ∙ band_met c.args.stack c.args.spread _ _ _ c.ranges.spread.fits c.requires.stack_bound c.fill_arrays-plan.ensures.0 c.fill_arrays-plan.ensures.1 c.args.total.0 used.result _ filled.ensures used.ensures in
-    (met, λ e. band_placed c.args.stack c.args.spread _ _ _ c.ranges.spread.fits c.requires.stack_bound c.fill_arrays-plan.ensures.0 c.fill_arrays-plan.ensures.1 c.args.total.0 used.result _ filled.ensures used.ensures (sym met ∙ e) c.place_in-placement.result c.place_in-placement.ensures)
+    let met = test.ensures ∙ band_met c.args.stack c.args.spread _ _ _ c.ranges.spread.fits c.requires.wide c.fill_arrays-plan.ensures.0 c.fill_arrays-plan.ensures.1 c.args.total.0 used.result _ filled.ensures used.ensures in
+    (met, λ e. band_placed c.args.stack c.args.spread _ _ _ c.ranges.spread.fits c.requires.wide c.fill_arrays-plan.ensures.0 c.fill_arrays-plan.ensures.1 c.args.total.0 used.result _ filled.ensures used.ensures (sym met ∙ e) c.place_in-placement.result c.place_in-placement.ensures)

@@ -7,5 +7,4 @@ pub returns-in-Accepted : goal.returns-in-Accepted
 returns-in-Accepted c = outcome_accepted _ _ _ (search rules) c.in-Accepted.is
 
 pub returns-in-Refused : goal.returns-in-Refused
-returns-in-Refused c = let known = c.outcome-1.given in
-    outcome_refused _ _ known.0.0 known.1 c.number.ensures (search rules) c.put_refusal-length.ensures
+returns-in-Refused c = outcome_refused _ _ c.in-Refused.r c.in-Refused.is c.number.ensures (search rules) c.put_refusal-length.ensures

@@ -13,4 +13,4 @@ pub returns : goal.returns
 unfolding PageEnough
 returns c = let page = c.write_page-answer in
     let space : 4485 ≤ length c.args.output.now = search rules in
-    page_printed c.args.text.now c.args.spread c.args.channel page.result _ _ (λ z. page.ensures.1.1 z space) _ _ page.ensures.0 c.put_outcome.ensures
+    page_printed c.args.text.now c.args.spread c.args.channel page.result _ _ (λ z. page.ensures.page_enough z space) _ _ page.ensures.page_says c.put_outcome.ensures

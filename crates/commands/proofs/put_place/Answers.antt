@@ -9,9 +9,9 @@ returns-then-not-is_accepted c = placement_refused _ _ _ c.place_total-answer.re
 
 pub put_row-length-requires : goal.put_row-length-requires
 put_row-length-requires c = let answer = c.place_total-answer in
-    row_asked _ _ _ answer.result answer.ensures.0 c.read_stack-reading.result c.read_stack-reading.ensures (sym c.is_accepted.ensures ∙ c.if-not-is_accepted.false)
+    row_asked _ _ _ answer.result answer.ensures.placement_says c.read_stack-reading.result c.read_stack-reading.ensures (sym c.is_accepted.ensures ∙ c.if-not-is_accepted.false)
 
 pub returns : goal.returns
 returns c = let answer = c.place_total-answer in
-    placement_accepted _ _ _ answer.result answer.ensures.0 c.read_stack-reading.result c.read_stack-reading.ensures (sym c.is_accepted.ensures ∙ c.if-not-is_accepted.false) _ _
+    placement_accepted _ _ _ answer.result answer.ensures.placement_says c.read_stack-reading.result c.read_stack-reading.ensures (sym c.is_accepted.ensures ∙ c.if-not-is_accepted.false) _ _
     (put_printed 0 _ (search rules) c.put_row-length.ensures)

@@ -4,4 +4,4 @@ use Rattle.commands.proofs.put_spread.Goals as goal
 
 pub returns : goal.returns
 returns c = let least = c.least_total-least in
-    spread_printed _ _ least.result least.ensures.0 _ _ c.put_place.ensures
+    spread_printed _ _ least.result least.ensures.total_says _ _ c.put_place.ensures

@@ -13,4 +13,4 @@ pub returns : goal.returns
 unfolding SpaceEnough
 returns c = let table = c.write_table-answer in
     let space : 24388 ≤ length c.args.output.now = search rules in
-    table_printed c.args.text.now table.result _ _ (λ z. table.ensures.1 z space) _ _ table.ensures.0 c.put_outcome.ensures
+    table_printed c.args.text.now table.result _ _ (λ z. table.ensures.space_enough z space) _ _ table.ensures.table_says c.put_outcome.ensures

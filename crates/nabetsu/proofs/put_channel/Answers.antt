@@ -5,7 +5,7 @@ use Rattle.nabetsu.proofs.Pages.{channel_place, channel_asks, channel_put}
 use Rattle.nabetsu.proofs.put_channel.Goals as goal
 
 pub answer_in-placement-requires : goal.answer_in-placement-requires
-answer_in-placement-requires c = record { stack_value = c.requires.0; stack_bound = (asked_fine _ _ _ c.requires.1).wide }
+answer_in-placement-requires c = record { within = c.requires.0; wide = (asked_fine _ _ _ c.requires.1).wide }
 
 pub overflow_sub-i : goal.overflow_sub-i
 overflow_sub-i c = (asked_fine _ _ _ c.requires.1).some

@@ -5,7 +5,7 @@ use Rattle.rows.proofs.Evaluating.{growth_asks, evaluated, evaluated_grown}
 use Rattle.rows.proofs.evaluate.Goals as goal
 
 pub fill_windows-least-requires : goal.fill_windows-least-requires
-fill_windows-least-requires c = record { stack_value = c.requires.held.good; windows_in = windows_start (stack_of c.args.stack) c.args.spread _ c.requires.sized_windows }
+fill_windows-least-requires c = record { within = c.requires.held.good; windows_in = windows_start (stack_of c.args.stack) c.args.spread _ c.requires.sized_windows }
 
 pub scan_totals-scan-requires : goal.scan_totals-scan-requires
 scan_totals-scan-requires c = held_scan_asks c.args.stack c.args.spread _ _ _ c.ranges.spread.fits c.requires.wide c.requires.held c.fill_windows-least.ensures.0 c.args.cap _ c.requires.capped c.requires.sized

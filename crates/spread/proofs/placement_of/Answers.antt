@@ -8,7 +8,7 @@ pub returns-then-not-is_accepted : goal.returns-then-not-is_accepted
 returns-then-not-is_accepted c = placement_refused _ _ _ _ c.spread_outcome-told.result c.spread_outcome-told.ensures _ (sym c.is_accepted.ensures ∙ c.if-not-is_accepted.true) c.refused_placement.ensures
 
 pub placement_in-stated-requires : goal.placement_in-stated-requires
-placement_in-stated-requires c = record { stack_value = c.requires; stack_bound = fine_wide _ _ _ (accepted_number _ c.spread_outcome-told.result c.spread_outcome-told.ensures (sym c.is_accepted.ensures ∙ c.if-not-is_accepted.false)) }
+placement_in-stated-requires c = record { within = c.requires; wide = fine_wide _ _ _ (accepted_number _ c.spread_outcome-told.result c.spread_outcome-told.ensures (sym c.is_accepted.ensures ∙ c.if-not-is_accepted.false)) }
 
 pub returns-then-not-met : goal.returns-then-not-met
 returns-then-not-met c = let good = sym c.is_accepted.ensures ∙ c.if-not-is_accepted.false in

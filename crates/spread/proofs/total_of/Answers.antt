@@ -8,7 +8,7 @@ pub returns-then-not-is_accepted : goal.returns-then-not-is_accepted
 returns-then-not-is_accepted c = total_refused _ _ _ c.spread_outcome-told.result c.spread_outcome-told.ensures _ refl (sym c.is_accepted.ensures ∙ c.if-not-is_accepted.true) refl
 
 pub total_in-total-requires : goal.total_in-total-requires
-total_in-total-requires c = record { stack_value = c.requires; stack_bound = fine_wide _ _ _ (accepted_number _ c.spread_outcome-told.result c.spread_outcome-told.ensures (sym c.is_accepted.ensures ∙ c.if-not-is_accepted.false)) }
+total_in-total-requires c = record { within = c.requires; wide = fine_wide _ _ _ (accepted_number _ c.spread_outcome-told.result c.spread_outcome-told.ensures (sym c.is_accepted.ensures ∙ c.if-not-is_accepted.false)) }
 
 pub returns : goal.returns
 returns c = let good = sym c.is_accepted.ensures ∙ c.if-not-is_accepted.false in

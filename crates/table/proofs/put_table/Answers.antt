@@ -12,7 +12,7 @@ use borrow.Author.Rules.{rules}
 use Rattle.table.proofs.put_table.Goals as goal
 
 pub fill_limits-requires : goal.fill_limits-requires
-fill_limits-requires c = record { stack_value = c.requires; limits_in = limits_start (stack_of c.args.stack) _ limits_zero }
+fill_limits-requires c = record { within = c.requires; limits_in = limits_start (stack_of c.args.stack) _ limits_zero }
 
 pub plan_for-plan-requires : goal.plan_for-plan-requires
 plan_for-plan-requires c = filled_lasts c.args.stack _ _ c.requires c.fill_limits.ensures
