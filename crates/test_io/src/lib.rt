@@ -1,6 +1,9 @@
 // Numbers read and printed by the test programs.
 #![tactic(auto)]
-ghost use Rattle.std.specs.Prelude.{◌≤◌};
+
+ghost use Rattle.std.specs.Prelude.{◌≤◌, length};
+
+use std::io::Read;
 
 // A number of a text and the place behind it.
 #[derive(Clone, Copy)]
@@ -59,8 +62,28 @@ fn character(d: u64) -> u8 {
     (d % 10) as u8 + 48
 }
 
+// Reads until the space is full, the input ends or a read fails; how many bytes were read.
+pub fn read_full<S: Read>(source: &mut S, text: &mut [u8]) -> usize
+    ensures { result ≤ length text.new }
+{
+    let mut filled = 0;
+    while filled < text.len() {
+        match source.read(&mut text[filled..]) {
+            Ok(0) => return filled,
+            Ok(more) => filled += more,
+            Err(_) => return filled,
+        }
+    }
+    filled
+}
+
+// Prints bytes, as many as can be written: a comparison of what is printed shows what is missing.
+pub fn print_bytes(to: &impl Print, bytes: &[u8]) {
+    let _ = to.write_all(bytes);
+}
+
 // Prints a number and answers how many digits it has.
-pub fn print_number(v: u64) -> usize
+pub fn print_number(to: &impl Print, v: u64) -> usize
     ensures { result ≤ 20 }
 {
     let mut digits = [48u8; 20];
@@ -75,6 +98,6 @@ pub fn print_number(v: u64) -> usize
         at -= 1;
         digits[at] = character(rest);
     }
-    io::write_all(1, &digits[at..]);
+    print_bytes(to, &digits[at..]);
     20 - at
 }

@@ -1,0 +1,20 @@
+-- Terminals that are made are few and on the strips. Assumes nothing.
+use Rattle.std.proofs.Common.{arith}
+use Rattle.stack.proofs.Found.{made_few, made_on_strips}
+use Rattle.stack.proofs.OnStrips.{on_longer}
+use Rattle.channel_test.proofs.channel.Goals as goal
+
+pub channel_limits-requires-clause-count_bound : goal.channel_limits-requires-clause-count_bound
+channel_limits-requires-clause-count_bound g c = (made_few _ _ _ _ c.new-made.result c.new-made.ensures, omega arith)
+
+pub channel_limits-requires-clause-terminals_value :
+    goal.channel_limits-requires-clause-terminals_value
+channel_limits-requires-clause-terminals_value g c =
+    on_longer _ _ 1000 1000 _ c.longest.ensures c.longest-2.ensures
+    (made_on_strips _ _ _ _ c.new-made.result c.new-made.ensures)
+
+pub open_from-requires : goal.open_from-requires
+open_from-requires g c = made_few _ _ _ _ c.new-made.result c.new-made.ensures
+
+pub print_all_feasible-requires : goal.print_all_feasible-requires
+print_all_feasible-requires g c = made_few _ _ _ _ c.new-made.result c.new-made.ensures
