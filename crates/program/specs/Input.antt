@@ -1,10 +1,14 @@
--- Where a line of the input is. Assumes nothing: these are definitions.
-use Rattle.std.specs.Prelude.{◌≡◌, true, List, ℕ, ◌≤◌, ◌<◌, length}
+-- How many bytes of the input are there, and where a line of it is. Assumes nothing: these are definitions.
+use Rattle.std.specs.Prelude.{◌≡◌, true, List, ℕ, ◌≤◌, ◌<◌, length, take}
 use Rattle.lines.specs.declared.LineEnd.{LineEnd}
 use Rattle.session.specs.Session.{Made}
 use Rattle.session.specs.Value.{held_of}
 use Rattle.replay.specs.declared.Replay.{Replay}
 use Rattle.program.specs.declared.NextLine.{NextLine}
+
+-- so many bytes are at the start of a space; the second part follows from the first
+abbrev pub IsPrefixLen : ℕ → List ℕ → Type 0
+IsPrefixLen n xs = (n ≤ length xs) × (n ≡ length (take n xs))
 
 -- a line among so many bytes; an ended one has a line feed behind it
 pub record LineIn (from filled : ℕ) (r : LineEnd) : Type 0 where

@@ -4,12 +4,12 @@ use Rattle.stack.proofs.Found.{made_few, made_on_strips}
 use Rattle.stack.proofs.OnStrips.{on_longer}
 use Rattle.channel_test.proofs.channel.Goals as goal
 
-pub channel_limits-requires-clause-count_bound : goal.channel_limits-requires-clause-count_bound
-channel_limits-requires-clause-count_bound g c = (made_few _ _ _ _ c.new-made.result c.new-made.ensures, omega arith)
+pub channel_limits-requires-clause-few : goal.channel_limits-requires-clause-few
+channel_limits-requires-clause-few g c = (made_few _ _ _ _ c.new-made.result c.new-made.ensures, omega arith)
 
-pub channel_limits-requires-clause-terminals_value :
-    goal.channel_limits-requires-clause-terminals_value
-channel_limits-requires-clause-terminals_value g c =
+pub channel_limits-requires-clause-ordered :
+    goal.channel_limits-requires-clause-ordered
+channel_limits-requires-clause-ordered g c =
     on_longer _ _ 1000 1000 _ c.longest.ensures c.longest-2.ensures
     (made_on_strips _ _ _ _ c.new-made.result c.new-made.ensures)
 
