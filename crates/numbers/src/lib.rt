@@ -1,5 +1,6 @@
 // Small functions on numbers, and the lemmas on tests, lists and orders that every layer cites.
 #![tactic(auto)]
+
 ghost use Rattle.std.specs.Prelude.{◌≡◌, ◌-◌, min, max};
 
 // The lesser of two numbers.

@@ -13,7 +13,7 @@ use Rattle.rows.specs.Walk.{row_at, rows_walk, widest, rows_of}
 use Rattle.rows.proofs.Settled.{first_widest}
 use Rattle.rows.proofs.Jumps.{total_never_rises}
 use Rattle.rows.proofs.Walks.{walk_zero, walk_stays, walk_falls, walk_next}
-use Rattle.writing.specs.Output.{written, written_at, Written, row_bytes, rows_most, table_bytes, LinePut, LinePutAt}
+use Rattle.writing.specs.Output.{written_at, Written, row_bytes, rows_most, table_bytes, LinePut, LinePutAt}
 use Rattle.writing.specs.TableText.{table_text, row_text, rows_text}
 use Rattle.writing.proofs.Bounds.{table_head}
 use Rattle.writing.proofs.Lines.{written_starts, written_steps, written_at_start}

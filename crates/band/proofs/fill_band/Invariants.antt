@@ -1,6 +1,5 @@
 -- fill_band meets its contract: the loop keeps Banding. Assumes nothing.
 use mathlib.Core.Path.{◌≡◌}
-use Prim.Native.Nat.{◌-◌}
 use Rattle.arrays.specs.Arrays.{entry, sums_in, given}
 use Rattle.band.specs.Band.{Banding}
 use Rattle.band.proofs.fill_band.Given as goal

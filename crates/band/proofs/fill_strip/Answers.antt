@@ -1,5 +1,5 @@
 use mathlib.Core.Path.{◌≡◌}
-use Prim.Native.Nat.{◌+◌, ◌-◌}
+use Prim.Native.Nat.{◌+◌}
 use native.Mathlib.Omega.{arith}
 use Rattle.band.proofs.Strips.{strip_start, strip_asks, strip_step}
 use Rattle.band.proofs.fill_strip.Goals as goal

@@ -1,4 +1,3 @@
-use Prim.Native.Nat.{◌-◌}
 use borrow.Author.Count.{falls}
 use Rattle.channel.proofs.Closing.{closing_starts, closing_steps, closing_ends}
 use Rattle.channel.proofs.close_below.Goals as goal

@@ -1,4 +1,3 @@
-use Prim.Native.Nat.{◌-◌}
 use borrow.Author.Count.{falls}
 use Rattle.stack.specs.Value.{channel_of}
 use Rattle.feasibility.proofs.Trying.{trying_starts, trying_steps, trying_refuses, trying_ends, trying_open}

@@ -1,6 +1,6 @@
 -- grow_strip meets its contract: the loop keeps StripGrown, and the growing ends of the strip above for smaller totals. Assumes nothing.
 use mathlib.Core.Path.{◌≡◌}
-use Prim.Native.Nat.{ℕ, ◌-◌, ◌≤◌, ◌<◌}
+use Prim.Native.Nat.{ℕ, ◌≤◌, ◌<◌}
 use Rattle.arrays.specs.Arrays.{entry}
 use Rattle.growth.specs.Growth.{StripGrown}
 use Rattle.growth.proofs.grow_strip.Given as goal

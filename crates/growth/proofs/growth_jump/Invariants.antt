@@ -1,5 +1,4 @@
 -- growth_jump meets its contract: the loop keeps Growing. Assumes nothing.
-use Prim.Native.Nat.{◌-◌}
 use Rattle.arrays.specs.Arrays.{given}
 use Rattle.growth.specs.Growth.{Growing}
 use Rattle.growth.proofs.growth_jump.Given as goal

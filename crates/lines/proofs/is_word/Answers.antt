@@ -1,4 +1,3 @@
-use Prim.Native.Nat.{◌-◌}
 use native.Mathlib.Omega.{arith}
 use Rattle.lines.proofs.Digits.{other_lengths, matching_starts, matching_steps, matching_refuses, matching_ends}
 use Rattle.lines.proofs.is_word.Goals as goal

@@ -1,4 +1,3 @@
-use Prim.Native.Nat.{◌-◌}
 use native.Mathlib.Omega.{arith}
 use Rattle.lines.proofs.Fields.{field_end, taking_starts, taking_long, taking_steps, taking_ends}
 use Rattle.lines.proofs.numbers_from.Goals as goal

@@ -1,6 +1,5 @@
 use mathlib.Core.Path.{sym, ◌∙◌}
 use lib.ListN.{get_or}
-use Prim.Native.Nat.{◌-◌}
 use native.Mathlib.Omega.{arith}
 use Rattle.lines.proofs.Digits.{digit_says, counting_starts, counted_small, counting_steps, counting_refuses, counting_ends}
 use Rattle.lines.proofs.read_digits.Goals as goal

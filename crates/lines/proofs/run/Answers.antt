@@ -1,4 +1,3 @@
-use Prim.Native.Nat.{◌-◌}
 use Rattle.lines.proofs.Cutting.{seeking_starts, seeking_finds, seeking_steps, seeking_ends}
 use Rattle.lines.proofs.run.Goals as goal
 

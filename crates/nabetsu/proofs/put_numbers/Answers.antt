@@ -1,4 +1,3 @@
-use Prim.Native.Nat.{◌-◌}
 use Rattle.nabetsu.specs.Entry.{numbers, numbers_in}
 use Rattle.nabetsu.proofs.Numbers.{put_starts, put_same_length, put_inside, put_steps, put_ends}
 use Rattle.nabetsu.proofs.put_numbers.Goals as goal

@@ -22,9 +22,9 @@ returns-then-not-is_accepted-2 c = let args = c.args in
 
 pub put_channel-written-requires : goal.put_channel-written-requires
 put_channel-written-requires c = (
-      c.read_stack-reading.ensures.within,
-      asked_number _ _ _ c.page_outcome-asked.result c.page_outcome-asked.ensures (sym c.is_accepted-2.ensures ∙ c.if-not-is_accepted-2.false),
-    )
+  c.read_stack-reading.ensures.within,
+  asked_number _ _ _ c.page_outcome-asked.result c.page_outcome-asked.ensures (sym c.is_accepted-2.ensures ∙ c.if-not-is_accepted-2.false),
+)
 
 pub returns : goal.returns
 returns c = let args = c.args in

@@ -1,5 +1,4 @@
 use mathlib.Core.Path.{◌≡◌}
-use Prim.Native.Nat.{◌-◌}
 use native.Mathlib.Omega.{arith}
 use Rattle.plan.proofs.Sums.{leasts_start, leasts_step}
 use Rattle.plan.proofs.least_opens.Goals as goal

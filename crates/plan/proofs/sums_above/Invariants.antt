@@ -1,5 +1,5 @@
 -- sums_above meets its contract: the loop keeps SumsAre. Assumes nothing.
-use Prim.Native.Nat.{◌-◌, ◌≤◌}
+use Prim.Native.Nat.{◌≤◌}
 use Rattle.arrays.specs.Arrays.{SumsAre}
 use Rattle.plan.proofs.sums_above.Given as goal
 

@@ -1,4 +1,3 @@
-use Prim.Native.Nat.{◌-◌}
 use native.Mathlib.Omega.{arith}
 use Rattle.plot.proofs.Ends.{levels_start, levels_step, levels_done}
 use Rattle.plot.proofs.fill_ends.Goals as goal

@@ -1,4 +1,3 @@
-use Prim.Native.Nat.{◌-◌}
 use native.Mathlib.Omega.{arith}
 use Rattle.numbers.proofs.Lists.{map_set}
 use Rattle.positions.proofs.Fixing.{track_at}

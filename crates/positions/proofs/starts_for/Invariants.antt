@@ -1,5 +1,4 @@
 -- starts_for meets its contract: the first positions under the separations chosen. Assumes nothing.
-use Prim.Native.Nat.{◌-◌}
 use Rattle.stack.specs.Value.{tracks_of}
 use Rattle.spans.specs.Spans.{span}
 use Rattle.arrays.specs.Arrays.{given}

@@ -1,5 +1,4 @@
 use mathlib.Core.Path.{sym, ◌∙◌}
-use Prim.Native.Nat.{◌-◌}
 use native.Mathlib.Omega.{arith}
 use Rattle.reading.proofs.Whole.{nets_stay, nets_go_on, nets_start, nets_step, nets_refuse, nets_end}
 use Rattle.reading.proofs.take_all_nets.Goals as goal

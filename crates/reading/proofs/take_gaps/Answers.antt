@@ -1,5 +1,4 @@
 use mathlib.Core.Path.{sym, ◌∙◌}
-use Prim.Native.Nat.{◌-◌}
 use native.Mathlib.Omega.{arith}
 use Rattle.reading.proofs.Whole.{gaps_stay, gaps_start, gaps_step, gaps_refuse, gaps_end}
 use Rattle.reading.proofs.take_gaps.Goals as goal

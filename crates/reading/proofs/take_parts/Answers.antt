@@ -1,5 +1,4 @@
 use mathlib.Core.Path.{sym, ◌∙◌}
-use Prim.Native.Nat.{◌-◌}
 use native.Mathlib.Omega.{arith}
 use Rattle.reading.proofs.Whole.{parts_stay, parts_go_on, parts_start, parts_step, parts_refuse, parts_end}
 use Rattle.reading.proofs.take_parts.Goals as goal

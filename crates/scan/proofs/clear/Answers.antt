@@ -1,5 +1,4 @@
 use mathlib.Core.Path.{◌≡◌}
-use Prim.Native.Nat.{◌-◌}
 use native.Mathlib.Omega.{arith}
 use Rattle.scan.proofs.Clearing.{clear_start, clear_step}
 use Rattle.scan.proofs.clear.Goals as goal

@@ -1,5 +1,4 @@
 use mathlib.Core.Path.{refl}
-use Prim.Native.Nat.{◌-◌}
 use native.Mathlib.Omega.{arith}
 use Rattle.arrays.proofs.Searches.{totalling_start}
 use Rattle.scan.proofs.Scans.{none_yet, scanning_start, empties_start, cleared_start, cleared_here, scan_found, scanning_next, empties_next, cleared_next, totals_miss, scan_none}

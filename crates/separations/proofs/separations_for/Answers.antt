@@ -1,4 +1,3 @@
-use Prim.Native.Nat.{◌-◌}
 use native.Mathlib.Omega.{arith}
 use Rattle.numbers.proofs.Lists.{map_set}
 use Rattle.separations.proofs.Separating.{pass_on_asks, separating_start, separating_asks, separation_small, separating_step, separating_end}

@@ -1,5 +1,5 @@
 use mathlib.Core.Path.{refl}
-use Prim.Native.Nat.{◌-◌, ◌≤◌}
+use Prim.Native.Nat.{◌≤◌}
 use native.Mathlib.Omega.{arith}
 use Rattle.arrays.proofs.Searches.{searching_hit, searching_miss, searching_end}
 use Rattle.separations.proofs.Serves.{serving_start, serves_full, serves_empty}

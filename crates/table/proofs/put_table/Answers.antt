@@ -1,7 +1,6 @@
 use mathlib.Core.Path.{refl, sym, ◌∙◌}
 use Rattle.table.proofs.Events.{spread_fits, sum_widest}
 use Rattle.scan.proofs.Tables.{sized_zeros}
-use Prim.Native.Nat.{◌-◌}
 use native.Mathlib.Omega.{arith}
 use Rattle.stack.specs.Value.{stack_of}
 use Rattle.stack.proofs.Within.{few_channels, stack_channels}

@@ -1,5 +1,4 @@
 use mathlib.Core.Path.{sym, ◌∙◌}
-use Prim.Native.Nat.{◌-◌}
 use native.Mathlib.Omega.{arith}
 use Rattle.track.proofs.Rows.{rule_long, filling_starts, filling_steps, filling_ends}
 use Rattle.track.proofs.fill.Goals as goal

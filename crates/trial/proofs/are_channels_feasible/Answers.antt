@@ -1,4 +1,3 @@
-use Prim.Native.Nat.{◌-◌}
 use native.Mathlib.Omega.{arith}
 use borrow.Author.Count.{falls}
 use Rattle.stack.proofs.Within.{few_channels, few_pairs}

@@ -1,4 +1,3 @@
-use Prim.Native.Nat.{◌-◌}
 use borrow.Author.Count.{falls}
 use Rattle.stack.specs.Value.{columns_of}
 use Rattle.stack.proofs.Values.{columns_long, column_at}

@@ -1,4 +1,3 @@
-use Prim.Native.Nat.{◌-◌}
 use borrow.Author.Count.{falls}
 use Rattle.stack.specs.Value.{tracks_of}
 use Rattle.stack.proofs.Values.{tracks_long, track_at}

@@ -1,4 +1,3 @@
-use Prim.Native.Nat.{◌-◌}
 use Rattle.writing.proofs.Copying.{clearing_starts, clearing_steps, clearing_ends}
 use Rattle.writing.proofs.clear_from.Goals as goal
 

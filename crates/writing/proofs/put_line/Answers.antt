@@ -1,4 +1,3 @@
-use Prim.Native.Nat.{◌-◌}
 use Rattle.writing.proofs.Copying.{line_short, copying_starts, copying_steps, copying_ends}
 use Rattle.writing.proofs.put_line.Goals as goal
 

@@ -1,5 +1,4 @@
 use mathlib.Core.Path.{sym, ◌∙◌}
-use Prim.Native.Nat.{◌-◌}
 use Rattle.stack.proofs.Found.{making_crowded, making_starts, making_steps, making_refuses, making_ends}
 use Rattle.stack.proofs.Terminals.new.Goals as goal
 
