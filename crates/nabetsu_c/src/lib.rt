@@ -17,7 +17,12 @@ pub extern "C" fn nabetsu_write_table(text: &[u8], output: &mut [u8]) -> u64
 
 // write_page for callers in other languages: the page's bytes, or the refusal in one number.
 #[unsafe(no_mangle)]
-pub extern "C" fn nabetsu_write_page(text: &[u8], spread: u32, channel: u32, output: &mut [u8]) -> u64
+pub extern "C" fn nabetsu_write_page(
+    text: &[u8],
+    spread: u32,
+    channel: u32,
+    output: &mut [u8],
+) -> u64
     ensures { PageCoded text.now spread channel result output.old output.new }
 {
     nabetsu::nabetsu_write_page(text, spread, channel, output)
@@ -33,7 +38,12 @@ pub extern "C" fn nabetsu_least_total(text: &[u8], spread: u32) -> u64
 
 // place_total for callers in other languages.
 #[unsafe(no_mangle)]
-pub extern "C" fn nabetsu_place_total(text: &[u8], spread: u32, total: u32, output: &mut [u32]) -> u64
+pub extern "C" fn nabetsu_place_total(
+    text: &[u8],
+    spread: u32,
+    total: u32,
+    output: &mut [u32],
+) -> u64
     ensures { PlacementCoded text.now spread total result output.old output.new }
 {
     nabetsu::nabetsu_place_total(text, spread, total, output)
@@ -49,7 +59,12 @@ pub extern "C" fn nabetsu_session_total(steps: &[u8], spread: u32) -> u64
 
 // session_place for callers in other languages.
 #[unsafe(no_mangle)]
-pub extern "C" fn nabetsu_session_place(steps: &[u8], spread: u32, total: u32, output: &mut [u32]) -> u64
+pub extern "C" fn nabetsu_session_place(
+    steps: &[u8],
+    spread: u32,
+    total: u32,
+    output: &mut [u32],
+) -> u64
     ensures { StepsPlacementCoded steps.now spread total result output.old output.new }
 {
     nabetsu::nabetsu_session_place(steps, spread, total, output)
