@@ -3,7 +3,7 @@
 -- P6, held by windows as in P7. Assumes nothing: these are definitions.
 use Rattle.std.specs.Prelude.{◌≡◌, Bool, true, false, cond, List, [], ◌∷◌, ◌++◌, ◌↔◌, ℕ, ◌-◌, eqb, length, replicate}
 use Prim.Native.Char.{code}
-use Prim.Native.String.{String, [] as end_of_lem, ◌∷◌ as ◌then◌}
+use Prim.Native.String.{String, [] as end_of, ◌∷◌ as ◌then◌}
 use Rattle.numbers.specs.Lists.{padded}
 use Rattle.text.specs.Text.{refusal}
 use Rattle.text.specs.Outcome.{refusal_of}
@@ -22,7 +22,7 @@ unfoldable pub byte_shown : (code : ℕ) → ℕ
 byte_shown c = cond (eqb c 32) 9 c
 
 unfoldable pub line_shown : String → List ℕ
-line_shown end_of_lem = 10 ∷ []
+line_shown end_of = 10 ∷ []
 line_shown (c then s) = byte_shown (code c) ∷ line_shown s
 
 unfoldable pub text_shown : List String → List ℕ
@@ -31,7 +31,7 @@ text_shown (l ∷ ls) = line_shown l ++ text_shown ls
 
 -- PAGES as document 02 prints them: a list of lines, the dots behind the last other character left out
 unfoldable pub dotted : String → (places : ℕ) → List ℕ
-dotted end_of_lem n = replicate n 46 ++ (10 ∷ [])
+dotted end_of n = replicate n 46 ++ (10 ∷ [])
 dotted (c then s) n = code c ∷ dotted s (n - 1)
 
 unfoldable pub page_shown : List String → List ℕ

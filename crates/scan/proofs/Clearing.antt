@@ -9,13 +9,13 @@ use Rattle.numbers.proofs.Orders.{lt_or_eq}
 use Rattle.stack.specs.Sizes.{strips_held, totals_held}
 use Rattle.spans.specs.Spans.{Span, span}
 use Rattle.arrays.specs.Arrays.{row, span_at, window_at, TwoRows, Sized, span_in}
-use Rattle.scan.specs.Scan.{span_put, none_in, Row_is, Cleared}
+use Rattle.scan.specs.Scan.{span_put, none_in, RowIs, Cleared}
 use Rattle.scan.proofs.Tables.{span_same, span_other, two_rows_put, rows_same, rows_other, sized_set}
 
-pub row_start : (w : Span) (r : List (List ℕ)) → TwoRows r → Row_is w 0 r
+pub row_start : (w : Span) (r : List (List ℕ)) → TwoRows r → RowIs w 0 r
 row_start w r h = record { sized = h; written = λ u l. absurd (omega arith) }
 
-pub row_step : (w : Span) (n : ℕ) (r : List (List ℕ)) → n < totals_held → Row_is w n r → Row_is w (n + 1) (span_put r n w)
+pub row_step : (w : Span) (n : ℕ) (r : List (List ℕ)) → n < totals_held → RowIs w n r → RowIs w (n + 1) (span_put r n w)
 row_step w n r h s = record { sized = two_rows_put r s.sized n w; written = λ u l. go u (lt_or_eq u n (omega arith)) }
   where
     go : (u : ℕ) → (u < n) ⊎ (u ≡ n) → span_at (span_put r n w) u ≡ w
@@ -26,7 +26,7 @@ pub clear_start : (windows : List (List ℕ)) (cap : ℕ) (t : List (List (List 
 clear_start windows cap t s = record { sized = s; cleared = λ j u h l m. absurd (omega arith) }
 
 pub clear_step : (windows : List (List ℕ)) (i cap x : ℕ) (t : List (List (List ℕ))) (r : List (List ℕ)) → i < strips_held → Cleared windows i 0 cap t →
-    x ≡ max (window_at (row windows i)).from (window_at (row windows i)).upto → Row_is (span x 0) (cap + 1) r → Cleared windows (i + 1) 0 cap (set t i r)
+    x ≡ max (window_at (row windows i)).from (window_at (row windows i)).upto → RowIs (span x 0) (cap + 1) r → Cleared windows (i + 1) 0 cap (set t i r)
 clear_step windows i cap x t r h c p f =
     record { sized = sized_set t c.sized i h r f.sized; cleared = λ j u l m o. go j u m o (lt_or_eq j i (omega arith)) }
   where

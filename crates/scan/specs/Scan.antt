@@ -97,7 +97,7 @@ abbrev pub none_in : Span → Span
 none_in w = span (max w.from w.upto) 0
 
 -- two rows with the span w for the first n totals
-pub record Row_is (w : Span) (n : ℕ) (r : List (List ℕ)) : Type 0 where
+pub record RowIs (w : Span) (n : ℕ) (r : List (List ℕ)) : Type 0 where
   pub sized : TwoRows r
   pub written : (u : ℕ) → u < n → span_at r u ≡ w
 

@@ -6,7 +6,7 @@ ghost use Rattle.stack.specs.Sizes.{channels_held, separations_held, totals_held
 ghost use Rattle.spans.specs.Spans.{span};
 ghost use Rattle.spans.specs.Jump.{min_if, max_if};
 ghost use Rattle.arrays.specs.Arrays.{bias, row, window_at, given, TwoRows, Sized};
-ghost use Rattle.scan.specs.Scan.{put_span, EndsAsk, EndsAre, EndsServe, window_in, StripAsks, StripDone, jump_if, EmptyOn, EmptiesAre, Row_is, EndsFit, Cleared, OnlyAt, TotalAsks, Scanning, ScanAsks, ScanIs};
+ghost use Rattle.scan.specs.Scan.{put_span, EndsAsk, EndsAre, EndsServe, window_in, StripAsks, StripDone, jump_if, EmptyOn, EmptiesAre, RowIs, EndsFit, Cleared, OnlyAt, TotalAsks, Scanning, ScanAsks, ScanIs};
 
 use arrays::{
     ABOVE, ChannelLimits, FROM, HIGH, LAST, LEAST, LOW, Plan, SpanTable, StackLimits, StripSpans,
@@ -236,7 +236,7 @@ fn scan_total(
 // Writes the span (from, 0) for the totals up to cap.
 fn clear_row(spans: &mut StripSpans, from: u32, cap: usize)
     requires { (cap < totals_held) × TwoRows spans.old }
-    ensures { Row_is (span from 0) (cap + 1) spans.new }
+    ensures { RowIs (span from 0) (cap + 1) spans.new }
 {
     for u in 0..cap + 1 {
         spans[FROM][u] = from;

@@ -2,6 +2,7 @@
 -- solver places in the table is the placement. Assumes nothing.
 use mathlib.Core.Path.{refl, sym, ◌∙◌}
 use native.Mathlib.Omega.{arith}
+use borrow.Author.Rules.{rules}
 use Rattle.numbers.proofs.Bools.{impossible}
 use Rattle.answer.proofs.Standing.{limits_zero, cap_small, held_band_asks, band_met, band_place_asks, band_placed}
 use Rattle.answer.proofs.placement_in.Goals as goal
@@ -10,7 +11,7 @@ pub fill_arrays-plan-requires : goal.fill_arrays-plan-requires
 fill_arrays-plan-requires c = (c.requires.within, limits_zero, refl)
 
 pub fill_band-requires : goal.fill_band-requires
-fill_band-requires c = held_band_asks c.args.stack c.args.spread _ _ _ c.ranges.spread.fits c.requires.wide c.fill_arrays-plan.ensures.0 c.fill_arrays-plan.ensures.1 c.args.total.0 c.struct_known-1.given.0.fits
+fill_band-requires c = held_band_asks c.args.stack c.args.spread _ _ _ c.ranges.spread.fits c.requires.wide c.fill_arrays-plan.ensures.0 c.fill_arrays-plan.ensures.1 c.args.total.0 (search rules)
 
 pub bounds-table-used : goal.bounds-table-used
 bounds-table-used c = cap_small c.args.stack c.args.spread _ _ _ c.ranges.spread.fits c.requires.wide c.fill_arrays-plan.ensures.0 c.fill_arrays-plan.ensures.1 c.lesser-used.result (omega (arith, c.lesser-used.ensures))
@@ -30,9 +31,8 @@ place_in-placement-requires c = let used = c.lesser-used in
     let filled = c.fill_band in
     let test = c.has_position-met in
     let met = test.ensures ∙ band_met c.args.stack c.args.spread _ _ _ c.ranges.spread.fits c.requires.wide c.fill_arrays-plan.ensures.0 c.fill_arrays-plan.ensures.1 c.args.total.0 used.result _ filled.ensures used.ensures in
-    let known = c.struct_known-1.given in
     band_place_asks c.args.stack c.args.spread _ _ _ c.ranges.spread.fits c.requires.wide c.fill_arrays-plan.ensures.0 c.fill_arrays-plan.ensures.1 c.args.total.0 used.result _ filled.ensures used.ensures
-    (sym met ∙ c.if-not-met.false) known.0.fits
+    (sym met ∙ c.if-not-met.false) (search rules)
 
 pub returns : goal.returns
 returns c = let used = c.lesser-used in

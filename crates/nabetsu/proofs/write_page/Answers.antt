@@ -1,5 +1,6 @@
 -- write_page meets its contract: a refused text, no page to be asked for, or the page where it was put; and PAGE_BYTES are never too little. Assumes nothing.
 use mathlib.Core.Path.{refl, sym, ◌∙◌}
+use borrow.Author.Rules.{rules}
 use Rattle.nabetsu.proofs.Pages.{asked_number, page_text_refused, page_not_asked, page_finished, page_enough, page_shows}
 use Rattle.nabetsu.proofs.write_page.Goals as goal
 
@@ -29,7 +30,7 @@ put_channel-written-requires c = (
 pub returns : goal.returns
 returns c = let args = c.args in
     let says =
-    page_finished args.text.now args.spread args.channel c.read_stack-reading.result c.read_stack-reading.ensures _ args.output.now _ _ c.output-2-1.given
+    page_finished args.text.now args.spread args.channel c.read_stack-reading.result c.read_stack-reading.ensures _ args.output.now _ _ (search rules)
     (sym c.is_accepted.ensures ∙ c.if-not-is_accepted.false) c.page_outcome-asked.result c.page_outcome-asked.ensures
     (sym c.is_accepted-2.ensures ∙ c.if-not-is_accepted-2.false) c.put_channel-written.result c.put_channel-written.ensures c.finish.ensures
     in

@@ -1,5 +1,6 @@
 -- write_table meets its contract: a refused text, or the table where it was put; and TABLE_BYTES are never too little. Assumes nothing.
 use mathlib.Core.Path.{refl, sym, ◌∙◌}
+use borrow.Author.Rules.{rules}
 use Rattle.nabetsu.proofs.Tables.{table_refused, table_finished}
 use Rattle.nabetsu.proofs.Space.{space_enough}
 use Rattle.nabetsu.proofs.write_table.Goals as goal
@@ -11,4 +12,4 @@ pub put_table-written-requires : goal.put_table-written-requires
 put_table-written-requires c = c.read_stack-reading.ensures.within
 
 pub returns : goal.returns
-returns c = let says = table_finished c.args.text.now c.read_stack-reading.result c.read_stack-reading.ensures _ _ _ _ c.output-2-1.given (sym c.is_accepted.ensures ∙ c.if-not-is_accepted.false) c.put_table-written.result c.put_table-written.ensures c.finish.ensures in record { table_says = says; space_enough = space_enough _ _ _ _ says }
+returns c = let says = table_finished c.args.text.now c.read_stack-reading.result c.read_stack-reading.ensures _ _ _ _ (search rules) (sym c.is_accepted.ensures ∙ c.if-not-is_accepted.false) c.put_table-written.result c.put_table-written.ensures c.finish.ensures in record { table_says = says; space_enough = space_enough _ _ _ _ says }
