@@ -65,6 +65,7 @@ fn between_edges(t: Tracks) -> Tracks
 }
 
 // Feasible at a separation, with the strips at these positions: from the floor upward (document 02, P2), and wirable on the tracks between the edges (P4).
+#[tactic(auto, using(std::proofs::lemmas::Bool::Decides::nat_tests), unfolding(stack::specs::Stack::feasible))]
 pub fn is_feasible(
     terminals: Terminals,
     floor: Tracks,

@@ -147,6 +147,7 @@ fn put_number(values: &mut [u32; KEPT], i: usize, x: u32)
 }
 
 // The first ill-formed field, where one more is looked at.
+#[tactic(auto, using(std::proofs::lemmas::Bool::Decides::nat_tests), unfolding(crate::specs::Numbers::first_ill))]
 fn first_ill(before: usize, good: bool, field: usize) -> usize
     ensures { result ≡ first_ill before good field }
 {

@@ -68,6 +68,7 @@ pub fn refused_table(outcome: Outcome, output: &mut [u8]) -> TableAnswer
 }
 
 // A table or page of so many bytes that was put where there is space for it: zeros behind it, or short space.
+#[tactic(auto, using(crate::proofs::Finishing::finished_short))]
 pub fn finish(outcome: Outcome, written: usize, output: &mut [u8]) -> TableAnswer
     ensures { Finished (leb written (length output.old)) outcome written output.old output.new result }
 {

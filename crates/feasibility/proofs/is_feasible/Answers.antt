@@ -1,12 +1,8 @@
 -- is_feasible meets its contract: its test is that of the floor, and wirable on the tracks between the edges is the lower edge clear. Assumes nothing.
-use borrow.Author.Tests.{le-leb, lt-leb}
+use borrow.Author.Tests.{le-leb}
 use Rattle.stack.specs.Stack.{feasible}
 use Rattle.stack.proofs.Feasible.{edge_clear_is}
 use Rattle.feasibility.proofs.is_feasible.Goals as goal
-
-pub returns-then-t-floor : goal.returns-then-t-floor
-unfolding feasible
-returns-then-t-floor c = rw (lt-leb _ _ c.if-t-floor.true)
 
 pub returns : goal.returns
 unfolding feasible
