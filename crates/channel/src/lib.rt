@@ -100,7 +100,7 @@ fn close_below(row: &mut [u64; Stack::SEPARATIONS], floor: Tracks, closed: u64)
 // 32 terms can be taken for every t: a constant number, without a remainder of fewer than eight.
 pub fn channel_limits(terminals: Terminals, floor: Tracks) -> Limits
     requires few { (terminals.count ≤ 32) × (floor.0 ≤ 64) }
-    requires ordered { on_strips 1000 1000 (channel_of terminals) ≡ true }
+    requires on_strips { on_strips 1000 1000 (channel_of terminals) ≡ true }
     ensures { LimitsOf (channel (channel_of terminals) floor.0) result }
 {
     let pairs = terminals.count;

@@ -77,9 +77,19 @@ pub fn read_full<S: Read>(source: &mut S, text: &mut [u8]) -> usize
     filled
 }
 
-// Prints bytes, as many as can be written: a comparison of what is printed shows what is missing.
-pub fn print_bytes(to: &impl Print, bytes: &[u8]) {
-    let _ = to.write_all(bytes);
+// Prints bytes up to the first write that takes nothing or fails; how many were written.
+pub fn print_bytes(to: &impl Print, bytes: &[u8]) -> usize
+    ensures { result ≤ length bytes.now }
+{
+    let mut done = 0;
+    while done < bytes.len() {
+        match to.write_some(&bytes[done..]) {
+            Ok(0) => return done,
+            Ok(taken) => done += taken,
+            Err(_) => return done,
+        }
+    }
+    done
 }
 
 // Prints a number and answers how many digits it has.

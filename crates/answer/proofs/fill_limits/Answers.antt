@@ -25,7 +25,7 @@ channel_limits-found-requires c = let i = c.loop-i.i in
     let less = c.loop-i-test.true in
     record {
       few = (few_pairs c.args.stack c.requires.within i less, small_floor c.args.stack c.requires.within i less);
-      ordered = on_longest_strips c.args.stack c.requires.within i less;
+      on_strips = on_longest_strips c.args.stack c.requires.within i less;
     }
 
 pub offset_bounds-limits-i : goal.offset_bounds-limits-i

@@ -7,9 +7,9 @@ use Rattle.channel_test.proofs.channel.Goals as goal
 pub channel_limits-requires-clause-few : goal.channel_limits-requires-clause-few
 channel_limits-requires-clause-few g c = (made_few _ _ _ _ c.new-made.result c.new-made.ensures, omega arith)
 
-pub channel_limits-requires-clause-ordered :
-    goal.channel_limits-requires-clause-ordered
-channel_limits-requires-clause-ordered g c =
+pub channel_limits-requires-clause-on_strips :
+    goal.channel_limits-requires-clause-on_strips
+channel_limits-requires-clause-on_strips g c =
     on_longer _ _ 1000 1000 _ c.longest.ensures c.longest-2.ensures
     (made_on_strips _ _ _ _ c.new-made.result c.new-made.ensures)
 

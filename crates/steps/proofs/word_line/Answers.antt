@@ -1,5 +1,4 @@
 -- word_line meets its contract. Assumes nothing.
-use borrow.Author.Tests.{not-true, not-false}
 use Rattle.lines.specs.Lines.{line}
 use Rattle.steps.specs.Steps.{begin_word, add_word, off_word, word_line}
 use Rattle.steps.proofs.word_line.Goals as goal
