@@ -3,7 +3,8 @@
 use Rattle.std.specs.Prelude.{cond, List, [], ◌∷◌, ℕ, suc, ◌+◌, ◌-◌, min, max, ltb, length, get_or, drop}
 use Rattle.stack.specs.Stack.{Channel, Window, free, held, Strip, no_strip, Stack}
 use Rattle.limits.specs.Limits.{low_floored, high_floored, open_from}
-use Rattle.spans.specs.Spans.{Span, span, Limit}
+use Rattle.spans.specs.Spans.{span, Limit}
+use Rattle.spans.specs.declared.Span.{Span}
 use Rattle.spans.specs.Solver.{Level, level, least_total, separations, positions}
 use Rattle.arrays.specs.Arrays.{limits_from}
 

@@ -1,196 +1,164 @@
 // The least total of a stack in a spread, and the placement for a total.
 #![tactic(auto)]
 
-ghost use Rattle.std.specs.Prelude.{◌≡◌, true, suc, ◌+◌, ◌-◌, ◌≤◌, max, ltb, leb, length, replicate};
-ghost use Rattle.stack.specs.Sizes.{channels_held, strips_held};
+ghost use Rattle.std.specs.Prelude.{◌≡◌, true, suc, ◌+◌, ◌-◌, ◌<◌, ◌≤◌, max, MatchOption};
 ghost use Rattle.stack.specs.Limits.{within_limits};
-ghost use Rattle.stack.specs.Value.{tracks_of, columns_of, strip_of, stack_of};
+ghost use Rattle.stack.specs.Value.{strip_of, stack_of};
 ghost use Rattle.stack.specs.Stack.{first_spread};
 ghost use Rattle.arrays.specs.Arrays.{bias};
 ghost use Rattle.limits.specs.Limits.{open_from};
-ghost use Rattle.answer.specs.Arrays.{LimitsIn, window_ends, WindowsIn, BelowGrowths, LimitsSized, Held, PlacedIs, AnswerIs};
+ghost use Rattle.answer.specs.Arrays.{LimitsIn, WindowsIn, BelowGrowths, Held, Ready, PlacedIs, AnswerIs};
 ghost use Rattle.answer.specs.Solve.{window, growth, answer_total};
 
-use arrays::{ABOVE, FROM, HIGH, LOW, Plan, StackLimits, UPTO, Window, Windows};
+use arrays::{Given, StackLimits, StripSpans, Windows};
 use band::fill_band;
 use channel::{channel_limits, open_from};
-use numbers::{difference, lesser};
 use plan::plan_for;
 use scan::scan_totals;
 use solver::{Placement, place_in};
-use stack::{Columns, Stack, Strip, Tracks};
+use spans::Span;
+use stack::{Stack, Strip, Tracks};
 
 // The last separation of use in a channel with so many pairs and this floor: there its limits leave every offset open.
 fn last_use(pairs: usize, floor: Tracks) -> usize
     requires { pairs ≤ 32 }
     ensures { result ≡ max (open_from pairs) floor.0 }
 {
-    let open = open_from(pairs);
-    let least = floor.0 as usize;
-    if open < least { least } else { open }
+    open_from(pairs).max(floor.0 as usize)
 }
 
-// The limits and the last separations of use of a stack's channels, in the solver's arrays.
-pub fn fill_limits(stack: Stack, limits: &mut StackLimits, lasts: &mut [usize; Stack::STRIPS])
-    requires within { within_limits (stack_of stack) ≡ true }
-    requires limits_in { LimitsIn (stack_of stack) 0 limits.old lasts.old }
-    ensures { LimitsIn (stack_of stack) stack.count limits.new lasts.new }
+// The limits and the last separations of use of a stack's channels.
+#[tactic(auto, using(stack::proofs::Within::few_channels, stack::proofs::Within::few_pairs, stack::proofs::Within::small_floor, stack::proofs::Within::on_longest_strips))]
+pub fn fill_limits(stack: &Stack, limits: &mut StackLimits, lasts: &mut [usize; Stack::STRIPS])
+    requires { within_limits (stack_of stack.now) ≡ true }
+    ensures { LimitsIn (stack_of stack.now) stack.now.count limits.new lasts.new }
 {
-    let channels = stack.count;
-    for i in 0..channels {
-        let terminals = stack.channels[i];
+    for i in 0..stack.count {
+        let terminals = &stack.channels[i];
         let floor = stack.floors[i];
-        let found = channel_limits(terminals, floor);
-        let lows = found.low;
-        let highs = found.high;
-        limits[i][LOW] = lows;
-        limits[i][HIGH] = highs;
+        limits[i] = channel_limits(terminals, floor);
         lasts[i] = last_use(terminals.count, floor);
     }
 }
 
 // Where a strip's positions within a spread end: one behind the last, where it fits.
-fn spread_end(strip: Strip, spread: u32) -> u64
-    ensures { result ≡ spread + 1 - strip.length.0 }
+fn spread_end(strip: &Strip, spread: u32) -> u64
+    ensures { result ≡ spread + 1 - strip.now.length.0 }
 {
-    difference(spread as u64 + 1, strip.length.0 as u64)
+    (spread as u64 + 1).saturating_sub(strip.length.0 as u64)
 }
 
 // A strip's window in a spread: within the spread, and inside its own where it is held.
-fn window(strip: Strip, spread: u32) -> Window
-    ensures { result ≡ window_ends (window spread (strip_of strip)) }
+#[tactic(auto, using(std::proofs::lemmas::Bool::Decides::nat_tests), unfolding(stack::specs::Value::window_of, crate::specs::Solve::window_span))]
+fn window(strip: &Strip, spread: u32) -> Span
+    ensures { result ≡ window spread (strip_of strip.now) }
 {
     let end = spread_end(strip, spread);
-    if strip.held {
-        let from = strip.least.0 as u64;
-        let upto = lesser(strip.greatest.0 as u64 + 1, end);
-        return [from, upto];
+    match strip.window {
+        Some(window) => Span {
+            from: window.least.0 as u64,
+            upto: end.min(window.greatest.0 as u64 + 1),
+        },
+        None => Span { from: 0, upto: end },
     }
-    [0, end]
 }
 
 // The growing end of a strip's window in a spread, raised by the bias; 0 once its greatest position is within the spread.
-pub fn growing_end(strip: Strip, spread: u32) -> u64
-    ensures { result ≡ growth bias spread (strip_of strip) }
+#[tactic(auto, using(std::proofs::lemmas::Bool::Decides::nat_tests), unfolding(stack::specs::Value::window_of, crate::specs::Solve::window_growth))]
+pub fn growing_end(strip: &Strip, spread: u32) -> u64
+    ensures { result ≡ growth bias spread (strip_of strip.now) }
 {
     let end = spread_end(strip, spread);
-    if strip.held {
-        if (strip.greatest.0 as u64) < end {
-            return 0;
+    match strip.window {
+        Some(window) => {
+            if (window.greatest.0 as u64) < end {
+                return 0;
+            }
+            end + Stack::BIAS
         }
-        return end + Stack::BIAS;
+        None => end + Stack::BIAS,
     }
-    end + Stack::BIAS
 }
 
 // The strips' windows in a spread; the answer is not above any of their growing ends.
-pub fn fill_windows(stack: Stack, spread: u32, windows: &mut Windows) -> u64
-    requires within { within_limits (stack_of stack) ≡ true }
-    requires windows_in { WindowsIn (stack_of stack) 0 spread windows.old }
-    ensures { WindowsIn (stack_of stack) (suc stack.count) spread windows.new × BelowGrowths (stack_of stack) (suc stack.count) spread result }
+#[tactic(auto, using(stack::proofs::Within::few_channels))]
+pub fn fill_windows(stack: &Stack, spread: u32, windows: &mut Windows) -> u64
+    requires { within_limits (stack_of stack.now) ≡ true }
+    ensures { WindowsIn (stack_of stack.now) (suc stack.now.count) spread windows.new × BelowGrowths (stack_of stack.now) (suc stack.now.count) spread result }
 {
-    let strips = stack.strips;
     let mut least = Stack::BIAS;
-    let mut i = 0;
-    while i <= stack.count {
-        let strip = strips[i];
-        let ends = window(strip, spread);
-        windows[i] = ends;
-        least = lesser(least, growing_end(strip, spread));
-        i += 1;
+    let strips = stack.count + 1;
+    for i in 0..strips {
+        let strip = &stack.strips[i];
+        windows[i] = window(strip, spread);
+        least = least.min(growing_end(strip, spread));
     }
     least
 }
 
-// The limits of a stack's channels and the windows of its strips in a spread, in the solver's arrays; its plan.
-fn fill_arrays(stack: Stack, spread: u32, limits: &mut StackLimits, windows: &mut Windows) -> Plan
-    requires { (within_limits (stack_of stack) ≡ true) × LimitsSized limits.old × (length windows.old ≡ strips_held) }
-    ensures { Held stack limits.new result × WindowsIn (stack_of stack) (suc stack.count) spread windows.new }
+// The limits of a stack's channels and their plan, which serve for every spread, whatever the windows. Given is filled in its place: one that is handed out is copied,
+// which costs a small answer 5 % more instructions.
+pub fn fill_held(stack: &Stack, given: &mut Given)
+    requires { within_limits (stack_of stack.now) ≡ true }
+    ensures { Held stack.now given.new }
 {
     let mut lasts = [0usize; Stack::STRIPS];
-    fill_limits(stack, limits, &mut lasts);
-    fill_windows(stack, spread, windows);
-    plan_for(limits, lasts, stack.count)
+    fill_limits(stack, &mut given.limits, &mut lasts);
+    given.plan = plan_for(&given.limits, lasts, stack.count);
+    given.channels = stack.count;
+}
+
+// The same, and the windows of the stack's strips in a spread.
+fn fill_given(stack: &Stack, spread: u32, given: &mut Given)
+    requires within { within_limits (stack_of stack.now) ≡ true }
+    requires wide { first_spread (stack_of stack.now).strips ≤ spread }
+    ensures { Ready stack.now spread given.new }
+{
+    fill_held(stack, given);
+    fill_windows(stack, spread, &mut given.windows);
 }
 
 // The least total in a spread from the first one on.
-pub fn total_in(stack: Stack, spread: u32) -> Tracks
-    requires within { within_limits (stack_of stack) ≡ true }
-    requires wide { first_spread (stack_of stack).strips ≤ spread }
-    ensures { result.0 ≡ answer_total (stack_of stack) spread }
+pub fn total_in(stack: &Stack, spread: u32) -> Tracks
+    requires within { within_limits (stack_of stack.now) ≡ true }
+    requires wide { first_spread (stack_of stack.now).strips ≤ spread }
+    ensures { result.0 ≡ answer_total (stack_of stack.now) spread }
 {
-    let mut limits = [[[0u64; Stack::SEPARATIONS]; 2]; Stack::MAX_CHANNELS];
-    let mut windows = [[0u64; 2]; Stack::STRIPS];
-    let mut table = [[[0u32; Stack::TOTALS]; 2]; Stack::STRIPS];
-    let plan = fill_arrays(stack, spread, &mut limits, &mut windows);
-    let cap = plan[ABOVE][0];
-    let scan = scan_totals(&limits, &plan, &windows, stack.count, cap, &mut table);
+    let mut given = Given::NONE;
+    fill_given(stack, spread, &mut given);
+    let mut table = [StripSpans::NONE; Stack::STRIPS];
+    let scan = scan_totals(&given, given.plan.above[0], &mut table);
     Tracks(scan.total as u32)
 }
 
 // The placement for the least total in a spread from the first one on.
-pub fn answer_in(stack: Stack, spread: u32) -> Placement
-    requires within { within_limits (stack_of stack) ≡ true }
-    requires wide { first_spread (stack_of stack).strips ≤ spread }
-    ensures { AnswerIs (stack_of stack) spread result }
+pub fn answer_in(stack: &Stack, spread: u32) -> Placement
+    requires within { within_limits (stack_of stack.now) ≡ true }
+    requires wide { first_spread (stack_of stack.now).strips ≤ spread }
+    ensures { AnswerIs (stack_of stack.now) spread result }
 {
-    let k = stack.count;
-    let mut limits = [[[0u64; Stack::SEPARATIONS]; 2]; Stack::MAX_CHANNELS];
-    let mut windows = [[0u64; 2]; Stack::STRIPS];
-    let mut table = [[[0u32; Stack::TOTALS]; 2]; Stack::STRIPS];
-    let plan = fill_arrays(stack, spread, &mut limits, &mut windows);
-    let cap = plan[ABOVE][0];
-    let scan = scan_totals(&limits, &plan, &windows, k, cap, &mut table);
-    place_in(&limits, &plan, &windows, k, scan.total, &table)
-}
-
-// Whether a span has a position.
-fn has_position(from: u32, upto: u32) -> bool
-    ensures { result ≡ ltb from upto }
-{
-    0 < difference(upto as u64, from as u64)
-}
-
-// A placement with zeros everywhere.
-fn no_placement() -> Placement
-    ensures { (result.total.0 ≡ 0) × (tracks_of result.separations ≡ replicate channels_held 0) × (columns_of result.positions ≡ replicate strips_held 0) }
-{
-    Placement {
-        total: Tracks(0),
-        separations: [Tracks(0); Stack::MAX_CHANNELS],
-        positions: [Columns(0); Stack::STRIPS],
-    }
-}
-
-// Whether a stated total is met, and its placement where it is.
-#[derive(Clone, Copy)]
-pub struct StatedPlacement {
-    pub met: bool,
-    pub placement: Placement,
+    let mut given = Given::NONE;
+    fill_given(stack, spread, &mut given);
+    let mut table = [StripSpans::NONE; Stack::STRIPS];
+    let scan = scan_totals(&given, given.plan.above[0], &mut table);
+    place_in(&given, scan.total, &table)
 }
 
 // The placement for a stated total in a spread from the first one on, if some legal placement there has that total. The least total is not looked for: the
 // total is met exactly if the bottom strip has a position for it.
-pub fn placement_in(stack: Stack, spread: u32, total: Tracks) -> StatedPlacement
-    requires within { within_limits (stack_of stack) ≡ true }
-    requires wide { first_spread (stack_of stack).strips ≤ spread }
-    ensures { (result.met ≡ leb (answer_total (stack_of stack) spread) total.0) × (result.met ≡ true → PlacedIs (stack_of stack) spread total.0 result.placement) }
+pub fn placement_in(stack: &Stack, spread: u32, total: Tracks) -> Option<Placement>
+    requires within { within_limits (stack_of stack.now) ≡ true }
+    requires wide { first_spread (stack_of stack.now).strips ≤ spread }
+    ensures { MatchOption result (total.0 < answer_total (stack_of stack.now) spread) (λ p. (answer_total (stack_of stack.now) spread ≤ total.0) × PlacedIs (stack_of stack.now) spread total.0 p) }
 {
-    let k = stack.count;
-    let mut limits = [[[0u64; Stack::SEPARATIONS]; 2]; Stack::MAX_CHANNELS];
-    let mut windows = [[0u64; 2]; Stack::STRIPS];
-    let mut table = [[[0u32; Stack::TOTALS]; 2]; Stack::STRIPS];
-    let plan = fill_arrays(stack, spread, &mut limits, &mut windows);
+    let mut given = Given::NONE;
+    fill_given(stack, spread, &mut given);
+    let mut table = [StripSpans::NONE; Stack::STRIPS];
     let stated = total.0 as usize;
-    fill_band(&limits, &plan, &windows, k, stated, &mut table);
-    let used = lesser(stated as u64, plan[ABOVE][0] as u64) as usize;
-    let met = has_position(table[0][FROM][used], table[0][UPTO][used]);
-    if !met {
-        return StatedPlacement {
-            met,
-            placement: no_placement(),
-        };
+    fill_band(&given, stated, &mut table);
+    let used = stated.min(given.plan.above[0]);
+    if table[0].upto[used] <= table[0].from[used] {
+        return None;
     }
-    let placement = place_in(&limits, &plan, &windows, k, stated, &table);
-    StatedPlacement { met, placement }
+    Some(place_in(&given, stated, &table))
 }

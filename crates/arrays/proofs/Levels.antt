@@ -8,11 +8,13 @@ use native.Mathlib.Nat.{add-zero}
 use lib.Dec.{leb}
 use lib.ListN.{length, get_or}
 use Rattle.stack.specs.Sizes.{last_held}
-use Rattle.spans.specs.Spans.{Span, span, Limit, limit, last, low_at, high_at, cut, shift_on, nonempty, join_if, gather}
+use Rattle.spans.specs.Spans.{span, Limit, limit, last, low_at, high_at, cut, shift_on, nonempty, join_if, gather}
+use Rattle.spans.specs.declared.Span.{Span}
 use Rattle.spans.specs.Solver.{Level, first, first_open, least_open, most, start, stop, cell, back, serves, first_serving, least_serving, forward}
 use Rattle.spans.proofs.Limits.{low_capped, high_capped}
 use Rattle.spans.proofs.First.{first_hit, first_miss}
-use Rattle.arrays.specs.Arrays.{bias, entry, lasts_in, leasts_in, sums_in, Given, low_of, high_of, last_of, window_of, limits_from, level_of, levels, sums, PlanIs, StackAsks}
+use Rattle.arrays.specs.Arrays.{bias, entry, low_of, high_of, last_of, window_of, limits_from, level_of, levels, sums, PlanIs, StackAsks}
+use Rattle.arrays.specs.declared.Given.{Given}
 
 module _ (low high : ℕ → ℕ) where
   limits_length : (q n : ℕ) → length (limits_from low high q n) ≡ n
@@ -92,7 +94,7 @@ open_of low high m =
     (λ j h k. ap₂ (λ (x y : ℕ). leb x y) (low_at_of low high m j (omega arith)) (high_at_of low high m j (omega arith)))
 
 -- the last separations' sums
-pub most_sums : (g : Given) (i n : ℕ) → most (levels g i n) ≡ sums (lasts_in g.plan) i n
+pub most_sums : (g : Given) (i n : ℕ) → most (levels g i n) ≡ sums g.plan.lasts i n
 unfolding most levels sums
 most_sums g i zero = refl
 most_sums g i (suc n) = ap₂ ◌+◌ (last_is (low_of g i) (high_of g i) (last_of g i)) (most_sums g (suc i) n)
@@ -108,18 +110,18 @@ most_fewer g zero i n = let z : 0 + n ≡ n = omega arith in rw (add-zero, z) (o
 most_fewer g (suc d) i n = let z : i + suc d ≡ suc i + d = omega arith in let y : suc d + n ≡ suc (d + n) = omega arith in rw (z, y) (omega (arith, most_fewer g d (suc i) n))
 
 -- the last separations of a stack sum to what the tables hold
-pub most_small : (g : Given) (k : ℕ) → StackAsks g k → (i n : ℕ) → i + n ≡ k → most (levels g i n) ≤ last_held * n
+pub most_small : (g : Given) → StackAsks g → (i n : ℕ) → i + n ≡ g.channels → most (levels g i n) ≤ last_held * n
 unfolding most levels
-most_small g k s i zero e = omega arith
-most_small g k s i (suc n) e =
-    omega (arith, most_small g k s (suc i) n (omega arith), last_is (low_of g i) (high_of g i) (last_of g i), s.listed i (omega arith))
+most_small g s i zero e = omega arith
+most_small g s i (suc n) e =
+    omega (arith, most_small g s (suc i) n (omega arith), last_is (low_of g i) (high_of g i) (last_of g i), s.listed i (omega arith))
 
 -- what a plan says of the levels
-module _ (g : Given) (k : ℕ) (p : PlanIs g.limits k g.plan) where
-  pub least_at : (i : ℕ) → i < k → entry (leasts_in g.plan) i ≡ first_open (low_of g i) (high_of g i) (last_of g i)
+module _ (g : Given) (p : PlanIs g.limits g.channels g.plan) where
+  pub least_at : (i : ℕ) → i < g.channels → entry g.plan.leasts i ≡ first_open (low_of g i) (high_of g i) (last_of g i)
   least_at i h = p.leasts.leasts_are i h
 
-  pub above_at : (i n : ℕ) → i + n ≡ k → entry (sums_in g.plan) i ≡ most (levels g i n)
+  pub above_at : (i n : ℕ) → i + n ≡ g.channels → entry g.plan.above i ≡ most (levels g i n)
   above_at i n e = p.mosts.sums_are i n (omega arith) e ∙ sym (most_sums g i n)
 
 -- THE CODE'S CELL IS THE SPAN: with the spans of the row above in f

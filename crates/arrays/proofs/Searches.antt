@@ -6,7 +6,8 @@ use native.Mathlib.Nat.{sub-zero}
 use native.Mathlib.Numerals.{add-one}
 use native.Mathlib.Omega.{arith}
 use borrow.Author.Tests.{lt-ltb, le-ltb}
-use Rattle.spans.specs.Spans.{Span, span, nonempty}
+use Rattle.spans.specs.Spans.{span, nonempty}
+use Rattle.spans.specs.declared.Span.{Span}
 use Rattle.spans.specs.Solver.{opens, first, first_open, first_total}
 use Rattle.arrays.specs.Search.{Searching}
 use Rattle.spans.proofs.First.{first_hit, first_miss}

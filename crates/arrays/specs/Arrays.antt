@@ -1,8 +1,13 @@
--- What the arrays stand for that the solver's functions share. Assumes nothing: these are definitions.
+-- What the structs stand for that the solver's functions share. Assumes nothing: these are definitions.
 use Rattle.std.specs.Prelude.{◌≡◌, ◌⊎◌, List, [], ◌∷◌, ℕ, zero, suc, ◌+◌, ◌*◌, ◌≤◌, ◌<◌, length, get_or, set}
 use Rattle.stack.specs.Sizes.{channels_held, strips_held, last_held, separations_held, totals_held}
-use Rattle.spans.specs.Spans.{Span, span, Limit, limit}
+use Rattle.spans.specs.Spans.{span, Limit, limit}
+use Rattle.spans.specs.declared.Span.{Span}
 use Rattle.spans.specs.Solver.{Level, level, first_open, most, back}
+use Rattle.arrays.specs.declared.ChannelLimits.{ChannelLimits}
+use Rattle.arrays.specs.declared.Plan.{Plan}
+use Rattle.arrays.specs.declared.StripSpans.{StripSpans}
+use Rattle.arrays.specs.declared.Given.{Given}
 
 -- the code's bias, Stack::BIAS
 abbrev pub bias : ℕ
@@ -15,59 +20,44 @@ greatest_end = 4294967295
 abbrev pub entry : List ℕ → (q : ℕ) → ℕ
 entry xs q = get_or xs q 0
 
-abbrev pub row : List (List ℕ) → (i : ℕ) → List ℕ
-row t i = get_or t i []
+-- the limits of channel i
+abbrev pub limits_of : List ChannelLimits → (i : ℕ) → ChannelLimits
+limits_of ls i = get_or ls i (record { low = []; high = [] })
 
--- the two rows of a channel or a strip
-abbrev pub sides : List (List (List ℕ)) → (i : ℕ) → List (List ℕ)
-sides t i = get_or t i []
+abbrev pub low_in : ChannelLimits → (q : ℕ) → ℕ
+low_in c q = entry c.low q
 
--- a channel's limits, in a row of lows and a row of highs
-abbrev pub low_in : List (List ℕ) → (q : ℕ) → ℕ
-low_in c q = entry (row c 0) q
+abbrev pub high_in : ChannelLimits → (q : ℕ) → ℕ
+high_in c q = entry c.high q
 
-abbrev pub high_in : List (List ℕ) → (q : ℕ) → ℕ
-high_in c q = entry (row c 1) q
+-- the spans of strip i in a table
+abbrev pub spans_of : List StripSpans → (i : ℕ) → StripSpans
+spans_of t i = get_or t i (record { from = []; upto = [] })
 
--- a strip's spans, in a row of starts and a row of ends
-abbrev pub span_at : List (List ℕ) → (v : ℕ) → Span
-span_at r v = span (entry (row r 0) v) (entry (row r 1) v)
+-- a strip's span for the total v
+abbrev pub span_at : StripSpans → (v : ℕ) → Span
+span_at r v = span (entry r.from v) (entry r.upto v)
 
--- a window, as its start and its end
-abbrev pub window_at : List ℕ → Span
-window_at w = span (entry w 0) (entry w 1)
+-- a strip's spans with the span w for the total v
+abbrev pub span_put : StripSpans → (v : ℕ) → Span → StripSpans
+span_put r v w = record { from = set r.from v w.from; upto = set r.upto v w.upto }
 
--- the three rows of a PLAN: of each channel the last separation of use and the least open one, of each strip the sum of the last ones above it
-abbrev pub lasts_in : List (List ℕ) → List ℕ
-lasts_in p = row p 0
+abbrev pub window_at : List Span → (i : ℕ) → Span
+window_at ws i = get_or ws i (span 0 0)
 
-abbrev pub leasts_in : List (List ℕ) → List ℕ
-leasts_in p = row p 1
-
-abbrev pub sums_in : List (List ℕ) → List ℕ
-sums_in p = row p 2
-
--- THE STACK that the arrays stand for: in channel i the limits at separations 0 to the last of use, the window of strip i. Channel i lies under strip i + 1
-pub record Given : Type 0 where
-  pub limits : List (List (List ℕ))
-  pub plan : List (List ℕ)
-  pub windows : List (List ℕ)
-
-abbrev pub given : (limits : List (List (List ℕ))) → (plan windows : List (List ℕ)) → Given
-given l p w = record { limits = l; plan = p; windows = w }
-
+-- THE STACK that is given: in channel i the limits at separations 0 to the last of use, the window of strip i. Channel i lies under strip i + 1
 abbrev pub low_of : Given → (i q : ℕ) → ℕ
-low_of g i q = low_in (sides g.limits i) q
+low_of g i q = low_in (limits_of g.limits i) q
 
 abbrev pub high_of : Given → (i q : ℕ) → ℕ
-high_of g i q = high_in (sides g.limits i) q
+high_of g i q = high_in (limits_of g.limits i) q
 
 -- the last separation of use in channel i: from there on the limits do not widen
 abbrev pub last_of : Given → (i : ℕ) → ℕ
-last_of g i = entry (lasts_in g.plan) i
+last_of g i = entry g.plan.lasts i
 
 abbrev pub window_of : Given → (i : ℕ) → Span
-window_of g i = window_at (row g.windows i)
+window_of g i = window_at g.windows i
 
 -- n limits from separation q on
 unfoldable pub limits_from : (low high : ℕ → ℕ) → (q n : ℕ) → List Limit
@@ -93,17 +83,17 @@ taken xs i zero = []
 taken xs i (suc n) = entry xs i ∷ taken xs (suc i) n
 
 -- two rows, in each a cell for each total
-pub record TwoRows (r : List (List ℕ)) : Type 0 where
-  pub two : length r ≡ 2
-  pub cells : (s : ℕ) → s < 2 → length (row r s) ≡ totals_held
+pub record TwoRows (r : StripSpans) : Type 0 where
+  pub starts : length r.from ≡ totals_held
+  pub ends : length r.upto ≡ totals_held
 
 -- a table: the spans of each strip
-pub record Sized (t : List (List (List ℕ))) : Type 0 where
+pub record Sized (t : List StripSpans) : Type 0 where
   pub strips : length t ≡ strips_held
-  pub rows : (i : ℕ) → i < strips_held → TwoRows (sides t i)
+  pub rows : (i : ℕ) → i < strips_held → TwoRows (spans_of t i)
 
-abbrev pub span_in : List (List (List ℕ)) → (i v : ℕ) → Span
-span_in t i v = span_at (sides t i) v
+abbrev pub span_in : List StripSpans → (i v : ℕ) → Span
+span_in t i v = span_at (spans_of t i) v
 
 -- the sum of n last separations from i on
 unfoldable pub sums : List ℕ → (i n : ℕ) → ℕ
@@ -117,38 +107,38 @@ pub record SumsAre (lasts : List ℕ) (k i : ℕ) (r : List ℕ) : Type 0 where
   pub small : (j : ℕ) → i ≤ j → j ≤ k → entry r j + last_held * j ≤ last_held * k
 
 -- for each channel up to i its least open separation
-pub record LeastsAre (limits : List (List (List ℕ))) (lasts : List ℕ) (i : ℕ) (r : List ℕ) : Type 0 where
+pub record LeastsAre (limits : List ChannelLimits) (lasts : List ℕ) (i : ℕ) (r : List ℕ) : Type 0 where
   pub size : length r ≡ strips_held
-  pub leasts_are : (j : ℕ) → j < i → entry r j ≡ first_open (low_in (sides limits j)) (high_in (sides limits j)) (entry lasts j)
+  pub leasts_are : (j : ℕ) → j < i → entry r j ≡ first_open (low_in (limits_of limits j)) (high_in (limits_of limits j)) (entry lasts j)
 
 -- the plan of k channels with these limits
-pub record PlanIs (limits : List (List (List ℕ))) (k : ℕ) (plan : List (List ℕ)) : Type 0 where
-  pub leasts : LeastsAre limits (lasts_in plan) k (leasts_in plan)
-  pub mosts : SumsAre (lasts_in plan) k 0 (sums_in plan)
+pub record PlanIs (limits : List ChannelLimits) (k : ℕ) (plan : Plan) : Type 0 where
+  pub leasts : LeastsAre limits plan.lasts k plan.leasts
+  pub mosts : SumsAre plan.lasts k 0 plan.above
 
--- what all of it asks: k channels and their plan, last separations within the arrays, ends and limits that leave room for the bias
-pub record StackAsks (g : Given) (k : ℕ) : Type 0 where
-  pub some : 1 ≤ k
-  pub channels : k ≤ channels_held
-  pub planned : PlanIs g.limits k g.plan
-  pub listed : (i : ℕ) → i < k → last_of g i < separations_held
-  pub starts : (i : ℕ) → i ≤ k → (window_of g i).from ≤ greatest_end
-  pub ends : (i : ℕ) → i ≤ k → (window_of g i).upto ≤ greatest_end
-  pub lows : (i q : ℕ) → i < k → q ≤ last_of g i → low_of g i q ≤ 2 * bias
-  pub highs : (i q : ℕ) → i < k → q ≤ last_of g i → high_of g i q ≤ 2 * bias
+-- what all of it asks: some channels and their plan, last separations within the arrays, ends and limits that leave room for the bias
+pub record StackAsks (g : Given) : Type 0 where
+  pub some : 1 ≤ g.channels
+  pub channels : g.channels ≤ channels_held
+  pub planned : PlanIs g.limits g.channels g.plan
+  pub listed : (i : ℕ) → i < g.channels → last_of g i < separations_held
+  pub starts : (i : ℕ) → i ≤ g.channels → (window_of g i).from ≤ greatest_end
+  pub ends : (i : ℕ) → i ≤ g.channels → (window_of g i).upto ≤ greatest_end
+  pub lows : (i q : ℕ) → i < g.channels → q ≤ last_of g i → low_of g i q ≤ 2 * bias
+  pub highs : (i q : ℕ) → i < g.channels → q ≤ last_of g i → high_of g i q ≤ 2 * bias
 
--- rows i to k of the table hold the spans of their strips, for totals up to cap
-pub record Filled (g : Given) (k cap i : ℕ) (t : List (List (List ℕ))) : Type 0 where
+-- rows i to the top one of the table hold the spans of their strips, for totals up to cap
+pub record Filled (g : Given) (cap i : ℕ) (t : List StripSpans) : Type 0 where
   pub sized : Sized t
-  pub filled : (j n v : ℕ) → i ≤ j → j + n ≡ k → v ≤ cap → v ≤ most (levels g j n) → span_in t j v ≡ back bias (window_of g j) (levels g j n) v
+  pub filled : (j n v : ℕ) → i ≤ j → j + n ≡ g.channels → v ≤ cap → v ≤ most (levels g j n) → span_in t j v ≡ back bias (window_of g j) (levels g j n) v
 
 -- IN THE BAND of strip j for a stated total: all that the channels above it can use, or what is left of the total where no channel below has more than a track above
 -- its last separation
-abbrev pub InBand : Given → (k total j n u : ℕ) → Type 0
-InBand g k v j n u =
-    (u ≤ v) × (u ≤ most (levels g j n)) × ((u ≡ most (levels g j n)) ⊎ (v + most (levels g j n) ≤ u + (most (levels g 0 k) + j)))
+abbrev pub InBand : Given → (total j n u : ℕ) → Type 0
+InBand g v j n u =
+    (u ≤ v) × (u ≤ most (levels g j n)) × ((u ≡ most (levels g j n)) ⊎ (v + most (levels g j n) ≤ u + (most (levels g 0 g.channels) + j)))
 
--- rows i to k of the table hold the spans of their strips, for the totals in the band
-pub record Banded (g : Given) (k total i : ℕ) (t : List (List (List ℕ))) : Type 0 where
+-- rows i to the top one of the table hold the spans of their strips, for the totals in the band
+pub record Banded (g : Given) (total i : ℕ) (t : List StripSpans) : Type 0 where
   pub sized : Sized t
-  pub banded : (j n u : ℕ) → i ≤ j → j + n ≡ k → InBand g k total j n u → span_in t j u ≡ back bias (window_of g j) (levels g j n) u
+  pub banded : (j n u : ℕ) → i ≤ j → j + n ≡ g.channels → InBand g total j n u → span_in t j u ≡ back bias (window_of g j) (levels g j n) u

@@ -9,11 +9,13 @@ use Rattle.numbers.proofs.Orders.{lt_or_eq, eq_or_not, le_or_lt}
 use Rattle.stack.specs.Sizes.{totals_held}
 use Rattle.spans.specs.Spans.{span}
 use Rattle.spans.specs.Solver.{first_open, most, back}
-use Rattle.arrays.specs.Arrays.{bias, greatest_end, entry, sides, leasts_in, sums_in, Given, low_of, high_of, last_of, window_of, levels, span_in, StackAsks, InBand}
+use Rattle.arrays.specs.Arrays.{bias, greatest_end, entry, low_of, high_of, last_of, window_of, levels, span_in, StackAsks, InBand, limits_of}
+use Rattle.arrays.specs.declared.StripSpans.{StripSpans}
+use Rattle.arrays.specs.declared.Given.{Given}
 use Rattle.arrays.proofs.Levels.{most_step, most_fewer, most_small, least_at, above_at, cell_back, back_ends}
 use Rattle.scan.specs.Scan.{cell_at, put_span, StripAsks}
 use Rattle.scan.specs.declared.Cell.{Cell}
-use Rattle.scan.proofs.Scans.{cell_of}
+use Rattle.scan.specs.Scan.{cell_of}
 use Rattle.scan.proofs.Tables.{put_same, put_apart, sized_put}
 use Rattle.band.proofs.Strips.{starts_same, ends_same}
 use Rattle.band.specs.Band.{StripAsked, StripFilled, BandAsks, Banding}
@@ -36,90 +38,87 @@ band_left : (v last above all j u q : ℕ) → (u ≡ last + above) ⊎ (v + (la
 band_left v last above all j u q (inl p) h l m = inl (omega arith)
 band_left v last above all j u q (inr p) h l m = inr (omega arith)
 
-module _ (g : Given) (k total : ℕ) where
+module _ (g : Given) (total : ℕ) where
   -- the top strip
-  pub banding_start : (t : List (List (List ℕ))) → BandAsks g k total t → Banding g k total k (put_span t k 0 (window_of g k)) 0
+  pub banding_start : (t : List StripSpans) → BandAsks g total t → Banding g total g.channels (put_span t g.channels 0 (window_of g g.channels)) 0
   unfolding most levels back
   banding_start t a =
       record {
         inside = omega arith;
-        table = record { sized = sized_put t a.sized k 0 (window_of g k) top; banded = λ j n u h e b. top_row j n u h e b };
-        small = λ j u. ends j u (eq_or_not j k) (eq_or_not u 0);
+        table = record { sized = sized_put t a.sized g.channels 0 (window_of g g.channels) top; banded = λ j n u h e b. top_row j n u h e b };
+        small = λ j u. ends j u (eq_or_not j g.channels) (eq_or_not u 0);
         below = λ j u h. apart j u (λ p q. omega arith);
         empties = λ u h. absurd (omega arith);
       }
     where
-      top : k < 9
+      top : g.channels < 9
       top = omega (arith, a.stack.channels)
 
-      apart : (j u : ℕ) → (j ≡ k → u ≡ 0 → ⊥) → span_in (put_span t k 0 (window_of g k)) j u ≡ span 0 0
-      apart j u n = put_apart t a.sized k 0 (window_of g k) top j u n ∙ a.empty j u
+      apart : (j u : ℕ) → (j ≡ g.channels → u ≡ 0 → ⊥) → span_in (put_span t g.channels 0 (window_of g g.channels)) j u ≡ span 0 0
+      apart j u n = put_apart t a.sized g.channels 0 (window_of g g.channels) top j u n ∙ a.empty j u
 
-      there : span_in (put_span t k 0 (window_of g k)) k 0 ≡ window_of g k
-      there = put_same t a.sized k 0 (window_of g k) top (omega arith)
+      there : span_in (put_span t g.channels 0 (window_of g g.channels)) g.channels 0 ≡ window_of g g.channels
+      there = put_same t a.sized g.channels 0 (window_of g g.channels) top (omega arith)
 
-      top_row : (j n u : ℕ) → k ≤ j → j + n ≡ k → InBand g k total j n u → span_in (put_span t k 0 (window_of g k)) j u ≡ back bias (window_of g j) (levels g j n) u
-      top_row j zero u h e b = let z : u ≡ 0 = omega (arith, b.1) in let p : j ≡ k = omega arith in rw (z, p) there
+      top_row : (j n u : ℕ) → g.channels ≤ j → j + n ≡ g.channels → InBand g total j n u → span_in (put_span t g.channels 0 (window_of g g.channels)) j u ≡ back bias (window_of g j) (levels g j n) u
+      top_row j zero u h e b = let z : u ≡ 0 = omega (arith, b.1) in let p : j ≡ g.channels = omega arith in rw (z, p) there
       top_row j (suc n) u h e b = absurd (omega arith)
 
-      ends : (j u : ℕ) → (j ≡ k) ⊎ (j ≡ k → ⊥) → (u ≡ 0) ⊎ (u ≡ 0 → ⊥) →
-          ((span_in (put_span t k 0 (window_of g k)) j u).from ≤ greatest_end) × ((span_in (put_span t k 0 (window_of g k)) j u).upto ≤ greatest_end)
-      ends j u (inl p) (inl z) = rw (p, z) (omega (arith, starts_same there, ends_same there, a.stack.starts k (omega arith), a.stack.ends k (omega arith)))
+      ends : (j u : ℕ) → (j ≡ g.channels) ⊎ (j ≡ g.channels → ⊥) → (u ≡ 0) ⊎ (u ≡ 0 → ⊥) →
+          ((span_in (put_span t g.channels 0 (window_of g g.channels)) j u).from ≤ greatest_end) × ((span_in (put_span t g.channels 0 (window_of g g.channels)) j u).upto ≤ greatest_end)
+      ends j u (inl p) (inl z) = rw (p, z) (omega (arith, starts_same there, ends_same there, a.stack.starts g.channels (omega arith), a.stack.ends g.channels (omega arith)))
       ends j u (inl p) (inr z) = omega (arith, starts_same (apart j u (λ q. z)), ends_same (apart j u (λ q. z)))
       ends j u (inr p) z = omega (arith, starts_same (apart j u (λ q y. p q)), ends_same (apart j u (λ q y. p q)))
 
   -- strip j, under strip i
-  module _ (i j e : ℕ) (t : List (List (List ℕ))) (a : StackAsks g k) (fits : total < 4294967296) (s : Banding g k total i t e) (under : j + 1 ≡ i) where
+  module _ (i j e : ℕ) (t : List StripSpans) (a : StackAsks g) (fits : total < 4294967296) (s : Banding g total i t e) (under : j + 1 ≡ i) where
     abbrev n : ℕ
-    n = k - i
+    n = g.channels - i
 
     abbrev used : ℕ
-    used = entry (sums_in g.plan) j
+    used = entry g.plan.above j
 
     abbrev all : ℕ
-    all = entry (sums_in g.plan) 0
+    all = entry g.plan.above 0
 
     abbrev above : ℕ
-    above = entry (sums_in g.plan) (j + 1)
+    above = entry g.plan.above (j + 1)
 
     abbrev least : ℕ
-    least = entry (leasts_in g.plan) j
+    least = entry g.plan.leasts j
 
-    counted : j + suc n ≡ k
+    counted : j + suc n ≡ g.channels
     counted = omega (arith, s.inside)
 
     used_is : used ≡ most (levels g j (suc n))
-    used_is = above_at g k a.planned j (suc n) counted
+    used_is = above_at g a.planned j (suc n) counted
 
-    all_is : all ≡ most (levels g 0 k)
-    all_is = above_at g k a.planned 0 k (omega arith)
+    all_is : all ≡ most (levels g 0 g.channels)
+    all_is = above_at g a.planned 0 g.channels (omega arith)
 
     above_is : above ≡ most (levels g (suc j) n)
-    above_is = rw (add-one j) (above_at g k a.planned (suc j) n (omega arith))
+    above_is = rw (add-one j) (above_at g a.planned (suc j) n (omega arith))
 
     least_is : least ≡ first_open (low_of g j) (high_of g j) (last_of g j)
-    least_is = least_at g k a.planned j (omega (arith, s.inside))
+    least_is = least_at g a.planned j (omega (arith, s.inside))
 
     used_parts : used ≡ last_of g j + above
     used_parts = omega (arith, used_is, above_is, most_step g j n)
 
     used_less : used ≤ all
     used_less =
-        let z : j + suc n ≡ k = counted in
+        let z : j + suc n ≡ g.channels = counted in
         let y : 0 + j ≡ j = omega arith in
         omega (arith, used_is, all_is, rw (y, z) at (most_fewer g j 0 (suc n)))
 
     pub used_small : used < totals_held
-    used_small = omega (arith, used_is, most_small g k a j (suc n) counted, a.channels)
-
-    pub all_small : all < totals_held
-    all_small = omega (arith, all_is, most_small g k a 0 k (omega arith), a.channels)
+    used_small = omega (arith, used_is, most_small g a j (suc n) counted, a.channels)
 
     module _ (first last : ℕ) (f : first ≡ min used (total + used - (all + j))) (l : last ≡ min used total) where
       abbrev c : Cell
       c = cell_of g j first least above e
 
-      asks_at : (v : ℕ) → first ≤ v → v ≤ last → StripAsks (sides g.limits j) (cell_at c v) t
+      asks_at : (v : ℕ) → first ≤ v → v ≤ last → StripAsks (limits_of g.limits j) (cell_at c v) t
       asks_at v h m =
           record {
             channel = omega (arith, a.channels, s.inside);
@@ -135,7 +134,7 @@ module _ (g : Given) (k total : ℕ) where
             empties = λ u p q. rw under (s.empties u p);
           }
 
-      pub band_strip_asked : StripAsked (sides g.limits j) c last t
+      pub band_strip_asked : StripAsked (limits_of g.limits j) c last t
       band_strip_asked =
           record {
             sized = s.table.sized;
@@ -146,7 +145,7 @@ module _ (g : Given) (k total : ℕ) where
             before = λ u h. omega (arith, starts_same (s.below j u (omega arith)), ends_same (s.below j u (omega arith)));
           }
 
-      module _ (t' : List (List (List ℕ))) (e' : ℕ) (d : StripFilled (sides g.limits j) c (last + 1) t t' e') where
+      module _ (t' : List StripSpans) (e' : ℕ) (d : StripFilled (limits_of g.limits j) c (last + 1) t t' e') where
         -- the spans above for what the separations leave
         left_is : (u q : ℕ) → first ≤ u → u ≤ last → q ≤ last_of g j → q ≤ u → u - q ≤ most (levels g (suc j) n) →
             span_in t (j + 1) (u - q) ≡ back bias (window_of g (suc j)) (levels g (suc j) n) (u - q)
@@ -160,7 +159,7 @@ module _ (g : Given) (k total : ℕ) where
             d.cells u h (omega arith)
             ∙ rw (least_is, above_is) (cell_back g j n u (span_in t (j + 1)) (omega (arith, used_parts, above_is)) (λ q p r o. left_is u q h m p r o))
 
-        banded_at : (p m u : ℕ) → p + m ≡ k → InBand g k total p m u → (j < p) ⊎ (j ≡ p) → span_in t' p u ≡ back bias (window_of g p) (levels g p m) u
+        banded_at : (p m u : ℕ) → p + m ≡ g.channels → InBand g total p m u → (j < p) ⊎ (j ≡ p) → span_in t' p u ≡ back bias (window_of g p) (levels g p m) u
         banded_at p m u q b (inl h) = rw (d.others p (λ z. omega arith)) (s.table.banded p m u (omega arith) q b)
         banded_at p m u q b (inr h) =
             let z : m ≡ suc n = omega (arith, s.inside) in
@@ -176,7 +175,7 @@ module _ (g : Given) (k total : ℕ) where
         small_at p u (inl h) (inr o) q = let r = d.outside u (λ x y. omega arith) in rw h (omega (arith, starts_same r, ends_same r, s.small j u))
         small_at p u (inr h) o q = rw (d.others p h) (s.small p u)
 
-        pub banding_step : Banding g k total j t' e'
+        pub banding_step : Banding g total j t' e'
         banding_step =
             record {
               inside = omega (arith, s.inside);

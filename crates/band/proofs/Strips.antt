@@ -5,10 +5,12 @@ use mathlib.Core.List.{List}
 use Prim.Native.Nat.{ℕ, ◌+◌, ◌≤◌, ◌<◌, max}
 use native.Mathlib.Omega.{arith}
 use Rattle.numbers.proofs.Orders.{lt_or_eq}
-use Rattle.spans.specs.Spans.{Span}
+use Rattle.spans.specs.declared.Span.{Span}
 use Rattle.spans.specs.Solver.{cell}
-use Rattle.arrays.specs.Arrays.{bias, sides, low_in, high_in, span_at, span_in}
-use Rattle.scan.specs.Scan.{cell_at, window_in, StripAsks, StripDone, EmptyOn}
+use Rattle.arrays.specs.Arrays.{bias, low_in, high_in, span_at, span_in, spans_of}
+use Rattle.arrays.specs.declared.ChannelLimits.{ChannelLimits}
+use Rattle.arrays.specs.declared.StripSpans.{StripSpans}
+use Rattle.scan.specs.Scan.{cell_at, StripAsks, StripDone, EmptyOn}
 use Rattle.scan.specs.declared.Cell.{Cell}
 use Rattle.scan.proofs.Tables.{put_same, put_apart, put_others, sized_put}
 use Rattle.scan.proofs.Scanning.{short_empty}
@@ -21,7 +23,7 @@ starts_same e = ap (λ (s : Span). s.from) e
 pub ends_same : {x y : Span} → x ≡ y → x.upto ≡ y.upto
 ends_same e = ap (λ (s : Span). s.upto) e
 
-module _ (limits : List (List ℕ)) (c : Cell) (last : ℕ) (t : List (List (List ℕ))) (a : StripAsked limits c last t) where
+module _ (limits : ChannelLimits) (c : Cell) (last : ℕ) (t : List StripSpans) (a : StripAsked limits c last t) where
   pub strip_start : StripFilled limits c c.v t t c.v
   strip_start =
       record {
@@ -33,9 +35,9 @@ module _ (limits : List (List ℕ)) (c : Cell) (last : ℕ) (t : List (List (Lis
         empties = a.before;
       }
 
-  module _ (v e : ℕ) (t' : List (List (List ℕ))) (s : StripFilled limits c v t t' e) (from : c.v ≤ v) (upto : v ≤ last) where
+  module _ (v e : ℕ) (t' : List StripSpans) (s : StripFilled limits c v t t' e) (from : c.v ≤ v) (upto : v ≤ last) where
     -- the strip above is as it was
-    above_same : sides t' (c.i + 1) ≡ sides t (c.i + 1)
+    above_same : spans_of t' (c.i + 1) ≡ spans_of t (c.i + 1)
     above_same = s.others (c.i + 1) (λ q. omega arith)
 
     pub strip_asks : StripAsks limits (cell_at c v) t'
@@ -55,9 +57,9 @@ module _ (limits : List (List ℕ)) (c : Cell) (last : ℕ) (t : List (List (Lis
           empties = λ u h l. rw above_same (b.empties u h l);
         }
 
-    module _ (t'' : List (List (List ℕ))) (short e' : ℕ) (d : StripDone limits (cell_at c v) t' t'' short) (x : EmptyOn (max e 0) v short e') where
+    module _ (t'' : List StripSpans) (short e' : ℕ) (d : StripDone limits (cell_at c v) t' t'' short) (x : EmptyOn (max e 0) v short e') where
       abbrev here : Span
-      here = cell bias (low_in limits) (high_in limits) c.least c.last c.above (span_in t' (c.i + 1)) (window_in c) v
+      here = cell bias (low_in limits) (high_in limits) c.least c.last c.above (span_in t' (c.i + 1)) c.window v
 
       kept : (u : ℕ) → (u ≡ v → ⊥) → span_in t'' c.i u ≡ span_in t' c.i u
       kept u n = rw d.put_is (put_apart t' s.sized c.i v here (omega (arith, a.strip)) c.i u (λ p. n))
@@ -66,19 +68,19 @@ module _ (limits : List (List ℕ)) (c : Cell) (last : ℕ) (t : List (List (Lis
       written = rw d.put_is (put_same t' s.sized c.i v here (omega (arith, a.strip)) (omega (arith, a.total)))
 
       cell_there : (w : ℕ) → c.v ≤ w → (w < v) ⊎ (w ≡ v) →
-          span_in t'' c.i w ≡ cell bias (low_in limits) (high_in limits) c.least c.last c.above (span_in t (c.i + 1)) (window_in c) w
+          span_in t'' c.i w ≡ cell bias (low_in limits) (high_in limits) c.least c.last c.above (span_in t (c.i + 1)) c.window w
       cell_there w h (inl l) = kept w (λ q. omega arith) ∙ s.cells w h l
       cell_there w h (inr l) =
           rw l
           (written
-          ∙ ap (λ (r : List (List ℕ)). cell bias (low_in limits) (high_in limits) c.least c.last c.above (λ u. span_at r u) (window_in c) v) above_same)
+          ∙ ap (λ (r : StripSpans). cell bias (low_in limits) (high_in limits) c.least c.last c.above (λ u. span_at r u) c.window v) above_same)
 
       empty_there : (u : ℕ) → (u < max e 0) ⊎ ((u ≡ v) × (0 < short)) → (span_in t'' c.i u).upto ≤ (span_in t'' c.i u).from
       empty_there u (inl l) =
           let e = kept u (λ q. omega (arith, s.few)) in
           omega (arith, starts_same e, ends_same e, s.empties u (omega arith))
       empty_there u (inr l) =
-          let y = short_empty (low_in limits) (high_in limits) c.least c.last c.above (span_in t' (c.i + 1)) (window_in c) v (omega (arith, (a.asks v from upto).end)) (rw d.short_is at l.1) in
+          let y = short_empty (low_in limits) (high_in limits) c.least c.last c.above (span_in t' (c.i + 1)) c.window v (omega (arith, (a.asks v from upto).end)) (rw d.short_is at l.1) in
           rw l.0 (omega (arith, y, starts_same written, ends_same written))
 
       pub strip_step : StripFilled limits c (v + 1) t t'' e'

@@ -6,10 +6,10 @@ use mathlib.Core.Logic.{◌⊎◌, inl, inr}
 use Prim.Native.Nat.{ℕ, zero, suc, ◌+◌, ◌*◌, ◌-◌, ◌≤◌, ◌<◌}
 use native.Mathlib.Numerals.{add-one}
 use native.Mathlib.Omega.{arith}
-use lib.ListN.{length, get_or, set, replicate}
+use lib.ListN.{get_or, set, replicate}
 use borrow.Author.Tests.{lt-ltb, le-ltb}
 use Rattle.numbers.specs.Lists.{tabulate}
-use Rattle.numbers.proofs.Lists.{length_tabulate, get_or_tabulate, tabulate_same, tabulate_constant, tabulate_set}
+use Rattle.numbers.proofs.Lists.{get_or_tabulate, tabulate_same, tabulate_constant, tabulate_set}
 use Rattle.numbers.proofs.Orders.{le_or_lt}
 use Rattle.stack.specs.Limits.{on_strips}
 use Rattle.stack.specs.Sizes.{separations_held}
@@ -87,11 +87,6 @@ pub filling_steps : (f g : ℕ → ℕ) (n t : ℕ) (low high : List ℕ) (l u :
     Filling f g n (t + 1) (set low (t + 1) l) (set high (t + 1) u)
 filling_steps f g n t low high l u h s a b =
     record { below = omega arith; lows = row_steps f 0 t l low a s.lows; highs = row_steps g (2 * bias) t u high b s.highs }
-
--- both rows keep their lengths
-pub filling_long : (f g : ℕ → ℕ) (n t : ℕ) (low high : List ℕ) → Filling f g n t low high → (length low ≡ separations_held) × (length high ≡ separations_held)
-filling_long f g n t low high s =
-    (ap length s.lows ∙ length_tabulate separations_held 0 _, ap length s.highs ∙ length_tabulate separations_held 0 _)
 
 pub filling_ends : (k : Terminals) (t : ℕ) (ps qs ps_on qs_on low high : List ℕ) → k.count ≤ 32 → on_strips 1000 1000 (channel_of k) ≡ true → k.count ≤ t →
     ps ≡ narrowed k.lower k.count 0 → qs ≡ narrowed k.upper k.count 0 →

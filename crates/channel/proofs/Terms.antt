@@ -39,7 +39,7 @@ unfolding least high_term
 least_steps ps qs t i most most' h k e f = f ∙ rw (e, add-one i, paired_p ps qs (i + t) (omega arith), paired_q ps qs i (omega arith))
 
 -- a channel's terminals in two lists
-pub narrowed_held : (e : List Columns) (n r m : ℕ) (xs : List ℕ) → r ≤ m → AtMost 1000 n (λ j. (get_or e j (columns 0)).0) → 1000 ≤ m → xs ≡ narrowed e n r →
+narrowed_held : (e : List Columns) (n r m : ℕ) (xs : List ℕ) → r ≤ m → AtMost 1000 n (λ j. (get_or e j (columns 0)).0) → 1000 ≤ m → xs ≡ narrowed e n r →
     AtMost m places_held (λ j. get_or xs j 0)
 unfolding narrowed
 narrowed_held e n r m xs h a l same = record { each = λ j k. rw same (go j k (dec_lt j n)) }
@@ -65,12 +65,19 @@ narrowed_padded k p q few =
       q_rest = λ j h l. rw (paired_q ps qs j l, filled_rest places_held n j g q 0 (omega arith) l);
     }
 
-pub terminals_at_most : (k : Terminals) → on_strips 1000 1000 (channel_of k) ≡ true →
-    AtMost 1000 k.count (λ j. (get_or k.lower j (columns 0)).0) × AtMost 1000 k.count (λ j. (get_or k.upper j (columns 0)).0)
-terminals_at_most k on = (
-  record { each = λ j h. omega (arith, channel_p_at k j h, channel_length k, (terminals_on 1000 1000 (channel_of k) on j (omega (arith, channel_length k))).0) },
-  record { each = λ j h. omega (arith, channel_q_at k j h, channel_length k, (terminals_on 1000 1000 (channel_of k) on j (omega (arith, channel_length k))).1) },
-)
+-- terminals are at most 1,000, in the places behind the last too where what stands there is no more than m
+module _ (k : Terminals) (on : on_strips 1000 1000 (channel_of k) ≡ true) where
+  pub lower_at_most : AtMost 1000 k.count (λ j. (get_or k.lower j (columns 0)).0)
+  lower_at_most = record { each = λ j h. omega (arith, channel_p_at k j h, channel_length k, (terminals_on 1000 1000 (channel_of k) on j (omega (arith, channel_length k))).0) }
+
+  pub upper_at_most : AtMost 1000 k.count (λ j. (get_or k.upper j (columns 0)).0)
+  upper_at_most = record { each = λ j h. omega (arith, channel_q_at k j h, channel_length k, (terminals_on 1000 1000 (channel_of k) on j (omega (arith, channel_length k))).1) }
+
+  pub lower_held : (r m : ℕ) (xs : List ℕ) → xs ≡ narrowed k.lower k.count r → r ≤ m → 1000 ≤ m → AtMost m places_held (λ j. get_or xs j 0)
+  lower_held r m xs e h l = narrowed_held k.lower k.count r m xs h lower_at_most l e
+
+  pub upper_held : (r m : ℕ) (xs : List ℕ) → xs ≡ narrowed k.upper k.count r → r ≤ m → 1000 ≤ m → AtMost m places_held (λ j. get_or xs j 0)
+  upper_held r m xs e h l = narrowed_held k.upper k.count r m xs h upper_at_most l e
 
 max_raised : (x y a b : ℕ) → raised x ≡ a → raised y ≡ b → raised (max x y) ≡ max a b
 max_raised x y a b h k = omega arith

@@ -5,8 +5,8 @@ use Rattle.stack.specs.Stack.{Pair, pair, p_at, q_at, Channel}
 use Rattle.stack.specs.Sizes.{separations_held}
 use Rattle.stack.specs.Value.{columns}
 use Rattle.stack.specs.declared.Columns.{Columns}
-use Rattle.limits.specs.Limits.{greatest, least, low_limit, high_limit, from_floor, low_floored, high_floored}
-use Rattle.channel.specs.declared.Limits.{Limits}
+use Rattle.limits.specs.Limits.{greatest, least, low_limit, high_limit, low_floored, high_floored}
+use Rattle.arrays.specs.declared.ChannelLimits.{ChannelLimits}
 
 -- what the code's bias is
 abbrev pub bias : ℕ
@@ -66,12 +66,7 @@ pub record PairsLimits (ps : List Pair) (low high : List ℕ) : Type 0 where
   pub lows : low ≡ tabulate separations_held 0 (λ s. low_limit bias ps (s - 1))
   pub highs : high ≡ tabulate separations_held 0 (λ s. high_limit bias ps (s - 1))
 
--- while the first t places of a row that held xs get another value
-pub record Closing (xs : List ℕ) (d n t : ℕ) (row : List ℕ) : Type 0 where
-  pub below : t ≤ n
-  pub closed : row ≡ tabulate separations_held 0 (λ q. from_floor t d (λ s. get_or xs s 0) q)
-
 -- the limits of the channel for every separation
-pub record LimitsOf (c : Channel) (r : Limits) : Type 0 where
+pub record LimitsOf (c : Channel) (r : ChannelLimits) : Type 0 where
   pub low : r.low ≡ tabulate separations_held 0 (λ s. low_floored bias c s)
   pub high : r.high ≡ tabulate separations_held 0 (λ s. high_floored bias c s)

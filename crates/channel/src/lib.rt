@@ -1,7 +1,7 @@
 // The limits on a channel's offset.
 #![tactic(auto)]
 
-ghost use Rattle.std.specs.Prelude.{◌≡◌, true, ◌≤◌, min, max, length, get_or};
+ghost use Rattle.std.specs.Prelude.{◌≡◌, true, ◌≤◌, length, get_or};
 ghost use Rattle.stack.specs.Stack.{channel};
 ghost use Rattle.stack.specs.Limits.{on_strips};
 ghost use Rattle.stack.specs.Sizes.{separations_held};
@@ -10,6 +10,7 @@ ghost use Rattle.stack.specs.Value.{columns, channel_of};
 ghost use Rattle.limits.specs.Limits.{greatest, least, from_floor, open_from};
 ghost use Rattle.channel.specs.Seeking.{term_bias, places_held, AtMost, narrowed, paired, raised, LimitsOf};
 
+use arrays::ChannelLimits;
 use stack::{Columns, Stack, Terminals, Tracks};
 
 // Added to the terms of L(t) and R(t) while the greatest and the least are sought: more than two terminals together, so that no term is negative, and all fit 16 bits,
@@ -19,32 +20,15 @@ const TERM_BIAS: u16 = 2048;
 // A place for each index of a pair with a separation added.
 const PLACES: usize = 2 * Terminals::MAX_PAIRS;
 
-// The least and greatest offset for each separation from 0 on, raised by Stack::BIAS.
-#[derive(Clone, Copy)]
-pub struct Limits {
-    pub low: [u64; Stack::SEPARATIONS],
-    pub high: [u64; Stack::SEPARATIONS],
-}
-
-// The greater and the lesser of two numbers of 16 bits.
-fn greater(a: u16, b: u16) -> u16
-    ensures { result ≡ max a b }
-{
-    if a < b { b } else { a }
-}
-
-fn lesser(a: u16, b: u16) -> u16
-    ensures { result ≡ min a b }
-{
-    if a < b { a } else { b }
-}
-
 // The terminals of an edge on 16 bits, and `rest` in the places behind the last.
-fn narrowed(edge: [Columns; Terminals::MAX_PAIRS], count: usize, rest: u16) -> [u16; PLACES]
-    requires { (count ≤ 32) × AtMost 1000 count (λ j. (get_or edge j (columns 0)).0) }
-    ensures { result ≡ narrowed edge count rest }
+#[tactic(auto, using(numbers::proofs::Lists::filled_starts), unfolding(crate::specs::Seeking::narrowed))]
+fn narrowed(edge: &[Columns; Terminals::MAX_PAIRS], count: usize, rest: u16) -> [u16; PLACES]
+    requires few { count ≤ 32 }
+    requires small { AtMost 1000 count (λ j. (get_or edge.now j (columns 0)).0) }
+    ensures { result ≡ narrowed edge.now count rest }
 {
     let mut narrow = [rest; PLACES];
+    // By index: a zip of the two arrays' first places is no plainer.
     for j in 0..count {
         narrow[j] = edge[j].0 as u16;
     }
@@ -52,29 +36,36 @@ fn narrowed(edge: [Columns; Terminals::MAX_PAIRS], count: usize, rest: u16) -> [
 }
 
 // The greatest of 32 terms p(i) + t - q(i + t), raised by TERM_BIAS.
+#[tactic(auto, using(crate::proofs::Terms::greatest_steps), unfolding(limits::specs::Limits::greatest))]
 fn greatest_term(p: &[u16; PLACES], q: &[u16; PLACES], t: usize) -> u16
-    requires { (t ≤ 32) × AtMost 1000 places_held (λ j. get_or p.now j 0) × AtMost term_bias places_held (λ j. get_or q.now j 0) }
+    requires tracks { t ≤ 32 }
+    requires p_small { AtMost 1000 places_held (λ j. get_or p.now j 0) }
+    requires q_small { AtMost term_bias places_held (λ j. get_or q.now j 0) }
     ensures { result ≡ greatest term_bias (paired p.now q.now) t 32 }
 {
     let tracks = t as u16;
-    let mut most: u16 = 0;
+    let mut greatest = 0;
+    // By index, as the term is written: a zip of `p` and `q[t..]` is no plainer.
     for i in 0..Terminals::MAX_PAIRS {
-        most = greater(most, TERM_BIAS + p[i] + tracks - q[i + t]);
+        greatest = greatest.max(TERM_BIAS + p[i] + tracks - q[i + t]);
     }
-    most
+    greatest
 }
 
 // The least of 32 terms p(i + t) - t - q(i), raised by TERM_BIAS.
+#[tactic(auto, using(crate::proofs::Terms::least_steps), unfolding(limits::specs::Limits::least))]
 fn least_term(p: &[u16; PLACES], q: &[u16; PLACES], t: usize) -> u16
-    requires { (t ≤ 32) × AtMost term_bias places_held (λ j. get_or p.now j 0) × AtMost 1000 places_held (λ j. get_or q.now j 0) }
+    requires tracks { t ≤ 32 }
+    requires p_small { AtMost term_bias places_held (λ j. get_or p.now j 0) }
+    requires q_small { AtMost 1000 places_held (λ j. get_or q.now j 0) }
     ensures { result ≡ least term_bias (paired p.now q.now) t 32 }
 {
     let tracks = t as u16;
-    let mut most: u16 = 2 * TERM_BIAS;
+    let mut least = 2 * TERM_BIAS;
     for i in 0..Terminals::MAX_PAIRS {
-        most = lesser(most, TERM_BIAS + p[i + t] - (tracks + q[i]));
+        least = least.min(TERM_BIAS + p[i + t] - (tracks + q[i]));
     }
-    most
+    least
 }
 
 // A term that is raised by TERM_BIAS, raised by Stack::BIAS.
@@ -86,26 +77,23 @@ fn raised(term: u16) -> u64
 
 // Another value for a row of limits below a floor.
 fn close_below(row: &mut [u64; Stack::SEPARATIONS], floor: Tracks, closed: u64)
-    requires { (floor.0 ≤ 64) × (length row.old ≡ separations_held) }
+    requires { floor.0 ≤ 64 }
     ensures { row.new ≡ tabulate separations_held 0 (λ t. from_floor floor.0 closed (λ s. get_or row.old s 0) t) }
 {
-    let below = floor.0 as usize;
-    for t in 0..below {
-        row[t] = closed;
-    }
+    row[..floor.0 as usize].fill(closed);
 }
 
 // The limits at every separation from a floor on, closed below it: with the lower edge clear (document 02, P4) L(t) and R(t) are those at t + 1, and those at 0 are those at 1.
 // Behind the last pair stand zeros, and TERM_BIAS where t is added to the index. So a term past the last is less than every term of L(t), or greater than every term of R(t), and
 // 32 terms can be taken for every t: a constant number, without a remainder of fewer than eight.
-pub fn channel_limits(terminals: Terminals, floor: Tracks) -> Limits
-    requires few { (terminals.count ≤ 32) × (floor.0 ≤ 64) }
-    requires on_strips { on_strips 1000 1000 (channel_of terminals) ≡ true }
-    ensures { LimitsOf (channel (channel_of terminals) floor.0) result }
+pub fn channel_limits(terminals: &Terminals, floor: Tracks) -> ChannelLimits
+    requires few { (terminals.now.count ≤ 32) × (floor.0 ≤ 64) }
+    requires on_strips { on_strips 1000 1000 (channel_of terminals.now) ≡ true }
+    ensures { LimitsOf (channel (channel_of terminals.now) floor.0) result }
 {
     let pairs = terminals.count;
-    let lower = terminals.lower;
-    let upper = terminals.upper;
+    let lower = &terminals.lower;
+    let upper = &terminals.upper;
     let p = narrowed(lower, pairs, 0);
     let q = narrowed(upper, pairs, 0);
     let p_on = narrowed(lower, pairs, TERM_BIAS);
@@ -120,7 +108,7 @@ pub fn channel_limits(terminals: Terminals, floor: Tracks) -> Limits
     high[0] = high[1];
     close_below(&mut low, floor, 2 * Stack::BIAS);
     close_below(&mut high, floor, 0);
-    Limits { low, high }
+    ChannelLimits { low, high }
 }
 
 // The separation from which on the limits of so many pairs leave every offset open: one more than there are pairs, and 0 without pairs.
@@ -128,5 +116,5 @@ pub fn open_from(pairs: usize) -> usize
     requires { pairs ≤ 32 }
     ensures { result ≡ open_from pairs }
 {
-    if 0 < pairs { pairs + 1 } else { 0 }
+    pairs + pairs.min(1)
 }

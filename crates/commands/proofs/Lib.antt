@@ -1,4 +1,5 @@
--- The laws of the arguments, and of what is printed.
+-- The laws of the arguments, of what is printed, and of a trial's numbers.
 pub mod Arguments
 pub mod Printing
 pub mod Steps
+pub mod Trials

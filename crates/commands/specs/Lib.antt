@@ -1,3 +1,4 @@
 -- What the arguments stand for, and what is printed.
 pub mod Words
 pub mod Output
+pub mod Parts

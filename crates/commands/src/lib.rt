@@ -2,87 +2,73 @@
 // goes with it.
 #![tactic(auto)]
 
-ghost use Rattle.std.specs.Prelude.{◌≡◌, ◌≤◌, length, take};
+ghost use Rattle.std.specs.Prelude.{◌≡◌, ◌≤◌};
 ghost use Rattle.stack.specs.Value.{tracks_of, columns_of};
-ghost use Rattle.text.specs.Text.{text_refusal};
 ghost use Rattle.text.specs.Outcome.{refusal_of};
 ghost use Rattle.session.specs.Session.{Made};
 ghost use Rattle.session.specs.Value.{held_of};
 ghost use Rattle.writing.specs.Output.{LinePut};
-ghost use Rattle.commands.specs.Words.{NumberRead, is_help, if_named, either_named, command_alone, command_with_number, command_in};
+ghost use Rattle.commands.specs.Words.{number_in, command_alone, command_with_number, command_with_two, command_in};
 ghost use Rattle.commands.specs.Output.{
-  Printed,
-  Replied,
+  status_number,
+  status_after,
   TablePrinted,
   TotalPrinted,
   PlacementPrinted,
   SpreadPrinted,
   StepPrinted,
   PagePrinted,
+  TrialPrinted,
   separations_in,
   positions_in,
   verdict_text,
-  trial_text,
-  trial_status,
 };
+ghost use Rattle.commands.specs.Parts.{Concluded, TotalPut, PlacementPut, SpreadPut, StepPut, TrialPut};
 
-use lines::{is_word, read_digits};
+use lines::read_digits;
 use nabetsu::{TABLE_BYTES, least_total, place_total, try_placement, write_page, write_table};
 use reading::read_stack;
 use session::Session;
 use stack::{Columns, Stack, Tracks};
-use text::Outcome;
+use std::array;
+use text::Refused;
 use writing::{put_line, put_refusal, put_row, put_total as put_total_line};
 
 // A trial's spread, separations and positions.
 pub const NUMBERS: usize = 2 * Stack::MAX_CHANNELS + 2;
 
-// The exit status where an answer is printed, where a refusal is, and where arguments are wrong or reading or writing fails.
-pub const ANSWERED: u32 = 0;
+// What has come of the program, the worse the greater: an answer is printed, or a refusal, or arguments are wrong or reading or writing fails.
+#[derive(Clone, Copy, Debug, PartialEq, Eq, PartialOrd, Ord)]
+pub enum Status {
+    Answered,
+    Refused,
+    Failed,
+}
 
-const REFUSED: u32 = 1;
-
-pub const FAILED: u32 = 2;
+impl Status {
+    // The exit status.
+    pub fn number(self) -> u32
+        ensures { result ≡ status_number self }
+    {
+        self as u32
+    }
+}
 
 const MAX_DIGITS: usize = 10;
 
-const MAX_NUMBER: u64 = 4294967295;
-
-// Whether a word is a number, and which; 0 where it is none.
-#[derive(Clone, Copy)]
-pub struct Number {
-    pub good: bool,
-    pub value: u32,
-}
-
-// A number: 1 to 10 decimal digits, at most 4294967295.
-pub fn read_number(word: &[u8]) -> Number
-    ensures { NumberRead word.now result }
+// The number that a word is: 1 to 10 decimal digits, at most 4294967295.
+#[tactic(auto, unfolding(crate::specs::Words::is_number, crate::specs::Words::number_in, lines::specs::Numbers::digits_read))]
+pub fn read_number(word: &[u8]) -> Option<u32>
+    ensures { result ≡ number_in word.now }
 {
-    let none = Number {
-        good: false,
-        value: 0,
-    };
-    if word.len() < 1 {
-        return none;
+    if word.is_empty() || MAX_DIGITS < word.len() {
+        return None;
     }
-    if MAX_DIGITS < word.len() {
-        return none;
-    }
-    let digits = read_digits(word);
-    if !digits.good {
-        return none;
-    }
-    if MAX_NUMBER < digits.value {
-        return none;
-    }
-    Number {
-        good: true,
-        value: digits.value as u32,
-    }
+    let value = read_digits(word)?;
+    u32::try_from(value).ok()
 }
 
-#[derive(Clone, Copy)]
+#[derive(Clone, Copy, Debug, PartialEq, Eq)]
 pub enum Command {
     Table,
     Total,
@@ -93,117 +79,100 @@ pub enum Command {
     Session,
     Help,
     Version,
-    Wrong,
-}
-
-// Whether a word asks for help.
-fn is_help(word: &[u8]) -> bool
-    ensures { result ≡ is_help word.now }
-{
-    if is_word(word, b"help") {
-        return true;
-    }
-    if is_word(word, b"-h") {
-        return true;
-    }
-    is_word(word, b"--help")
-}
-
-// The command, where the word is its name.
-fn if_named(word: &[u8], name: &[u8], command: Command) -> Command
-    ensures { result ≡ if_named word.now name.now command }
-{
-    if is_word(word, name) {
-        return command;
-    }
-    Command::Wrong
-}
-
-// The one of two commands whose name the word is.
-fn either_named(
-    word: &[u8],
-    name: &[u8],
-    command: Command,
-    second: &[u8],
-    other: Command,
-) -> Command
-    ensures { result ≡ either_named word.now name.now command second.now other }
-{
-    if is_word(word, name) {
-        return command;
-    }
-    if_named(word, second, other)
 }
 
 // The command of one word.
-fn read_alone(word: &[u8]) -> Command
+#[tactic(auto, unfolding(crate::specs::Words::is_help, crate::specs::Words::command_alone))]
+fn read_alone(word: &[u8]) -> Option<Command>
     ensures { result ≡ command_alone word.now }
 {
-    if is_help(word) {
-        return Command::Help;
+    // A match on byte strings was tried here and below: its proof did not close.
+    if word == b"help".as_slice() || word == b"-h".as_slice() || word == b"--help".as_slice() {
+        return Some(Command::Help);
     }
-    if_named(word, b"--version", Command::Version)
+    if word == b"--version".as_slice() {
+        return Some(Command::Version);
+    }
+    None
 }
 
 // The command of a word and a number.
-fn read_with_number(word: &[u8]) -> Command
+#[tactic(auto, unfolding(crate::specs::Words::command_with_number))]
+fn read_with_number(word: &[u8]) -> Option<Command>
     ensures { result ≡ command_with_number word.now }
 {
-    if is_word(word, b"session") {
-        return Command::Session;
+    if word == b"session".as_slice() {
+        return Some(Command::Session);
     }
-    either_named(word, b"total", Command::Total, b"spread", Command::Spread)
+    if word == b"total".as_slice() {
+        return Some(Command::Total);
+    }
+    if word == b"spread".as_slice() {
+        return Some(Command::Spread);
+    }
+    None
+}
+
+// The command of a word and two numbers.
+#[tactic(auto, unfolding(crate::specs::Words::command_with_two))]
+fn read_with_two(word: &[u8]) -> Option<Command>
+    ensures { result ≡ command_with_two word.now }
+{
+    if word == b"place".as_slice() {
+        return Some(Command::Place);
+    }
+    if word == b"page".as_slice() {
+        return Some(Command::Page);
+    }
+    None
 }
 
 // The command of so many words, of which this is the first.
-pub fn read_command(word: &[u8], words: usize) -> Command
+#[tactic(auto, unfolding(crate::specs::Words::command_in))]
+pub fn read_command(word: &[u8], words: usize) -> Option<Command>
     ensures { result ≡ command_in word.now words }
 {
-    if words == 0 {
-        return Command::Table;
+    match words {
+        0 => Some(Command::Table),
+        1 => read_alone(word),
+        _ if word == b"trial".as_slice() => Some(Command::Trial),
+        2 => read_with_number(word),
+        3 => read_with_two(word),
+        _ => None,
     }
-    if words == 1 {
-        return read_alone(word);
-    }
-    if is_word(word, b"trial") {
-        return Command::Trial;
-    }
-    if words == 2 {
-        return read_with_number(word);
-    }
-    if words == 3 {
-        return either_named(word, b"place", Command::Place, b"page", Command::Page);
-    }
-    Command::Wrong
 }
 
-// What stands at the start of an output: how many bytes, the status that goes with them, and what is refused.
+// What stands at the start of an output: how many bytes, and what is refused where they are a refusal's line.
 #[derive(Clone, Copy)]
 pub struct Reply {
     pub length: usize,
-    pub status: u32,
-    pub outcome: Outcome,
+    pub outcome: Result<(), Refused>,
 }
 
-// The line of a refusal; where there is none, the bytes that are written already.
-fn put_outcome(outcome: Outcome, written: usize, output: &mut [u8; TABLE_BYTES]) -> Reply
-    requires { written ≤ length output.old }
-    ensures { Replied (refusal_of outcome) (take written output.old) output.new result }
-{
-    match outcome {
-        Outcome::Accepted => Reply {
-            length: written,
-            status: ANSWERED,
-            outcome,
-        },
-        Outcome::Refused(r) => {
-            let why = r.why;
-            let length = put_refusal(output, why.number(), r.line, r.field);
-            Reply {
+impl Reply {
+    // The status that goes with it.
+    pub fn status(self) -> Status
+        ensures { result ≡ status_after self.outcome }
+    {
+        match self.outcome {
+            Ok(()) => Status::Answered,
+            Err(_) => Status::Refused,
+        }
+    }
+
+    // So many bytes that are put already, or the line of a refusal.
+    fn of(put: Result<usize, Refused>, output: &mut [u8; TABLE_BYTES]) -> Reply
+        ensures { Concluded put output.old output.new result }
+    {
+        match put {
+            Ok(length) => Reply {
                 length,
-                status: REFUSED,
-                outcome,
-            }
+                outcome: Ok(()),
+            },
+            Err(why) => Reply {
+                length: put_refusal(output, why.why.number(), why.line, why.field),
+                outcome: Err(why),
+            },
         }
     }
 }
@@ -212,127 +181,130 @@ fn put_outcome(outcome: Outcome, written: usize, output: &mut [u8; TABLE_BYTES])
 pub fn put_table(text: &[u8], output: &mut [u8; TABLE_BYTES]) -> Reply
     ensures { TablePrinted text.now output.new result }
 {
-    let answer = write_table(text, output);
-    let outcome = answer.outcome;
-    put_outcome(outcome, answer.written, output)
+    let put = write_table(text, output);
+    Reply::of(put, output)
+}
+
+// The digits of the least total in one spread, or its refusal.
+fn put_digits(text: &[u8], spread: u32, output: &mut [u8; TABLE_BYTES]) -> Result<usize, Refused>
+    ensures { TotalPut text.now spread output.old output.new result }
+{
+    let total = least_total(text, spread)?;
+    Ok(put_total_line(output, total.0))
 }
 
 // All that is printed of the least total in one spread: its digits, or the refusal's line.
 pub fn put_total(text: &[u8], spread: u32, output: &mut [u8; TABLE_BYTES]) -> Reply
     ensures { TotalPrinted text.now spread output.new result }
 {
-    let answer = least_total(text, spread);
-    let outcome = answer.outcome;
-    if !outcome.is_accepted() {
-        return put_outcome(outcome, 0, output);
-    }
-    let total = answer.total;
-    let length = put_total_line(output, total.0);
-    Reply {
-        length,
-        status: ANSWERED,
-        outcome,
-    }
+    let put = put_digits(text, spread, output);
+    Reply::of(put, output)
+}
+
+// The row of a placement for a total, or its refusal.
+fn put_placed(
+    text: &[u8],
+    spread: u32,
+    total: Tracks,
+    output: &mut [u8; TABLE_BYTES],
+) -> Result<usize, Refused>
+    ensures { PlacementPut text.now spread total.0 output.old output.new result }
+{
+    let placement = place_total(text, spread, total)?;
+    let stack = read_stack(text)?;
+    Ok(put_row(
+        output,
+        stack.count,
+        spread,
+        total.0,
+        &placement.separations,
+        &placement.positions,
+    ))
 }
 
 // All that is printed of a placement for a total: its row, or the refusal's line.
 pub fn put_place(text: &[u8], spread: u32, total: u32, output: &mut [u8; TABLE_BYTES]) -> Reply
     ensures { PlacementPrinted text.now spread total output.new result }
 {
-    let answer = place_total(text, spread, Tracks(total));
-    let outcome = answer.outcome;
-    if !outcome.is_accepted() {
-        return put_outcome(outcome, 0, output);
-    }
-    let reading = read_stack(text);
-    let separations = answer.separations;
-    let positions = answer.positions;
-    let length = put_row(
-        output,
-        reading.stack.count,
-        spread,
-        total,
-        separations,
-        positions,
-    );
-    Reply {
-        length,
-        status: ANSWERED,
-        outcome,
-    }
+    let put = put_placed(text, spread, Tracks(total), output);
+    Reply::of(put, output)
+}
+
+// The row of the placement for the least total in one spread, or its refusal.
+fn put_least(text: &[u8], spread: u32, output: &mut [u8; TABLE_BYTES]) -> Result<usize, Refused>
+    ensures { SpreadPut text.now spread output.old output.new result }
+{
+    let total = least_total(text, spread)?;
+    put_placed(text, spread, total, output)
 }
 
 // All that is printed for one spread: the row of the placement for its least total, or the refusal's line.
 pub fn put_spread(text: &[u8], spread: u32, output: &mut [u8; TABLE_BYTES]) -> Reply
     ensures { SpreadPrinted text.now spread output.new result }
 {
-    let least = least_total(text, spread);
-    let total = least.total;
-    put_place(text, spread, total.0, output)
+    let put = put_least(text, spread, output);
+    Reply::of(put, output)
+}
+
+// The row of the placement for a session's least total in one spread, or the refusal of the step before it or of the spread.
+fn put_stepped(
+    outcome: Result<(), Refused>,
+    session: &Session,
+    spread: u32,
+    output: &mut [u8; TABLE_BYTES],
+) -> Result<usize, Refused>
+    requires { Made (held_of session.now) }
+    ensures { StepPut (refusal_of outcome) (held_of session.now) spread output.old output.new result }
+{
+    outcome?;
+    let total = session.least_total(spread)?;
+    let placement = session.place_total(spread, total)?;
+    Ok(put_row(
+        output,
+        session.count - 1,
+        spread,
+        total.0,
+        &placement.separations,
+        &placement.positions,
+    ))
 }
 
 // All that is printed of a step of a session: the row of the placement for its least total in one spread, or the step's refusal or the spread's.
 pub fn put_step(
-    outcome: Outcome,
-    session: Session,
+    outcome: Result<(), Refused>,
+    session: &Session,
     spread: u32,
     output: &mut [u8; TABLE_BYTES],
 ) -> Reply
-    requires { Made (held_of session) }
-    ensures { StepPrinted (refusal_of outcome) (held_of session) spread output.new result }
+    requires { Made (held_of session.now) }
+    ensures { StepPrinted (refusal_of outcome) (held_of session.now) spread output.new result }
 {
-    let strips = session.count;
-    if !outcome.is_accepted() {
-        return put_outcome(outcome, 0, output);
-    }
-    let least = session.least_total(spread);
-    let total = least.total;
-    let answer = session.place_total(spread, total);
-    let told = answer.outcome;
-    if !told.is_accepted() {
-        return put_outcome(told, 0, output);
-    }
-    let separations = answer.separations;
-    let positions = answer.positions;
-    let length = put_row(output, strips - 1, spread, total.0, separations, positions);
-    Reply {
-        length,
-        status: ANSWERED,
-        outcome: told,
-    }
+    let put = put_stepped(outcome, session, spread, output);
+    Reply::of(put, output)
 }
 
 // All that is printed of a channel in the answer for one spread: its page, or the refusal's line.
 pub fn put_page(text: &[u8], spread: u32, channel: u32, output: &mut [u8; TABLE_BYTES]) -> Reply
     ensures { PagePrinted text.now spread channel output.new result }
 {
-    let answer = write_page(text, spread, channel, output);
-    let outcome = answer.outcome;
-    put_outcome(outcome, answer.written, output)
+    let put = write_page(text, spread, channel, output);
+    Reply::of(put, output)
 }
 
 // A trial's first k separations, and zeros.
-fn separations(numbers: [u32; NUMBERS], k: usize) -> [Tracks; Stack::MAX_CHANNELS]
+fn separations(numbers: &[u32; NUMBERS], k: usize) -> [Tracks; Stack::MAX_CHANNELS]
     requires { k ≤ 8 }
-    ensures { tracks_of result ≡ separations_in k numbers }
+    ensures { tracks_of result ≡ separations_in k numbers.now }
 {
-    let mut separations = [Tracks(0); Stack::MAX_CHANNELS];
-    for i in 0..k {
-        separations[i] = Tracks(numbers[1 + i]);
-    }
-    separations
+    array::from_fn(|i| Tracks(if i < k { numbers[1 + i] } else { 0 }))
 }
 
 // A trial's first k + 1 positions, behind its separations, and zeros.
-fn positions(numbers: [u32; NUMBERS], k: usize) -> [Columns; Stack::STRIPS]
+fn positions(numbers: &[u32; NUMBERS], k: usize) -> [Columns; Stack::STRIPS]
     requires { k ≤ 8 }
-    ensures { columns_of result ≡ positions_in k numbers }
+    ensures { columns_of result ≡ positions_in k numbers.now }
 {
-    let mut positions = [Columns(0); Stack::STRIPS];
-    for i in 0..k + 1 {
-        positions[i] = Columns(numbers[1 + k + i]);
-    }
-    positions
+    array::from_fn(|i| Columns(if i <= k { numbers[1 + k + i] } else { 0 }))
 }
 
 // The line of a verdict.
@@ -345,39 +317,38 @@ fn put_verdict(legal: bool, output: &mut [u8]) -> usize
     put_line(output, b"not legal\n")
 }
 
-// All that is printed of a trial with so many numbers: the verdict, or the refusal's line; nothing, with the status of what is said then, where the count does
-// not fit the stack.
-pub fn put_trial(
+// The line of the verdict on a trial with so many numbers, or the text's refusal; none where so many do not fit the stack.
+fn put_tried(
     text: &[u8],
     count: usize,
-    numbers: [u32; NUMBERS],
+    numbers: &[u32; NUMBERS],
     output: &mut [u8; TABLE_BYTES],
-) -> Reply
-    ensures { Printed (text_refusal text.now) (trial_text text.now count numbers) (trial_status text.now count) output.new result }
+) -> Result<Option<usize>, Refused>
+    ensures { TrialPut text.now count numbers.now output.old output.new result }
 {
-    let reading = read_stack(text);
-    let outcome = reading.outcome;
-    if !outcome.is_accepted() {
-        return put_outcome(outcome, 0, output);
-    }
-    let k = reading.stack.count;
+    let stack = read_stack(text)?;
+    let k = stack.count;
     if count != 2 * k + 2 {
-        return Reply {
-            length: 0,
-            status: FAILED,
-            outcome,
-        };
+        return Ok(None);
     }
-    let answer = try_placement(
+    let legal = try_placement(
         text,
         numbers[0],
         separations(numbers, k),
         positions(numbers, k),
-    );
-    let length = put_verdict(answer.legal, output);
-    Reply {
-        length,
-        status: ANSWERED,
-        outcome,
-    }
+    )?;
+    Ok(Some(put_verdict(legal, output)))
+}
+
+// All that is printed of a trial with so many numbers: the verdict, or the refusal's line; none where so many do not fit the stack.
+pub fn put_trial(
+    text: &[u8],
+    count: usize,
+    numbers: &[u32; NUMBERS],
+    output: &mut [u8; TABLE_BYTES],
+) -> Option<Reply>
+    ensures { TrialPrinted text.now count numbers.now output.new result }
+{
+    let put = put_tried(text, count, numbers, output).transpose()?;
+    Some(Reply::of(put, output))
 }

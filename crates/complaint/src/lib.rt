@@ -1,73 +1,71 @@
-// A refusal in words, as the program says it on standard error: a line made at the end of a room.
+// A refusal in words, as the program says it on standard error.
 #![tactic(auto)]
 
-ghost use Rattle.std.specs.Prelude.{◌≡◌, ◌++◌, ◌+◌, length};
-ghost use Rattle.text.specs.Outcome.{refusal_of};
+ghost use Rattle.std.specs.Prelude.{◌≡◌, ◌++◌, ◌+◌, ◌≤◌, length};
+ghost use Rattle.text.specs.Text.{refusal};
+ghost use Rattle.text.specs.Outcome.{number_of};
 ghost use Rattle.writing.specs.TableText.{digits};
-ghost use Rattle.writing.specs.Room.{Prepended, Space, LineMade};
 ghost use Rattle.complaint.specs.Complaint.{place, complaint, no_step};
 
-use meaning::meaning_before;
-use text::Outcome;
-use writing::{byte_before, digits_before, word_before};
+use meaning::meaning;
+use text::Refused;
+use writing::Line;
 
-const LINE_FEED: u8 = 10;
+const LINE_FEED: u8 = b'\n';
 
 // The longest line's bytes: 12 for the program's name, 35 for the place with two numbers of ten digits, 71 for the longest meaning, and a line feed.
-pub const COMPLAINT_BYTES: usize = 120;
+const COMPLAINT_BYTES: usize = 120;
 
-// A word and a number in front of a place.
-fn named_before(room: &mut [u8], end: usize, word: &[u8], value: u32) -> usize
-    requires { Space (10 + length word.now) room.old end }
-    ensures { Prepended (10 + length word.now) (word.now ++ digits value) room.old end room.new result }
+// Adds a word and a number.
+fn push_named(told: &mut Line<COMPLAINT_BYTES>, word: &[u8], value: u32)
+    requires { length told.old + length word.now + 10 ≤ 120 }
+    ensures added { told.new ≡ told.old ++ (word.now ++ digits value) }
+    ensures short { length (digits value) ≤ 10 }
 {
-    let at = digits_before(room, end, value);
-    word_before(room, at, word)
+    told.push_word(word);
+    told.push_number(value);
 }
 
-// Where a refusal is, in front of a place.
-fn place_before(room: &mut [u8], end: usize, line: u32, field: u32) -> usize
-    requires { Space 35 room.old end }
-    ensures { Prepended 35 (place line field) room.old end room.new result }
+// Adds where a refusal is.
+#[tactic(auto, using(std::proofs::lemmas::Bool::Decides::nat_tests), unfolding(crate::specs::Complaint::place, crate::specs::Complaint::named, meaning::specs::Meaning::bytes))]
+fn push_place(told: &mut Line<COMPLAINT_BYTES>, line: u32, field: u32)
+    requires { length told.old + 35 ≤ 120 }
+    ensures added { told.new ≡ told.old ++ place line field }
+    ensures short { length (place line field) ≤ 35 }
 {
-    if field == 0 {
-        if line == 0 {
-            return end;
-        }
-        let at = word_before(room, end, b": ");
-        return named_before(room, at, b"line ", line);
-    }
-    let at = word_before(room, end, b": ");
-    if line == 0 {
-        return named_before(room, at, b"field ", field);
-    }
-    let between = named_before(room, at, b", field ", field);
-    named_before(room, between, b"line ", line)
-}
-
-// The line that tells an outcome's refusal, at the end of a room of the longest line's bytes; nothing where there is none.
-pub fn complaint_before(room: &mut [u8], outcome: Outcome) -> usize
-    requires { length room.old ≡ 120 }
-    ensures { LineMade (complaint (refusal_of outcome)) room.new result }
-{
-    match outcome {
-        Outcome::Accepted => COMPLAINT_BYTES,
-        Outcome::Refused(r) => {
-            let end = byte_before(room, COMPLAINT_BYTES, LINE_FEED);
-            let why = r.why;
-            let meant = meaning_before(room, end, why);
-            let placed = place_before(room, meant, r.line, r.field);
-            word_before(room, placed, b"stacktable: ")
+    match (line, field) {
+        (0, 0) => return,
+        (_, 0) => push_named(told, b"line ", line),
+        (0, _) => push_named(told, b"field ", field),
+        _ => {
+            push_named(told, b"line ", line);
+            push_named(told, b", field ", field);
         }
     }
+    told.push_word(b": ");
 }
 
-// The line that tells where the program's input is no step of a session, at the end of a room of the longest line's bytes.
-pub fn no_step_before(room: &mut [u8], line: u32) -> usize
-    requires { length room.old ≡ 120 }
-    ensures { LineMade (no_step line) room.new result }
+// The line that tells a refusal.
+#[tactic(auto, using(crate::proofs::Telling::refusal_told), unfolding(meaning::specs::Meaning::bytes))]
+pub fn complaint(refused: Refused) -> Line<COMPLAINT_BYTES>
+    ensures { result ≡ complaint (refusal (number_of refused.why) refused.line refused.field) }
 {
-    let end = byte_before(room, COMPLAINT_BYTES, LINE_FEED);
-    let at = word_before(room, end, b": no step");
-    named_before(room, at, b"stacktable: line ", line)
+    let mut told: Line<COMPLAINT_BYTES> = Line::new();
+    told.push_word(b"stacktable: ");
+    push_place(&mut told, refused.line, refused.field);
+    told.push_word(meaning(refused.why));
+    told.push(LINE_FEED);
+    told
+}
+
+// The line that tells where the program's input is no step of a session.
+#[tactic(auto, unfolding(crate::specs::Complaint::no_step, crate::specs::Complaint::named, meaning::specs::Meaning::bytes))]
+pub fn no_step(line: u32) -> Line<COMPLAINT_BYTES>
+    ensures { result ≡ no_step line }
+{
+    let mut told: Line<COMPLAINT_BYTES> = Line::new();
+    push_named(&mut told, b"stacktable: line ", line);
+    told.push_word(b": no step");
+    told.push(LINE_FEED);
+    told
 }

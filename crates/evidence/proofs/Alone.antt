@@ -7,7 +7,6 @@ use mathlib.Core.List.{List, [], ◌∷◌, ◌++◌}
 use Prim.Native.Nat.{ℕ, zero, suc, ◌-◌}
 use lib.Dec.{leb}
 use lib.ListN.{length, get_or, take, replicate}
-use Rattle.stack.specs.Value.{tracks_of, columns_of}
 use Rattle.numbers.specs.Lists.{tabulate}
 use Rattle.numbers.proofs.Bools.{ands}
 use Rattle.stack.specs.Stack.{Stack}
@@ -21,26 +20,23 @@ use Rattle.answer.proofs.Alone.{total_alone, placement_alone, placement_met, ans
 use Rattle.rows.proofs.Rows.{rows_alone}
 use Rattle.writing.specs.TableText.{table_text}
 use Rattle.trial.specs.Legal.{is_legal}
-use Rattle.reply.specs.Told.{zeros, table_told}
-use Rattle.spread.specs.Answers.{total_told, Totalled, TotalSays, placed_is, PlacedFor, placed, unmet, Placed, PlacementSays}
+use Rattle.reply.specs.Told.{TableResult, zeros, table_told}
+use Rattle.spread.specs.Answers.{TotalResult, PlacementResult, total_in, placed_total, separations_of, positions_of, total_told, Totalled, TotalSays, placed_is, PlacedFor, placed, unmet, Placed, PlacementSays}
 use Rattle.stack_text.specs.StackText.{stack_text}
 use Rattle.session.specs.Promise.{SessionAsText}
 use Rattle.session.proofs.Promises.{session_as_text}
 use Rattle.replay.specs.Replay.{replayed, StepsTotalSays, StepsPlacementSays}
-use Rattle.nabetsu.specs.Entry.{code, numbers, numbers_in, NumbersPut, Fits, Tabled, TableSays, TrialSays}
-use Rattle.reply.specs.declared.PlacementAnswer.{PlacementAnswer}
-use Rattle.reply.specs.declared.TableAnswer.{TableAnswer}
-use Rattle.spread.specs.declared.TotalAnswer.{TotalAnswer}
+use Rattle.nabetsu.specs.Entry.{legal_in, code, numbers, numbers_in, NumbersPut, Fits, Tabled, TableSays, TrialSays}
 use Rattle.page.specs.Page.{channel_page}
 use Rattle.nabetsu.specs.Pages.{Paged, PageSays}
 use Rattle.evidence.specs.Alone.{SameTotal, TotalSaysAlone, TotalCodedAlone, SamePlacement, PlacementSaysAlone, PlacementCodedAlone, StepsTotalSaysAlone, StepsTotalCodedAlone, StepsPlacementSaysAlone, StepsPlacementCodedAlone, SessionSame, SameTable, TableAlone, CodedAlone, PageAlone, PageCodedAlone, TrialAlone, PlacementDrawable, TrialDrawable}
 
 -- THE LEAST TOTAL
-total_told_alone : (f : Refusal) (v : ℕ) (r q : TotalAnswer) → total_told f v r → total_told f v q → SameTotal r q
+total_told_alone : (f : Refusal) (v : ℕ) (r q : TotalResult) → total_told f v r → total_told f v q → SameTotal r q
 unfolding total_told
 total_told_alone f v r q a b = record { refusals = a.0 ∙ sym b.0; totals = a.1 ∙ sym b.1 }
 
-totalled_alone : (n : ℕ) (f : Refusal) (k : Stack) (s : ℕ) (r q : TotalAnswer) → Totalled n f k s r → Totalled n f k s q → SameTotal r q
+totalled_alone : (n : ℕ) (f : Refusal) (k : Stack) (s : ℕ) (r q : TotalResult) → Totalled n f k s r → Totalled n f k s q → SameTotal r q
 unfolding Totalled
 totalled_alone zero f k s r q a b = total_told_alone f b.0 r q (rw (total_alone k s a.0 b.0 a.1 b.1) at a.2) b.2
 totalled_alone (suc n) f k s r q a b = total_told_alone f 0 r q a b
@@ -49,7 +45,7 @@ pub total_says_alone : TotalSaysAlone
 unfolding TotalSaysAlone TotalSays
 total_says_alone bs s r q a b = totalled_alone _ _ (stack_in bs) s r q a b
 
-code_alone : (a c : TotalAnswer) (r q : ℕ) → SameTotal a c → r ≡ code (refusal_of a.outcome) a.total.0 → q ≡ code (refusal_of c.outcome) c.total.0 → r ≡ q
+code_alone : (a c : TotalResult) (r q : ℕ) → SameTotal a c → r ≡ code (refusal_of a) (total_in a) → q ≡ code (refusal_of c) (total_in c) → r ≡ q
 code_alone a c r q e d f = d ∙ (rw (e.refusals, e.totals) (sym f))
 
 pub total_coded_alone : TotalCodedAlone
@@ -58,12 +54,12 @@ total_coded_alone bs s r q a b =
     code_alone a.answer b.answer r q (total_says_alone bs s a.answer b.answer a.says b.says) a.coded b.coded
 
 -- THE PLACEMENT FOR A TOTAL
-placed_alone : (f : Refusal) (v : ℕ) (ts xs : List ℕ) (r q : PlacementAnswer) → placed_is f v ts xs r → placed_is f v ts xs q → SamePlacement r q
+placed_alone : (f : Refusal) (v : ℕ) (ts xs : List ℕ) (r q : PlacementResult) → placed_is f v ts xs r → placed_is f v ts xs q → SamePlacement r q
 unfolding placed_is
 placed_alone f v ts xs r q a b =
     record { refusals = a.0 ∙ sym b.0; totals = a.1 ∙ sym b.1; separations = a.2 ∙ sym b.2; positions = a.3 ∙ sym b.3 }
 
-placed_for_alone : (k : Stack) (s v : ℕ) (r q : PlacementAnswer) → PlacedFor k s v r → PlacedFor k s v q → SamePlacement r q
+placed_for_alone : (k : Stack) (s v : ℕ) (r q : PlacementResult) → PlacedFor k s v r → PlacedFor k s v q → SamePlacement r q
 placed_for_alone k s v r q (placed ts xs a c) (placed us ys b d) =
     let same = placement_alone k s v ts xs us ys a b in
     placed_alone fine v us ys r q (rw (same.0, same.1) at c) d
@@ -71,7 +67,7 @@ placed_for_alone k s v r q (placed ts xs a c) (unmet n d) = absurd (n (placement
 placed_for_alone k s v r q (unmet n c) (placed us ys b d) = absurd (n (placement_met k s v us ys b))
 placed_for_alone k s v r q (unmet n c) (unmet m d) = placed_alone (refusal 10 0 0) 0 [] [] r q c d
 
-placed_or_alone : (n : ℕ) (f : Refusal) (k : Stack) (s v : ℕ) (r q : PlacementAnswer) → Placed n f k s v r → Placed n f k s v q → SamePlacement r q
+placed_or_alone : (n : ℕ) (f : Refusal) (k : Stack) (s v : ℕ) (r q : PlacementResult) → Placed n f k s v r → Placed n f k s v q → SamePlacement r q
 unfolding Placed
 placed_or_alone zero f k s v r q a b = placed_for_alone k s v r q a b
 placed_or_alone (suc n) f k s v r q a b = placed_alone f 0 [] [] r q a b
@@ -80,22 +76,22 @@ pub placement_says_alone : PlacementSaysAlone
 unfolding PlacementSaysAlone PlacementSays
 placement_says_alone bs s v r q a b = placed_or_alone _ _ (stack_in bs) s v r q a b
 
-numbers_alone : (n : ℕ) (r q : PlacementAnswer) → SamePlacement r q → numbers_in n r ≡ numbers_in n q
+numbers_alone : (n : ℕ) (r q : PlacementResult) → SamePlacement r q → numbers_in n r ≡ numbers_in n q
 unfolding numbers_in numbers
 numbers_alone n r q e =
-    let same : r.total.0 ∷ (tracks_of r.separations ++ columns_of r.positions) ≡ q.total.0 ∷ (tracks_of q.separations ++ columns_of q.positions) = rw (e.totals, e.separations, e.positions) in
+    let same : placed_total r ∷ (separations_of r ++ positions_of r) ≡ placed_total q ∷ (separations_of q ++ positions_of q) = rw (e.totals, e.separations, e.positions) in
     ap (λ (ns : List ℕ). tabulate n 0 (λ i. get_or ns i 0)) same
 
 zeros_alone : (o p : List ℕ) → length o ≡ length p → zeros p ≡ zeros o
 unfolding zeros
 zeros_alone o p l = rw l
 
-put_alone : (b : Bool) (a c : PlacementAnswer) (r q : ℕ) (o p x y : List ℕ) → length o ≡ length p → SamePlacement a c → NumbersPut b a r o x → NumbersPut b c q p y → (r ≡ q) × (x ≡ y)
+put_alone : (b : Bool) (a c : PlacementResult) (r q : ℕ) (o p x y : List ℕ) → length o ≡ length p → SamePlacement a c → NumbersPut b a r o x → NumbersPut b c q p y → (r ≡ q) × (x ≡ y)
 unfolding NumbersPut
 put_alone true a c r q o p x y l e d f = (d.0 ∙ rw e.refusals (sym f.0), d.1 ∙ (numbers_alone (length o) a c e ∙ rw l (sym f.1)))
 put_alone false a c r q o p x y l e d f = (d.0 ∙ rw e.refusals (sym f.0), d.1 ∙ sym (f.1 ∙ zeros_alone o p l))
 
-room_put_alone : (a c : PlacementAnswer) (r q : ℕ) (o p x y : List ℕ) → length o ≡ length p → SamePlacement a c → NumbersPut (leb 18 (length o)) a r o x →
+room_put_alone : (a c : PlacementResult) (r q : ℕ) (o p x y : List ℕ) → length o ≡ length p → SamePlacement a c → NumbersPut (leb 18 (length o)) a r o x →
     NumbersPut (leb 18 (length p)) c q p y → (r ≡ q) × (x ≡ y)
 room_put_alone a c r q o p x y l e d f = put_alone (leb 18 (length p)) a c r q o p x y l e (rw l at d) f
 
@@ -133,16 +129,16 @@ session_same k m n s =
     )
 
 -- THE TABLE
-told_alone : (f : Refusal) (w : ℕ) (r q : TableAnswer) (x y z : List ℕ) → table_told f w r → table_told f w q → x ≡ z → y ≡ z → SameTable r q x y
+told_alone : (f : Refusal) (w : ℕ) (r q : TableResult) (x y z : List ℕ) → table_told f w r → table_told f w q → x ≡ z → y ≡ z → SameTable r q x y
 unfolding table_told
 told_alone f w r q x y z a b e h = record { refusals = a.0 ∙ sym b.0; written = a.1 ∙ sym b.1; outputs = e ∙ sym h }
 
-fits_alone : (b : Bool) (t : List ℕ) (r q : TableAnswer) (o p x y : List ℕ) → length o ≡ length p → Fits b t r o x → Fits b t q p y → SameTable r q x y
+fits_alone : (b : Bool) (t : List ℕ) (r q : TableResult) (o p x y : List ℕ) → length o ≡ length p → Fits b t r o x → Fits b t q p y → SameTable r q x y
 unfolding Fits
 fits_alone true t r q o p x y l a b = told_alone _ (length t) r q x y (t ++ replicate (length o - length t) 0) a.0 b.0 a.1 (rw l b.1)
 fits_alone false t r q o p x y l a b = told_alone _ 0 r q x y (zeros o) a.0 b.0 a.1 (b.1 ∙ zeros_alone o p l)
 
-tabled_alone : (n : ℕ) (f : Refusal) (k : Stack) (r q : TableAnswer) (o p x y : List ℕ) → length o ≡ length p → Tabled n f k r o x → Tabled n f k q p y →
+tabled_alone : (n : ℕ) (f : Refusal) (k : Stack) (r q : TableResult) (o p x y : List ℕ) → length o ≡ length p → Tabled n f k r o x → Tabled n f k q p y →
     SameTable r q x y
 unfolding Tabled
 tabled_alone zero f k r q o p x y l a b =
@@ -162,7 +158,7 @@ coded_alone bs r q o p x y l a b =
     (a.coded ∙ (rw (same.refusals, same.written) (sym b.coded)), same.outputs)
 
 -- THE PAGE
-paged_alone : (c : ℕ) (f : Refusal) (k : Stack) (s n : ℕ) (r q : TableAnswer) (o p x y : List ℕ) → length o ≡ length p → Paged c f k s n r o x → Paged c f k s n q p y →
+paged_alone : (c : ℕ) (f : Refusal) (k : Stack) (s n : ℕ) (r q : TableResult) (o p x y : List ℕ) → length o ≡ length p → Paged c f k s n r o x → Paged c f k s n q p y →
     SameTable r q x y
 unfolding Paged
 paged_alone zero f k s n r q o p x y l a b =
@@ -203,5 +199,5 @@ unfolding TrialDrawable TrialSays
 trial_drawable bs s ts xs r z a =
     let k = stack_in bs in
     let rises = within_rising k (accepted_within bs z) in
-    let verdict : r.legal ≡ is_legal k s ts xs = a.1 ∙ rw z in
+    let verdict : legal_in r ≡ is_legal k s ts xs = a.1 ∙ rw z in
     (λ e. legal_placement k s ts xs rises (sym verdict ∙ e), λ d. verdict ∙ placement_legal k s ts xs rises d)

@@ -25,8 +25,8 @@ use Rattle.rows.specs.Walk.{rows_of}
 use Rattle.rows.proofs.Rows.{rows_are, rows_alone}
 use Rattle.writing.specs.TableText.{table_text}
 use Rattle.page.specs.Page.{channel_page}
-use Rattle.reply.specs.Told.{zeros, table_told}
-use Rattle.spread.specs.Answers.{spread_refusal, total_told, Totalled, TotalSays, placed_is, PlacedFor, placed, unmet, Placed, PlacementSays}
+use Rattle.reply.specs.Told.{TableResult, zeros, table_told}
+use Rattle.spread.specs.Answers.{TotalResult, PlacementResult, spread_refusal, total_told, Totalled, TotalSays, placed_is, PlacedFor, placed, unmet, Placed, PlacementSays}
 use Rattle.spread.specs.Single.{one_strip}
 use Rattle.spread.proofs.Spreads.{fine_wide}
 use Rattle.spread.proofs.Single.{only_zero, least_zero, placement_zero}
@@ -39,9 +39,6 @@ use Rattle.nabetsu.specs.Entry.{Fits, Tabled, TableSays}
 use Rattle.nabetsu.specs.Pages.{page_refusal, Paged, PageSays}
 use Rattle.nabetsu.proofs.Pages.{page_answered}
 use Rattle.nabetsu.proofs.Spreads.{spread_within, spread_wide}
-use Rattle.reply.specs.declared.PlacementAnswer.{PlacementAnswer}
-use Rattle.reply.specs.declared.TableAnswer.{TableAnswer}
-use Rattle.spread.specs.declared.TotalAnswer.{TotalAnswer}
 use Rattle.evidence.specs.Replies.{same_refusal, TotalReply, total_is, same_total, total_for, total_reply, steps_total_reply, PlacementReply, placement, same_placement, is_met, if_met, placement_for, placement_reply, steps_placement_reply, TableReply, writes, refuses, same_table, if_fits, table_for, table_reply, page_for, page_reply}
 
 -- WHAT TESTS THE SAME IS THE SAME
@@ -141,10 +138,10 @@ steps_solved bs s e =
     held_solved k s (made_held k (replayed_made bs)) (or_else_fine (replayed bs).refused (session_refusal k s) e).1
 
 -- THE LEAST TOTAL
-abbrev pub totalled : TotalReply → TotalAnswer → Type 0
+abbrev pub totalled : TotalReply → TotalResult → Type 0
 totalled y r = total_told y.refused y.total r
 
-module _ (f : Refusal) (k : Stack) (s : ℕ) (r : TotalAnswer) where
+module _ (f : Refusal) (k : Stack) (s : ℕ) (r : TotalResult) where
   -- where v is the least total, v is told
   pub least_told : (v : ℕ) → LeastTotal k s v → Totalled 0 f k s r ↔ total_told f v r
   unfolding Totalled
@@ -155,21 +152,21 @@ module _ (f : Refusal) (k : Stack) (s : ℕ) (r : TotalAnswer) where
   totalled_replied zero e = least_told (answer_total k s) (e refl).least
   totalled_replied (suc n) e = ((λ a. a), (λ t. t))
 
-pub total_replied : (bs : List ℕ) (s : ℕ) (r : TotalAnswer) → TotalSays bs s r ↔ totalled (total_reply bs s) r
+pub total_replied : (bs : List ℕ) (s : ℕ) (r : TotalResult) → TotalSays bs s r ↔ totalled (total_reply bs s) r
 unfolding TotalSays total_reply
 total_replied bs s r =
     let f = spread_refusal bs s in totalled_replied f (stack_in bs) s r f.number (text_solved bs s)
 
-pub steps_total_replied : (bs : List ℕ) (s : ℕ) (r : TotalAnswer) → StepsTotalSays bs s r ↔ totalled (steps_total_reply bs s) r
+pub steps_total_replied : (bs : List ℕ) (s : ℕ) (r : TotalResult) → StepsTotalSays bs s r ↔ totalled (steps_total_reply bs s) r
 unfolding StepsTotalSays steps_total_reply
 steps_total_replied bs s r =
     let f = steps_refusal bs s in totalled_replied f (replayed bs).held s r f.number (steps_solved bs s)
 
 -- THE PLACEMENT FOR A TOTAL
-abbrev pub replied : PlacementReply → PlacementAnswer → Type 0
+abbrev pub replied : PlacementReply → PlacementResult → Type 0
 replied y r = placed_is y.refused y.total y.separations y.positions r
 
-module _ (k : Stack) (s v : ℕ) (r : PlacementAnswer) where
+module _ (k : Stack) (s v : ℕ) (r : PlacementResult) where
   -- where the total has a placement, that one is told
   met_told : (ts xs : List ℕ) → Placement k s v ts xs → PlacedFor k s v r → placed_is fine v ts xs r
   met_told ts xs p (placed us ys a q) =
@@ -195,21 +192,21 @@ module _ (k : Stack) (s v : ℕ) (r : PlacementAnswer) where
   placed_or_replied zero f e = placed_for_replied (e refl) (is_met k s v) refl
   placed_or_replied (suc n) f e = ((λ a. a), (λ p. p))
 
-pub placement_replied : (bs : List ℕ) (s v : ℕ) (r : PlacementAnswer) → PlacementSays bs s v r ↔ replied (placement_reply bs s v) r
+pub placement_replied : (bs : List ℕ) (s v : ℕ) (r : PlacementResult) → PlacementSays bs s v r ↔ replied (placement_reply bs s v) r
 unfolding PlacementSays placement_reply
 placement_replied bs s v r =
     let f = spread_refusal bs s in placed_or_replied (stack_in bs) s v r f.number f (text_solved bs s)
 
-pub steps_placement_replied : (bs : List ℕ) (s v : ℕ) (r : PlacementAnswer) → StepsPlacementSays bs s v r ↔ replied (steps_placement_reply bs s v) r
+pub steps_placement_replied : (bs : List ℕ) (s v : ℕ) (r : PlacementResult) → StepsPlacementSays bs s v r ↔ replied (steps_placement_reply bs s v) r
 unfolding StepsPlacementSays steps_placement_reply
 steps_placement_replied bs s v r =
     let f = steps_refusal bs s in placed_or_replied (replayed bs).held s v r f.number f (steps_solved bs s)
 
 -- THE TABLE
-abbrev pub tabled : TableReply → TableAnswer → (output : List ℕ) → Type 0
+abbrev pub tabled : TableReply → TableResult → (output : List ℕ) → Type 0
 tabled y r x = table_told y.refused y.written r × (x ≡ y.output)
 
-module _ (r : TableAnswer) (o x : List ℕ) where
+module _ (r : TableResult) (o x : List ℕ) where
   fits_tabled : (b : Bool) (t : List ℕ) → Fits b t r o x → tabled (if_fits b t (length o)) r x
   unfolding Fits if_fits writes refuses zeros
   fits_tabled true t a = a
@@ -236,14 +233,14 @@ module _ (r : TableAnswer) (o x : List ℕ) where
     replied_tabled zero w a = (rows_of k, rows_are k (w refl), tabled_fits (leb (length whole) (length o)) whole a)
     replied_tabled (suc n) w a = a
 
-pub table_replied : (bs : List ℕ) (r : TableAnswer) (o x : List ℕ) → TableSays bs r o x ↔ tabled (table_reply bs (length o)) r x
+pub table_replied : (bs : List ℕ) (r : TableResult) (o x : List ℕ) → TableSays bs r o x ↔ tabled (table_reply bs (length o)) r x
 unfolding TableSays table_reply
 table_replied bs r o x =
     let f = text_refusal bs in
     (tabled_replied r o x f (stack_in bs) f.number (accepted_within bs), replied_tabled r o x f (stack_in bs) f.number (accepted_within bs))
 
 -- A PAGE
-module _ (r : TableAnswer) (o x : List ℕ) (f : Refusal) (k : Stack) (s c : ℕ) where
+module _ (r : TableResult) (o x : List ℕ) (f : Refusal) (k : Stack) (s c : ℕ) where
   whole_page : List ℕ
   whole_page = channel_page k (answer_separations k s) (answer_positions k s) (c - 1)
 
@@ -259,7 +256,7 @@ module _ (r : TableAnswer) (o x : List ℕ) (f : Refusal) (k : Stack) (s c : ℕ
   replied_paged zero there a = (answer_separations k s, answer_positions k s, there refl, tabled_fits r o x (leb (length whole_page) (length o)) whole_page a)
   replied_paged (suc n) there a = a
 
-pub page_replied : (bs : List ℕ) (s c : ℕ) (r : TableAnswer) (o x : List ℕ) → PageSays bs s c r o x ↔ tabled (page_reply bs s c (length o)) r x
+pub page_replied : (bs : List ℕ) (s c : ℕ) (r : TableResult) (o x : List ℕ) → PageSays bs s c r o x ↔ tabled (page_reply bs s c (length o)) r x
 unfolding PageSays page_reply
 page_replied bs s c r o x =
     let f = page_refusal bs s c in

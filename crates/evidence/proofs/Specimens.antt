@@ -12,11 +12,9 @@ use Rattle.numbers.proofs.Bools.{ands, impossible}
 use Rattle.stack.specs.Stack.{Stack}
 use Rattle.text.specs.Text.{Refusal, refusal, text_refusal, stack_in}
 use Rattle.trial.specs.Legal.{is_legal}
-use Rattle.spread.specs.Answers.{spread_refusal, total_told, Totalled, TotalOr, TotalSays, placed_is, Placed, PlacementOr, PlacementSays}
+use Rattle.spread.specs.Answers.{TotalResult, PlacementResult, spread_refusal, total_told, Totalled, TotalOr, TotalSays, placed_is, Placed, PlacementOr, PlacementSays}
 use Rattle.replay.specs.Replay.{replayed, steps_refusal, StepsTotalSays, StepsPlacementSays}
 use Rattle.nabetsu.specs.Entry.{TrialSays}
-use Rattle.reply.specs.declared.PlacementAnswer.{PlacementAnswer}
-use Rattle.spread.specs.declared.TotalAnswer.{TotalAnswer}
 use Rattle.evidence.specs.Replies.{same_refusal, TotalReply, total_is, same_total, total_reply, steps_total_reply, PlacementReply, placement, same_placement, placement_reply, steps_placement_reply, writes, refuses, same_table, table_reply, page_reply}
 use Rattle.evidence.specs.Specimens.{text_shown, page_shown, Specimen, spread_gives, spread_refused, place_gives, place_refused, table_gives, table_refused, trial_gives, trial_refused, page_gives, page_refused, session_gives, session_refused, session_place_gives, session_place_refused, Holds, AllHold, specimens, SpecimensRight}
 use Rattle.evidence.proofs.Opened.{reading, replying, showing, replaying}
@@ -60,17 +58,17 @@ verdicts_equal true false e = sym e
 verdicts_equal false true e = e
 verdicts_equal false false e = refl
 
-total_holds : (P : TotalAnswer → Type 0) (x y : TotalReply) → ((r : TotalAnswer) → P r ↔ totalled x r) → same_total x y ≡ true → (r : TotalAnswer) → P r ↔ totalled y r
+total_holds : (P : TotalResult → Type 0) (x y : TotalReply) → ((r : TotalResult) → P r ↔ totalled x r) → same_total x y ≡ true → (r : TotalResult) → P r ↔ totalled y r
 total_holds P x y h e r = rw (totals_equal x y e) at (h r)
 
-placement_holds : (P : PlacementAnswer → Type 0) (x y : PlacementReply) → ((r : PlacementAnswer) → P r ↔ replied x r) → same_placement x y ≡ true →
-    (r : PlacementAnswer) → P r ↔ replied y r
+placement_holds : (P : PlacementResult → Type 0) (x y : PlacementReply) → ((r : PlacementResult) → P r ↔ replied x r) → same_placement x y ≡ true →
+    (r : PlacementResult) → P r ↔ replied y r
 placement_holds P x y h e r = rw (placements_equal x y e) at (h r)
 
 -- where the spread is refused, the stated total does not count
 refused_holds : (g : Refusal) (k : Stack) (s n l f : ℕ) → not (eqb n 0) ≡ true → same_refusal g (refusal n l f) ≡ true →
-    ((r : TotalAnswer) → TotalOr g k s r ↔ total_told (refusal n l f) 0 r)
-    × ((v : ℕ) (r : PlacementAnswer) → PlacementOr g k s v r ↔ placed_is (refusal n l f) 0 [] [] r)
+    ((r : TotalResult) → TotalOr g k s r ↔ total_told (refusal n l f) 0 r)
+    × ((v : ℕ) (r : PlacementResult) → PlacementOr g k s v r ↔ placed_is (refusal n l f) 0 [] [] r)
 unfolding Totalled Placed refusal
 refused_holds g k s zero l f e same = impossible e
 refused_holds g k s (suc n) l f e same =

@@ -9,7 +9,6 @@ use lib.ListN.{length, replicate}
 use lib.IntN.{pos}
 use borrow.Author.Tests.{eq-eqb}
 use Rattle.numbers.specs.Lists.{padded}
-use Rattle.stack.specs.Value.{tracks_of, columns_of}
 use Rattle.numbers.proofs.Bools.{impossible}
 use Rattle.stack.specs.Stack.{Stack, in_spread, stands, in_window, legal, greatest_of, least_position, first_spread, sum, Answer}
 use Rattle.stack.specs.Limits.{rises_above, rising, all_rising}
@@ -24,18 +23,14 @@ use Rattle.lines.specs.Lines.{same_bytes}
 use Rattle.text.specs.Text.{Refusal, refusal, fine, stack_word, stack_in}
 use Rattle.text.specs.Outcome.{refusal_of}
 use Rattle.reply.specs.Refusals.{narrow_refusal}
-use Rattle.reply.specs.Told.{table_told}
-use Rattle.spread.specs.Answers.{spread_refusal, total_told, Totalled, TotalSays, placed_is, PlacedFor, placed, unmet, Placed, PlacementSays}
+use Rattle.reply.specs.Told.{TableResult, table_told}
+use Rattle.spread.specs.Answers.{TotalResult, PlacementResult, total_in, placed_total, separations_of, positions_of, spread_refusal, total_told, Totalled, TotalSays, placed_is, PlacedFor, placed, unmet, Placed, PlacementSays}
 use Rattle.replay.specs.Replay.{StepsTotalSays}
-use Rattle.nabetsu.specs.Entry.{TableSays, TrialSays}
+use Rattle.nabetsu.specs.Entry.{TrialResult, legal_in, TableSays, TrialSays}
 use Rattle.nabetsu.specs.Best.{TotalBest}
 use Rattle.nabetsu.specs.Pages.{PageSays}
 use Rattle.spread.proofs.Placements.{sum_padded}
 use Rattle.nabetsu.proofs.Spreads.{placement_best}
-use Rattle.reply.specs.declared.PlacementAnswer.{PlacementAnswer}
-use Rattle.reply.specs.declared.TableAnswer.{TableAnswer}
-use Rattle.spread.specs.declared.TotalAnswer.{TotalAnswer}
-use Rattle.nabetsu.specs.declared.TrialAnswer.{TrialAnswer}
 use Rattle.evidence.specs.Specimens.{text_shown, Specimen, spread_gives, spread_refused, place_gives, place_refused, table_gives, table_refused, trial_gives, page_gives, session_gives, session_refused, page_shown, page_a, Holds, AllHold, text_a, table_a, text_b, text_c, table_c, text_d, table_d, text_e, text_held, table_held, text_past, table_past, text_between, text_moved, text_a_4, text_b_3_5, text_512, with_lines, headed, parted, netted, beginning, adding, steps_one, steps_a, added, then_a, nine_strips, specimens, SpecimensRight}
 use Rattle.evidence.proofs.Opened.{reading, replying, showing}
 use Rattle.evidence.proofs.Replies.{least_told, placement_told}
@@ -244,17 +239,17 @@ field_told : (n l f : ℕ) (g : Refusal) → g ≡ refusal n l f → g.field ≡
 unfolding refusal
 field_told n l f g e = ap (λ (h : Refusal). h.field) e
 
-other_separations : (f : Refusal) (v : ℕ) (ts us xs : List ℕ) (r : PlacementAnswer) → same_bytes (padded 8 ts) (padded 8 us) ≡ false →
-    tracks_of r.separations ≡ padded 8 ts → placed_is f v us xs r → ⊥
+other_separations : (f : Refusal) (v : ℕ) (ts us xs : List ℕ) (r : PlacementResult) → same_bytes (padded 8 ts) (padded 8 us) ≡ false →
+    separations_of r ≡ padded 8 ts → placed_is f v us xs r → ⊥
 unfolding placed_is
 other_separations f v ts us xs r d w p = differ (padded 8 ts) (padded 8 us) d (sym w ∙ p.2)
 
 -- FULL PAIR COUNT as every separation: A at spread 100 is drawn with no track, each path one point
-pub full_count_breaks_total : (r : TotalAnswer) → r.total.0 ≡ 2 → TotalSays (text_shown text_a) 100 r → ⊥
+pub full_count_breaks_total : (r : TotalResult) → total_in r ≡ 2 → TotalSays (text_shown text_a) 100 r → ⊥
 unfolding Holds total_told
 full_count_breaks_total r w a = omega (arith, ((a_at_100.0 r).0 a).1)
 
-pub full_count_breaks : (r : PlacementAnswer) → tracks_of r.separations ≡ padded 8 (2 ∷ []) → PlacementSays (text_shown text_a) 100 0 r → ⊥
+pub full_count_breaks : (r : PlacementResult) → separations_of r ≡ padded 8 (2 ∷ []) → PlacementSays (text_shown text_a) 100 0 r → ⊥
 unfolding Holds padded same_bytes
 full_count_breaks r w a = other_separations _ _ (2 ∷ []) (0 ∷ []) _ r refl w ((a_at_100.1 r).0 a)
 
@@ -264,109 +259,109 @@ unfolding reading in_spread stands in_window point paths.same_column paths.same_
 a_drawn =
     record { within = refl; drawn = (omega arith, record { paths = (point (pos 2) 0 ∷ []) ∷ (point (pos 4) 0 ∷ []) ∷ []; led = refl; clear = refl }, refl) }
 
-pub full_count_not_least : (r : TotalAnswer) → r.total.0 ≡ 2 → TotalBest (text_shown text_a) 100 r → ⊥
+pub full_count_not_least : (r : TotalResult) → total_in r ≡ 2 → TotalBest (text_shown text_a) 100 r → ⊥
 unfolding reading spread_refusal narrow_refusal first_spread greatest_of least_position sum
 full_count_not_least r w b = omega (arith, b.none_smaller refl (0 ∷ []) (2 ∷ 0 ∷ []) a_drawn)
 
 -- FIRST ROW RIGHT and then repeated
-pub repeated_row_breaks : (r : TableAnswer) (o x : List ℕ) → length o ≡ 50 →
+pub repeated_row_breaks : (r : TableResult) (o x : List ℕ) → length o ≡ 50 →
     x ≡ text_shown ("TABLE 1" ∷ "ROW 4 3 3 0 0" ∷ "ROW 4 3 3 0 0" ∷ "ROW 4 3 3 0 0" ∷ []) → TableSays (text_shown text_a) r o x → ⊥
 unfolding Holds reading
 repeated_row_breaks r o x l w a = differ _ _ refl (sym w ∙ ((a_in_50 r o x l).0 a).1)
 
 -- THE SAME ROW for all stacks: C's table for D; and no output serves both A and C
-pub same_row_breaks : (r : TableAnswer) (o x : List ℕ) → length o ≡ 50 → x ≡ text_shown table_c ++ replicate 28 0 → TableSays (text_shown text_d) r o x → ⊥
+pub same_row_breaks : (r : TableResult) (o x : List ℕ) → length o ≡ 50 → x ≡ text_shown table_c ++ replicate 28 0 → TableSays (text_shown text_d) r o x → ⊥
 unfolding Holds reading
 same_row_breaks r o x l w a = differ _ _ refl (sym w ∙ ((d_in_50 r o x l).0 a).1)
 
-pub same_output_breaks : (r q : TableAnswer) (o x : List ℕ) → length o ≡ 50 → TableSays (text_shown text_a) r o x → TableSays (text_shown text_c) q o x → ⊥
+pub same_output_breaks : (r q : TableResult) (o x : List ℕ) → length o ≡ 50 → TableSays (text_shown text_a) r o x → TableSays (text_shown text_c) q o x → ⊥
 unfolding Holds reading
 same_output_breaks r q o x l a c = differ _ _ refl (sym ((a_in_50 r o x l).0 a).1 ∙ ((c_in_50 q o x l).0 c).1)
 
 -- A TOTAL that is not its separations' sum, for every text, spread and stated total; and in a row of A's table
-told_sum : (f : Refusal) (v : ℕ) (ts xs : List ℕ) (r : PlacementAnswer) → sum ts ≡ v → placed_is f v ts xs r → r.total.0 ≡ sum (tracks_of r.separations)
+told_sum : (f : Refusal) (v : ℕ) (ts xs : List ℕ) (r : PlacementResult) → sum ts ≡ v → placed_is f v ts xs r → placed_total r ≡ sum (separations_of r)
 unfolding placed_is
 told_sum f v ts xs r e p = p.1 ∙ sym (ap sum p.2 ∙ sum_padded 8 ts ∙ e)
 
-placed_sum : (k : Stack) (s v : ℕ) (r : PlacementAnswer) → PlacedFor k s v r → r.total.0 ≡ sum (tracks_of r.separations)
+placed_sum : (k : Stack) (s v : ℕ) (r : PlacementResult) → PlacedFor k s v r → placed_total r ≡ sum (separations_of r)
 unfolding sum
 placed_sum k s v r (placed ts xs a p) = told_sum fine v ts xs r a.exact p
 placed_sum k s v r (unmet n p) = told_sum (refusal 10 0 0) 0 [] [] r refl p
 
-placed_or_sum : (n : ℕ) (f : Refusal) (k : Stack) (s v : ℕ) (r : PlacementAnswer) → Placed n f k s v r → r.total.0 ≡ sum (tracks_of r.separations)
+placed_or_sum : (n : ℕ) (f : Refusal) (k : Stack) (s v : ℕ) (r : PlacementResult) → Placed n f k s v r → placed_total r ≡ sum (separations_of r)
 unfolding Placed sum
 placed_or_sum zero f k s v r a = placed_sum k s v r a
 placed_or_sum (suc n) f k s v r a = told_sum f 0 [] [] r refl a
 
-pub total_is_sum : (bs : List ℕ) (s v : ℕ) (r : PlacementAnswer) → PlacementSays bs s v r → r.total.0 ≡ sum (tracks_of r.separations)
+pub total_is_sum : (bs : List ℕ) (s v : ℕ) (r : PlacementResult) → PlacementSays bs s v r → placed_total r ≡ sum (separations_of r)
 unfolding PlacementSays
 total_is_sum bs s v r a = placed_or_sum (spread_refusal bs s).number (spread_refusal bs s) (stack_in bs) s v r a
 
-pub other_total_breaks : (bs : List ℕ) (s v : ℕ) (r : PlacementAnswer) → r.total.0 ≡ suc (sum (tracks_of r.separations)) → PlacementSays bs s v r → ⊥
+pub other_total_breaks : (bs : List ℕ) (s v : ℕ) (r : PlacementResult) → placed_total r ≡ suc (sum (separations_of r)) → PlacementSays bs s v r → ⊥
 other_total_breaks bs s v r w a = omega (arith, total_is_sum bs s v r a)
 
-pub other_total_row_breaks : (r : TableAnswer) (o x : List ℕ) → length o ≡ 50 →
+pub other_total_row_breaks : (r : TableResult) (o x : List ℕ) → length o ≡ 50 →
     x ≡ text_shown ("TABLE 1" ∷ "ROW 4 4 3 0 0" ∷ "ROW 5 2 2 1 0" ∷ "ROW 6 0 0 2 0" ∷ []) → TableSays (text_shown text_a) r o x → ⊥
 unfolding Holds reading
 other_total_row_breaks r o x l w a = differ _ _ refl (sym w ∙ ((a_in_50 r o x l).0 a).1)
 
 -- ALL SENT BACK: A is refused neither at spread 100 nor in 50 bytes
-pub sent_back_breaks_total : (r : TotalAnswer) → ((refusal_of r.outcome).number ≡ 0 → ⊥) → TotalSays (text_shown text_a) 100 r → ⊥
+pub sent_back_breaks_total : (r : TotalResult) → ((refusal_of r).number ≡ 0 → ⊥) → TotalSays (text_shown text_a) 100 r → ⊥
 unfolding Holds total_told
 sent_back_breaks_total r w a = w (number_told 0 0 0 _ ((a_at_100.0 r).0 a).0)
 
-pub sent_back_breaks_placement : (r : PlacementAnswer) → ((refusal_of r.outcome).number ≡ 0 → ⊥) → PlacementSays (text_shown text_a) 100 0 r → ⊥
+pub sent_back_breaks_placement : (r : PlacementResult) → ((refusal_of r).number ≡ 0 → ⊥) → PlacementSays (text_shown text_a) 100 0 r → ⊥
 unfolding Holds placed_is
 sent_back_breaks_placement r w a = w (number_told 0 0 0 _ ((a_at_100.1 r).0 a).0)
 
-pub sent_back_breaks_table : (r : TableAnswer) (o x : List ℕ) → length o ≡ 50 → ((refusal_of r.outcome).number ≡ 0 → ⊥) → TableSays (text_shown text_a) r o x → ⊥
+pub sent_back_breaks_table : (r : TableResult) (o x : List ℕ) → length o ≡ 50 → ((refusal_of r).number ≡ 0 → ⊥) → TableSays (text_shown text_a) r o x → ⊥
 unfolding Holds table_told
 sent_back_breaks_table r o x l w a = w (number_told 0 0 0 _ ((a_in_50 r o x l).0 a).0.0)
 
 -- SPACE LEFT UNTOUCHED: behind A's table, where the space is short, and where the text is refused
-pub untouched_behind_breaks : (r : TableAnswer) → TableSays (text_shown text_a) r (replicate 51 255) (text_shown table_a ++ (255 ∷ [])) → ⊥
+pub untouched_behind_breaks : (r : TableResult) → TableSays (text_shown text_a) r (replicate 51 255) (text_shown table_a ++ (255 ∷ [])) → ⊥
 unfolding Holds reading
 untouched_behind_breaks r a = differ _ _ refl ((a_in_51 r (replicate 51 255) _ refl).0 a).1
 
-pub untouched_short_breaks : (r : TableAnswer) → TableSays (text_shown text_a) r (replicate 49 255) (replicate 49 255) → ⊥
+pub untouched_short_breaks : (r : TableResult) → TableSays (text_shown text_a) r (replicate 49 255) (replicate 49 255) → ⊥
 unfolding Holds same_bytes
 untouched_short_breaks r a = differ _ _ refl ((a_in_49 r (replicate 49 255) (replicate 49 255) refl).0 a).1
 
-pub untouched_refused_breaks : (r : TableAnswer) → TableSays (text_shown text_e) r (replicate 50 255) (replicate 50 255) → ⊥
+pub untouched_refused_breaks : (r : TableResult) → TableSays (text_shown text_e) r (replicate 50 255) (replicate 50 255) → ⊥
 unfolding Holds same_bytes
 untouched_refused_breaks r a = differ _ _ refl ((e_in_50 r (replicate 50 255) (replicate 50 255) refl).0 a).1
 
 -- SHORT SPACE said without measuring the table: A's has 50 bytes
-pub short_of_50_breaks : (r : TableAnswer) (o x : List ℕ) → length o ≡ 50 → (refusal_of r.outcome).number ≡ 8 → TableSays (text_shown text_a) r o x → ⊥
+pub short_of_50_breaks : (r : TableResult) (o x : List ℕ) → length o ≡ 50 → (refusal_of r).number ≡ 8 → TableSays (text_shown text_a) r o x → ⊥
 unfolding Holds table_told
 short_of_50_breaks r o x l w a = omega (arith, number_told 0 0 0 _ ((a_in_50 r o x l).0 a).0.0)
 
-pub enough_of_49_breaks : (r : TableAnswer) (o x : List ℕ) → length o ≡ 49 → (refusal_of r.outcome).number ≡ 0 → TableSays (text_shown text_a) r o x → ⊥
+pub enough_of_49_breaks : (r : TableResult) (o x : List ℕ) → length o ≡ 49 → (refusal_of r).number ≡ 0 → TableSays (text_shown text_a) r o x → ⊥
 unfolding Holds table_told
 enough_of_49_breaks r o x l w a = omega (arith, number_told 8 0 0 _ ((a_in_49 r o x l).0 a).0.0)
 
 -- THE ROW'S PLACEMENT REUSED up to the next row: the totals at spreads 2 and 3 are the same, but no one placement serves both
-pub between_totals : (q r : TotalAnswer) → TotalSays (text_shown text_between) 2 q → TotalSays (text_shown text_between) 3 r → q.total.0 ≡ r.total.0
+pub between_totals : (q r : TotalResult) → TotalSays (text_shown text_between) 2 q → TotalSays (text_shown text_between) 3 r → total_in q ≡ total_in r
 unfolding Holds total_told
 between_totals q r a b = ((between_at_2.0 q).0 a).1 ∙ sym ((between_at_3.0 r).0 b).1
 
-pub reused_placement_breaks : (r : PlacementAnswer) → PlacementSays (text_shown text_between) 2 2 r → PlacementSays (text_shown text_between) 3 2 r → ⊥
+pub reused_placement_breaks : (r : PlacementResult) → PlacementSays (text_shown text_between) 2 2 r → PlacementSays (text_shown text_between) 3 2 r → ⊥
 unfolding Holds placed_is padded same_bytes
 reused_placement_breaks r a b = other_separations _ 2 (2 ∷ 0 ∷ []) (0 ∷ 2 ∷ []) (1 ∷ 0 ∷ 0 ∷ []) r refl ((between_at_2.1 r).0 a).2 ((between_at_3.1 r).0 b)
 
 -- EACH CHANNEL'S LEAST SEPARATION ALONE, and added: A is each channel of B by itself
-pub added_alone_breaks : (q r : TotalAnswer) → TotalSays (text_shown text_a) 5 q → r.total.0 ≡ q.total.0 + q.total.0 → TotalSays (text_shown text_b) 5 r → ⊥
+pub added_alone_breaks : (q r : TotalResult) → TotalSays (text_shown text_a) 5 q → total_in r ≡ total_in q + total_in q → TotalSays (text_shown text_b) 5 r → ⊥
 unfolding Holds total_told
 added_alone_breaks q r a w b = omega (arith, ((a_at_5.0 q).0 a).1, ((b_at_5.0 r).0 b).1)
 
 -- A PAGE COUNTED ONE COLUMN EARLY: A's first path runs on track 2 from column 0 on, where document 02's runs on track 1 to column 1
-pub early_count_breaks : (r : TableAnswer) (o x : List ℕ) → length o ≡ 276 →
+pub early_count_breaks : (r : TableResult) (o x : List ℕ) → length o ≡ 276 →
     x ≡ page_shown ("  3 ..o.o" ∷ "  2 +-+.|" ∷ "  1 |.+-+" ∷ "  0 o.o" ∷ []) → PageSays (text_shown text_a) 4 1 r o x → ⊥
 unfolding Holds reading showing
 early_count_breaks r o x l w a = differ _ _ refl (sym w ∙ ((a_page_at_4 r o x l).0 a).1)
 
 -- WITHOUT THE LAST UPRIGHT PIECE: A's paths end on the tracks of their last runs
-pub dropped_piece_breaks : (r : TableAnswer) (o x : List ℕ) → length o ≡ 276 →
+pub dropped_piece_breaks : (r : TableResult) (o x : List ℕ) → length o ≡ 276 →
     x ≡ page_shown ("  3 " ∷ "  2 .+o" ∷ "  1 +++-o" ∷ "  0 o.o" ∷ []) → PageSays (text_shown text_a) 4 1 r o x → ⊥
 unfolding Holds reading showing
 dropped_piece_breaks r o x l w a = differ _ _ refl (sym w ∙ ((a_page_at_4 r o x l).0 a).1)
@@ -377,7 +372,7 @@ a_drawn_at_4 : Drawable (stack_in (text_shown text_a)) 4 (3 ∷ []) (0 ∷ 0 ∷
 unfolding reading replying all_rising rising rises_above
 a_drawn_at_4 = legal_drawable (stack_in (text_shown text_a)) 4 (3 ∷ []) (0 ∷ 0 ∷ []) refl refl
 
-pub smaller_drawn_without_floor : (r : TotalAnswer) → TotalSays (text_shown text_a_4) 4 r → Drawable (stack_in (text_shown text_a)) 4 (3 ∷ []) (0 ∷ 0 ∷ []) × (3 < r.total.0)
+pub smaller_drawn_without_floor : (r : TotalResult) → TotalSays (text_shown text_a_4) 4 r → Drawable (stack_in (text_shown text_a)) 4 (3 ∷ []) (0 ∷ 0 ∷ []) × (3 < total_in r)
 unfolding Holds total_told
 smaller_drawn_without_floor r a = (a_drawn_at_4, omega (arith, ((a_4_at_4.0 r).0 a).1))
 
@@ -385,38 +380,38 @@ pub not_drawn_with_floor : Drawable (stack_in (text_shown text_a_4)) 4 (3 ∷ []
 unfolding reading paths.ChannelsDrawn
 not_drawn_with_floor d = omega (arith, d.drawn.0)
 
-pub floor_ignored_breaks_total : (r : TotalAnswer) → r.total.0 ≡ 3 → TotalSays (text_shown text_a_4) 4 r → ⊥
+pub floor_ignored_breaks_total : (r : TotalResult) → total_in r ≡ 3 → TotalSays (text_shown text_a_4) 4 r → ⊥
 unfolding Holds total_told
 floor_ignored_breaks_total r w a = omega (arith, ((a_4_at_4.0 r).0 a).1)
 
-pub floor_ignored_breaks : (r : PlacementAnswer) → tracks_of r.separations ≡ padded 8 (3 ∷ []) → PlacementSays (text_shown text_a_4) 4 4 r → ⊥
+pub floor_ignored_breaks : (r : PlacementResult) → separations_of r ≡ padded 8 (3 ∷ []) → PlacementSays (text_shown text_a_4) 4 4 r → ⊥
 unfolding Holds padded same_bytes
 floor_ignored_breaks r w a = other_separations _ _ (3 ∷ []) (4 ∷ []) _ r refl w ((a_4_at_4.1 r).0 a)
 
 -- and where the stated total is below the floor
-pub floor_ignored_breaks_below : (r : PlacementAnswer) → tracks_of r.separations ≡ padded 8 (3 ∷ []) → PlacementSays (text_shown text_a_4) 4 3 r → ⊥
+pub floor_ignored_breaks_below : (r : PlacementResult) → separations_of r ≡ padded 8 (3 ∷ []) → PlacementSays (text_shown text_a_4) 4 3 r → ⊥
 unfolding Holds padded same_bytes
 floor_ignored_breaks_below r w a = other_separations _ _ (3 ∷ []) [] _ r refl w ((a_4_4_for_3 r).0 a)
 
 -- THE FLOOR IGNORED IN ONE CHANNEL, the second of B
-pub one_floor_ignored_breaks_total : (r : TotalAnswer) → r.total.0 ≡ 3 → TotalSays (text_shown text_b_3_5) 9 r → ⊥
+pub one_floor_ignored_breaks_total : (r : TotalResult) → total_in r ≡ 3 → TotalSays (text_shown text_b_3_5) 9 r → ⊥
 unfolding Holds total_told
 one_floor_ignored_breaks_total r w a = omega (arith, ((b_3_5_at_9.0 r).0 a).1)
 
-pub one_floor_ignored_breaks : (r : PlacementAnswer) → tracks_of r.separations ≡ padded 8 (3 ∷ 0 ∷ []) → PlacementSays (text_shown text_b_3_5) 9 8 r → ⊥
+pub one_floor_ignored_breaks : (r : PlacementResult) → separations_of r ≡ padded 8 (3 ∷ 0 ∷ []) → PlacementSays (text_shown text_b_3_5) 9 8 r → ⊥
 unfolding Holds padded same_bytes
 one_floor_ignored_breaks r w a = other_separations _ _ (3 ∷ 0 ∷ []) (3 ∷ 5 ∷ []) _ r refl w ((b_3_5_at_9.1 r).0 a)
 
-pub one_floor_ignored_breaks_below : (r : PlacementAnswer) → tracks_of r.separations ≡ padded 8 (3 ∷ 4 ∷ []) → PlacementSays (text_shown text_b_3_5) 9 7 r → ⊥
+pub one_floor_ignored_breaks_below : (r : PlacementResult) → separations_of r ≡ padded 8 (3 ∷ 4 ∷ []) → PlacementSays (text_shown text_b_3_5) 9 7 r → ⊥
 unfolding Holds padded same_bytes
 one_floor_ignored_breaks_below r w a = other_separations _ _ (3 ∷ 4 ∷ []) [] _ r refl w ((b_3_5_for_7 r).0 a)
 
 -- THE FLOOR ADDED to the separation that the pairs need: 3 and 4
-pub floor_added_breaks_total : (r : TotalAnswer) → r.total.0 ≡ 7 → TotalSays (text_shown text_a_4) 4 r → ⊥
+pub floor_added_breaks_total : (r : TotalResult) → total_in r ≡ 7 → TotalSays (text_shown text_a_4) 4 r → ⊥
 unfolding Holds total_told
 floor_added_breaks_total r w a = omega (arith, ((a_4_at_4.0 r).0 a).1)
 
-pub floor_added_breaks : (r : PlacementAnswer) → tracks_of r.separations ≡ padded 8 (7 ∷ []) → PlacementSays (text_shown text_a_4) 4 4 r → ⊥
+pub floor_added_breaks : (r : PlacementResult) → separations_of r ≡ padded 8 (7 ∷ []) → PlacementSays (text_shown text_a_4) 4 4 r → ⊥
 unfolding Holds padded same_bytes
 floor_added_breaks r w a = other_separations _ _ (7 ∷ []) (4 ∷ []) _ r refl w ((a_4_at_4.1 r).0 a)
 
@@ -434,35 +429,35 @@ greatest_total =
     )
 
 -- A TOTAL ABOVE THE LEAST from least_total
-pub greater_total_breaks : (r : TotalAnswer) → 3 < r.total.0 → TotalSays (text_shown text_b) 6 r → ⊥
+pub greater_total_breaks : (r : TotalResult) → 3 < total_in r → TotalSays (text_shown text_b) 6 r → ⊥
 unfolding Holds total_told
 greater_total_breaks r w a = omega (arith, ((b_at_6.0 r).0 a).1)
 
 -- THE STATED TOTAL IGNORED: no one placement serves totals 3 and 4
-pub ignored_total_breaks : (r : PlacementAnswer) → PlacementSays (text_shown text_b) 6 3 r → PlacementSays (text_shown text_b) 6 4 r → ⊥
+pub ignored_total_breaks : (r : PlacementResult) → PlacementSays (text_shown text_b) 6 3 r → PlacementSays (text_shown text_b) 6 4 r → ⊥
 unfolding Holds placed_is
 ignored_total_breaks r a b = omega (arith, ((b_at_6.1 r).0 a).1, ((b_6_for_4 r).0 b).1)
 
 -- A PLACEMENT WITH ANOTHER TOTAL than the stated one, for every text, spread and stated total
-pub other_than_stated_breaks : (bs : List ℕ) (s v : ℕ) (r : PlacementAnswer) → (refusal_of r.outcome).number ≡ 0 → (sum (tracks_of r.separations) ≡ v → ⊥) →
+pub other_than_stated_breaks : (bs : List ℕ) (s v : ℕ) (r : PlacementResult) → (refusal_of r).number ≡ 0 → (sum (separations_of r) ≡ v → ⊥) →
     PlacementSays bs s v r → ⊥
 other_than_stated_breaks bs s v r z w a = w ((placement_best bs s v r a).total_is z).1
 
 -- OTHER SEPARATIONS FOR TOTAL 4 than 0 and 4, B at spread 6: a placement with a smaller total, and two that are legal and have that total, but are later
-other_for_4_breaks : (ts : List ℕ) (r : PlacementAnswer) → same_bytes (padded 8 ts) (padded 8 (0 ∷ 4 ∷ [])) ≡ false → tracks_of r.separations ≡ padded 8 ts →
+other_for_4_breaks : (ts : List ℕ) (r : PlacementResult) → same_bytes (padded 8 ts) (padded 8 (0 ∷ 4 ∷ [])) ≡ false → separations_of r ≡ padded 8 ts →
     PlacementSays (text_shown text_b) 6 4 r → ⊥
 unfolding Holds
 other_for_4_breaks ts r d w a = other_separations _ _ ts (0 ∷ 4 ∷ []) _ r d w ((b_6_for_4 r).0 a)
 
-pub smaller_total_breaks : (r : PlacementAnswer) → tracks_of r.separations ≡ padded 8 (0 ∷ 3 ∷ []) → PlacementSays (text_shown text_b) 6 4 r → ⊥
+pub smaller_total_breaks : (r : PlacementResult) → separations_of r ≡ padded 8 (0 ∷ 3 ∷ []) → PlacementSays (text_shown text_b) 6 4 r → ⊥
 unfolding padded same_bytes
 smaller_total_breaks r w a = other_for_4_breaks (0 ∷ 3 ∷ []) r refl w a
 
-pub surplus_in_first_breaks : (r : PlacementAnswer) → tracks_of r.separations ≡ padded 8 (4 ∷ 0 ∷ []) → PlacementSays (text_shown text_b) 6 4 r → ⊥
+pub surplus_in_first_breaks : (r : PlacementResult) → separations_of r ≡ padded 8 (4 ∷ 0 ∷ []) → PlacementSays (text_shown text_b) 6 4 r → ⊥
 unfolding padded same_bytes
 surplus_in_first_breaks r w a = other_for_4_breaks (4 ∷ 0 ∷ []) r refl w a
 
-pub surplus_added_first_breaks : (r : PlacementAnswer) → tracks_of r.separations ≡ padded 8 (1 ∷ 3 ∷ []) → PlacementSays (text_shown text_b) 6 4 r → ⊥
+pub surplus_added_first_breaks : (r : PlacementResult) → separations_of r ≡ padded 8 (1 ∷ 3 ∷ []) → PlacementSays (text_shown text_b) 6 4 r → ⊥
 unfolding padded same_bytes
 surplus_added_first_breaks r w a = other_for_4_breaks (1 ∷ 3 ∷ []) r refl w a
 
@@ -472,7 +467,7 @@ unfolding reading replying
 later_legal = (refl, refl)
 
 -- THE SURPLUS ADDED TO THE ANSWER'S LAST SEPARATION: legal, but for one track more a smaller first separation serves
-pub surplus_added_last_breaks : (r : PlacementAnswer) → tracks_of r.separations ≡ padded 8 (2 ∷ 1 ∷ []) → PlacementSays (text_shown text_moved) 2 3 r → ⊥
+pub surplus_added_last_breaks : (r : PlacementResult) → separations_of r ≡ padded 8 (2 ∷ 1 ∷ []) → PlacementSays (text_shown text_moved) 2 3 r → ⊥
 unfolding Holds padded same_bytes
 surplus_added_last_breaks r w a = other_separations _ _ (2 ∷ 1 ∷ []) (0 ∷ 3 ∷ []) _ r refl w ((moved_for_3 r).0 a)
 
@@ -481,7 +476,7 @@ unfolding reading replying
 surplus_added_last_legal = refl
 
 -- THE ANSWER'S POSITIONS KEPT: legal for a greater total too, but later
-pub kept_positions_breaks : (r : PlacementAnswer) → columns_of r.positions ≡ padded 9 (1 ∷ 0 ∷ []) → PlacementSays (text_shown text_a) 5 3 r → ⊥
+pub kept_positions_breaks : (r : PlacementResult) → positions_of r ≡ padded 9 (1 ∷ 0 ∷ []) → PlacementSays (text_shown text_a) 5 3 r → ⊥
 unfolding Holds placed_is padded same_bytes
 kept_positions_breaks r w a = differ (padded 9 (1 ∷ 0 ∷ [])) (padded 9 (0 ∷ 0 ∷ [])) refl (sym w ∙ ((a_5_for_3 r).0 a).3)
 
@@ -490,35 +485,35 @@ unfolding reading replying
 kept_positions_legal = refl
 
 -- THE LEAST TOTAL REFUSED, and a total below it not refused
-pub least_refused_breaks : (r : PlacementAnswer) → (refusal_of r.outcome).number ≡ 10 → PlacementSays (text_shown text_b) 6 3 r → ⊥
+pub least_refused_breaks : (r : PlacementResult) → (refusal_of r).number ≡ 10 → PlacementSays (text_shown text_b) 6 3 r → ⊥
 unfolding Holds placed_is
 least_refused_breaks r w a = omega (arith, number_told 0 0 0 _ ((b_at_6.1 r).0 a).0)
 
-pub below_not_refused_breaks : (r : PlacementAnswer) → (refusal_of r.outcome).number ≡ 0 → PlacementSays (text_shown text_b) 6 2 r → ⊥
+pub below_not_refused_breaks : (r : PlacementResult) → (refusal_of r).number ≡ 0 → PlacementSays (text_shown text_b) 6 2 r → ⊥
 unfolding Holds placed_is
 below_not_refused_breaks r w a = omega (arith, number_told 10 0 0 _ ((b_6_for_2 r).0 a).0)
 
 -- 9 BEFORE 10, and 9 at all: a spread above 63 is too broad for a page alone
-pub broad_first_breaks : (r : PlacementAnswer) → (refusal_of r.outcome).number ≡ 9 → PlacementSays (text_shown text_a_4) 100 3 r → ⊥
+pub broad_first_breaks : (r : PlacementResult) → (refusal_of r).number ≡ 9 → PlacementSays (text_shown text_a_4) 100 3 r → ⊥
 unfolding Holds placed_is
 broad_first_breaks r w a = omega (arith, number_told 10 0 0 _ ((a_4_100_for_3 r).0 a).0)
 
-pub broad_breaks : (r : PlacementAnswer) → (refusal_of r.outcome).number ≡ 9 → PlacementSays (text_shown text_a) 100 7 r → ⊥
+pub broad_breaks : (r : PlacementResult) → (refusal_of r).number ≡ 9 → PlacementSays (text_shown text_a) 100 7 r → ⊥
 unfolding Holds placed_is
 broad_breaks r w a = omega (arith, number_told 0 0 0 _ ((a_100_for_7 r).0 a).0)
 
 -- 10 BEFORE 7, and before a refusal of the text, whatever the total
-pub unmet_before_narrow_breaks : (v : ℕ) (r : PlacementAnswer) → (refusal_of r.outcome).number ≡ 10 → PlacementSays (text_shown text_a) 3 v r → ⊥
+pub unmet_before_narrow_breaks : (v : ℕ) (r : PlacementResult) → (refusal_of r).number ≡ 10 → PlacementSays (text_shown text_a) 3 v r → ⊥
 unfolding Holds placed_is
 unmet_before_narrow_breaks v r w a = omega (arith, number_told 7 0 0 _ ((a_at_3.1 v r).0 a).0)
 
-pub unmet_before_text_breaks : (v : ℕ) (r : PlacementAnswer) → (refusal_of r.outcome).number ≡ 10 → PlacementSays (text_shown text_e) 100 v r → ⊥
+pub unmet_before_text_breaks : (v : ℕ) (r : PlacementResult) → (refusal_of r).number ≡ 10 → PlacementSays (text_shown text_e) 100 v r → ⊥
 unfolding Holds placed_is
 unmet_before_text_breaks v r w a = omega (arith, number_told 2 1 0 _ ((e_at_100.1 v r).0 a).0)
 
 -- THE FORMER RULE'S ANSWERS: A's row at spread 4 had a track less, with horizontal steps on track 0. Its placement is not legal, a trial says so, and no paths of
 -- any kind draw it; nor is its total the least one, nor its table the table
-pub former_placement_tried : (r : TrialAnswer) → TrialSays (text_shown text_a) 4 (padded 8 (2 ∷ [])) (padded 9 (0 ∷ 0 ∷ [])) r → r.legal ≡ false
+pub former_placement_tried : (r : TrialResult) → TrialSays (text_shown text_a) 4 (padded 8 (2 ∷ [])) (padded 9 (0 ∷ 0 ∷ [])) r → legal_in r ≡ false
 unfolding Holds
 former_placement_tried r a = ((a_former_at_4 r).0 a).1
 
@@ -526,17 +521,17 @@ pub former_placement_not_drawn : Drawable (stack_in (text_shown text_a)) 4 (2 �
 unfolding reading replying all_rising rising rises_above
 former_placement_not_drawn d = impossible (drawable_legal (stack_in (text_shown text_a)) 4 (2 ∷ []) (0 ∷ 0 ∷ []) refl d)
 
-pub former_total_breaks : (r : TotalAnswer) → r.total.0 ≡ 2 → TotalSays (text_shown text_a) 4 r → ⊥
+pub former_total_breaks : (r : TotalResult) → total_in r ≡ 2 → TotalSays (text_shown text_a) 4 r → ⊥
 unfolding Holds total_told
 former_total_breaks r w a = omega (arith, ((a_at_4.0 r).0 a).1)
 
-pub former_table_breaks : (r : TableAnswer) (o x : List ℕ) → length o ≡ 50 →
+pub former_table_breaks : (r : TableResult) (o x : List ℕ) → length o ≡ 50 →
     x ≡ text_shown ("TABLE 1" ∷ "ROW 4 2 2 0 0" ∷ "ROW 5 1 1 1 0" ∷ "ROW 6 0 0 2 0" ∷ []) → TableSays (text_shown text_a) r o x → ⊥
 unfolding Holds reading
 former_table_breaks r o x l w a = differ _ _ refl (sym w ∙ ((a_in_50 r o x l).0 a).1)
 
 -- A SHIFT BY TWO: legal, but a track too tall
-pub track_too_tall_breaks : (r : TotalAnswer) → r.total.0 ≡ 4 → TotalSays (text_shown text_a) 4 r → ⊥
+pub track_too_tall_breaks : (r : TotalResult) → total_in r ≡ 4 → TotalSays (text_shown text_a) 4 r → ⊥
 unfolding Holds total_told
 track_too_tall_breaks r w a = omega (arith, ((a_at_4.0 r).0 a).1)
 
@@ -545,106 +540,106 @@ unfolding reading replying
 track_too_tall_legal = refl
 
 -- THE FLOOR SHIFTED TOO, so that a floor of 4 asks for separation 5
-pub floor_shifted_breaks : (r : TotalAnswer) → r.total.0 ≡ 5 → TotalSays (text_shown text_a_4) 4 r → ⊥
+pub floor_shifted_breaks : (r : TotalResult) → total_in r ≡ 5 → TotalSays (text_shown text_a_4) 4 r → ⊥
 unfolding Holds total_told
 floor_shifted_breaks r w a = omega (arith, ((a_4_at_4.0 r).0 a).1)
 
 -- A PAGE WITHOUT THE UPRIGHT STEP: A's paths begin on track 1, or run on track 0 and reach a track more at the end
-pub step_left_out_breaks : (r : TableAnswer) (o x : List ℕ) → length o ≡ 276 →
+pub step_left_out_breaks : (r : TableResult) (o x : List ℕ) → length o ≡ 276 →
     x ≡ page_shown ("  3 ..o.o" ∷ "  2 .++.|" ∷ "  1 o+o-+" ∷ "  0 " ∷ []) → PageSays (text_shown text_a) 4 1 r o x → ⊥
 unfolding Holds reading showing
 step_left_out_breaks r o x l w a = differ _ _ refl (sym w ∙ ((a_page_at_4 r o x l).0 a).1)
 
-pub runs_on_edge_breaks : (r : TableAnswer) (o x : List ℕ) → length o ≡ 276 →
+pub runs_on_edge_breaks : (r : TableResult) (o x : List ℕ) → length o ≡ 276 →
     x ≡ page_shown ("  3 ..o.o" ∷ "  2 ..|.|" ∷ "  1 .++.|" ∷ "  0 o+o-+" ∷ []) → PageSays (text_shown text_a) 4 1 r o x → ⊥
 unfolding Holds reading showing
 runs_on_edge_breaks r o x l w a = differ _ _ refl (sym w ∙ ((a_page_at_4 r o x l).0 a).1)
 
 -- LAYOUT IN ANOTHER ORDER: the count before the ending (the word STACK unended, and nothing else) and before the word, and the numbers before the count
-pub ending_after_count_breaks : (r : TotalAnswer) → (refusal_of r.outcome).number ≡ 11 → TotalSays stack_word 100 r → ⊥
+pub ending_after_count_breaks : (r : TotalResult) → (refusal_of r).number ≡ 11 → TotalSays stack_word 100 r → ⊥
 unfolding reading spread_refusal TotalSays Totalled total_told
 ending_after_count_breaks r w a = omega (arith, number_told 2 1 0 _ a.0)
 
-pub word_after_count_breaks : (r : TotalAnswer) → (refusal_of r.outcome).number ≡ 11 → TotalSays (text_shown (headed "STOCK 1 1")) 100 r → ⊥
+pub word_after_count_breaks : (r : TotalResult) → (refusal_of r).number ≡ 11 → TotalSays (text_shown (headed "STOCK 1 1")) 100 r → ⊥
 unfolding Holds total_told
 word_after_count_breaks r w a = omega (arith, number_told 2 1 0 _ ((stock_at_100.0 r).0 a).0)
 
-pub numbers_first_breaks : (r : TotalAnswer) → (refusal_of r.outcome).number ≡ 12 → TotalSays (text_shown (headed "STACK 01 1")) 100 r → ⊥
+pub numbers_first_breaks : (r : TotalResult) → (refusal_of r).number ≡ 12 → TotalSays (text_shown (headed "STACK 01 1")) 100 r → ⊥
 unfolding Holds total_told
 numbers_first_breaks r w a = omega (arith, number_told 11 1 3 _ ((zero_one_at_100.0 r).0 a).0)
 
 -- ANOTHER FIELD: the last of three extra ones, 7, and the odd terminal's own
-pub last_extra_breaks : (r : TotalAnswer) → (refusal_of r.outcome).field ≡ 7 → TotalSays (text_shown (parted "PART 4 4 4 4 4 4")) 100 r → ⊥
+pub last_extra_breaks : (r : TotalResult) → (refusal_of r).field ≡ 7 → TotalSays (text_shown (parted "PART 4 4 4 4 4 4")) 100 r → ⊥
 unfolding Holds total_told
 last_extra_breaks r w a = omega (arith, field_told 11 2 5 _ ((three_extra_at_100.0 r).0 a).0)
 
-pub own_field_breaks : (r : TotalAnswer) → (refusal_of r.outcome).field ≡ 4 → TotalSays (text_shown (netted "NETS 0 2 2")) 100 r → ⊥
+pub own_field_breaks : (r : TotalResult) → (refusal_of r).field ≡ 4 → TotalSays (text_shown (netted "NETS 0 2 2")) 100 r → ⊥
 unfolding Holds total_told
 own_field_breaks r w a = omega (arith, field_told 11 4 5 _ ((partner_at_100.0 r).0 a).0)
 
 -- ONE NUMBER FOR ALL of layout, as before P5
-pub one_number_breaks : (r : TotalAnswer) → (refusal_of r.outcome).number ≡ 2 → TotalSays (text_shown (netted "NETS 0 2 2")) 100 r → ⊥
+pub one_number_breaks : (r : TotalResult) → (refusal_of r).number ≡ 2 → TotalSays (text_shown (netted "NETS 0 2 2")) 100 r → ⊥
 unfolding Holds total_told
 one_number_breaks r w a = omega (arith, number_told 11 4 5 _ ((partner_at_100.0 r).0 a).0)
 
 -- SESSIONS. THE CHANNEL BEFORE THE LENGTH: an odd list, 11
-pub channel_first_breaks : (r : TotalAnswer) → (refusal_of r.outcome).number ≡ 11 → StepsTotalSays (text_shown (added "PART 1001" "NETS 0")) 4 r → ⊥
+pub channel_first_breaks : (r : TotalResult) → (refusal_of r).number ≡ 11 → StepsTotalSays (text_shown (added "PART 1001" "NETS 0")) 4 r → ⊥
 unfolding Holds total_told
 channel_first_breaks r w a = omega (arith, number_told 4 0 2 _ ((long_and_odd_at_4.0 r).0 a).0)
 
 -- A REFUSED ADD THAT KEEPS THE STRIP: the total is then that of strips 4, 5 and 4, as where the channel is good
-pub refused_strip_kept_breaks : (r : TotalAnswer) → r.total.0 ≡ 3 → StepsTotalSays (text_shown (then_a "PART 5" "NETS 5 5")) 5 r → ⊥
+pub refused_strip_kept_breaks : (r : TotalResult) → total_in r ≡ 3 → StepsTotalSays (text_shown (then_a "PART 5" "NETS 5 5")) 5 r → ⊥
 unfolding Holds total_told
 refused_strip_kept_breaks r w a = omega (arith, ((behind_refused_at_5.0 r).0 a).1)
 
 -- A TENTH STRIP'S NUMBERS FIRST: its length, 4
-pub tenth_numbers_first_breaks : (r : TotalAnswer) → (refusal_of r.outcome).number ≡ 4 → StepsTotalSays (text_shown (adding nine_strips "PART 1001" "NETS")) 1 r → ⊥
+pub tenth_numbers_first_breaks : (r : TotalResult) → (refusal_of r).number ≡ 4 → StepsTotalSays (text_shown (adding nine_strips "PART 1001" "NETS")) 1 r → ⊥
 unfolding Holds total_told
 tenth_numbers_first_breaks r w a = omega (arith, number_told 3 0 0 _ ((tenth_at_1.0 r).0 a).0)
 
 -- A REFUSED BEGINNING THAT KEEPS THE OLD SESSION: A, whose top strip can be taken off
-pub refused_begin_kept_breaks : (r : TotalAnswer) → (refusal_of r.outcome).number ≡ 0 →
+pub refused_begin_kept_breaks : (r : TotalResult) → (refusal_of r).number ≡ 0 →
     StepsTotalSays (text_shown (with_lines steps_a (with_lines (beginning "PART 1001") ("OFF" ∷ [])))) 4 r → ⊥
 unfolding Holds total_told
 refused_begin_kept_breaks r w a = omega (arith, number_told 13 0 0 _ ((off_begun_at_4.0 r).0 a).0)
 
 -- A TERMINAL'S FIELD OFF BY ONE: the third terminal is in field 4
-pub field_off_by_one_breaks : (r : TotalAnswer) → (refusal_of r.outcome).field ≡ 3 → StepsTotalSays (text_shown (added "PART 4" "NETS 0 0 5 1")) 4 r → ⊥
+pub field_off_by_one_breaks : (r : TotalResult) → (refusal_of r).field ≡ 3 → StepsTotalSays (text_shown (added "PART 4" "NETS 0 0 5 1")) 4 r → ⊥
 unfolding Holds total_told
 field_off_by_one_breaks r w a = omega (arith, field_told 5 0 4 _ ((third_terminal_at_4.0 r).0 a).0)
 
 -- ONE STRIP REFUSED as if the session were empty
-pub single_refused_breaks : (r : TotalAnswer) → (refusal_of r.outcome).number ≡ 13 → StepsTotalSays (text_shown steps_one) 4 r → ⊥
+pub single_refused_breaks : (r : TotalResult) → (refusal_of r).number ≡ 13 → StepsTotalSays (text_shown steps_one) 4 r → ⊥
 unfolding Holds total_told
 single_refused_breaks r w a = omega (arith, number_told 0 0 0 _ ((one_strip_at_4.0 r).0 a).0)
 
 -- WINDOWS. THE LAST POSITION of a window not allowed, and a strip allowed to its left
-pub last_position_breaks : (r : TrialAnswer) → r.legal ≡ false → TrialSays (text_shown text_held) 7 (padded 8 (3 ∷ [])) (padded 9 (3 ∷ 0 ∷ [])) r → ⊥
+pub last_position_breaks : (r : TrialResult) → legal_in r ≡ false → TrialSays (text_shown text_held) 7 (padded 8 (3 ∷ [])) (padded 9 (3 ∷ 0 ∷ [])) r → ⊥
 unfolding Holds
 last_position_breaks r w a = impossible (sym w ∙ ((held_last_at_7 r).0 a).1)
 
-pub window_ignored_breaks : (r : TrialAnswer) → r.legal ≡ true → TrialSays (text_shown text_held) 5 (padded 8 (3 ∷ [])) (padded 9 (0 ∷ 0 ∷ [])) r → ⊥
+pub window_ignored_breaks : (r : TrialResult) → legal_in r ≡ true → TrialSays (text_shown text_held) 5 (padded 8 (3 ∷ [])) (padded 9 (0 ∷ 0 ∷ [])) r → ⊥
 unfolding Holds
 window_ignored_breaks r w a = impossible (sym ((held_left_at_5 r).0 a).1 ∙ w)
 
 -- THE FIRST ROW at the longest strip, as where the least position is ignored
-pub first_row_at_longest_breaks : (r : TableAnswer) (o x : List ℕ) → length o ≡ 50 →
+pub first_row_at_longest_breaks : (r : TableResult) (o x : List ℕ) → length o ≡ 50 →
     x ≡ text_shown table_a → TableSays (text_shown text_held) r o x → ⊥
 unfolding Holds reading
 first_row_at_longest_breaks r o x l w a = differ _ _ refl (sym w ∙ ((held_in_50 r o x l).0 a).1)
 
 -- A ROW SKIPPED, as where an end that grows is counted as held; and no row past the lengths together
-pub row_skipped_breaks : (r : TableAnswer) (o x : List ℕ) → length o ≡ 60 →
+pub row_skipped_breaks : (r : TableResult) (o x : List ℕ) → length o ≡ 60 →
     x ≡ text_shown ("TABLE 1" ∷ "ROW 12 3 3 5 8" ∷ "ROW 14 0 0 10 8" ∷ []) ++ replicate 22 0 → TableSays (text_shown text_past) r o x → ⊥
 unfolding Holds reading
 row_skipped_breaks r o x l w a = differ _ _ refl (sym w ∙ ((past_in_60 r o x l).0 a).1)
 
-pub tail_cut_breaks : (r : TableAnswer) (o x : List ℕ) → length o ≡ 60 →
+pub tail_cut_breaks : (r : TableResult) (o x : List ℕ) → length o ≡ 60 →
     x ≡ text_shown ("TABLE 1" ∷ "ROW 12 3 3 5 8" ∷ []) ++ replicate 37 0 → TableSays (text_shown text_past) r o x → ⊥
 unfolding Holds reading
 tail_cut_breaks r o x l w a = differ _ _ refl (sym w ∙ ((past_in_60 r o x l).0 a).1)
 
 -- 14 BEFORE 4
-pub window_before_length_breaks : (r : TotalAnswer) → (refusal_of r.outcome).number ≡ 14 → TotalSays (text_shown (parted "PART 0 3 2")) 100 r → ⊥
+pub window_before_length_breaks : (r : TotalResult) → (refusal_of r).number ≡ 14 → TotalSays (text_shown (parted "PART 0 3 2")) 100 r → ⊥
 unfolding Holds total_told
 window_before_length_breaks r w a = omega (arith, number_told 4 2 2 _ ((short_inverted_at_100.0 r).0 a).0)

@@ -7,15 +7,11 @@ use Prim.Native.String.{String, [] as end_of, ◌∷◌ as ◌then◌}
 use Rattle.numbers.specs.Lists.{padded}
 use Rattle.text.specs.Text.{refusal}
 use Rattle.text.specs.Outcome.{refusal_of}
-use Rattle.reply.specs.Told.{table_told}
-use Rattle.spread.specs.Answers.{total_told, TotalSays, placed_is, PlacementSays}
+use Rattle.reply.specs.Told.{TableResult, table_told}
+use Rattle.spread.specs.Answers.{TotalResult, PlacementResult, total_told, TotalSays, placed_is, PlacementSays}
 use Rattle.replay.specs.Replay.{StepsTotalSays, StepsPlacementSays}
-use Rattle.nabetsu.specs.Entry.{TableSays, TrialSays}
+use Rattle.nabetsu.specs.Entry.{TrialResult, legal_in, TableSays, TrialSays}
 use Rattle.nabetsu.specs.Pages.{PageSays}
-use Rattle.reply.specs.declared.PlacementAnswer.{PlacementAnswer}
-use Rattle.reply.specs.declared.TableAnswer.{TableAnswer}
-use Rattle.spread.specs.declared.TotalAnswer.{TotalAnswer}
-use Rattle.nabetsu.specs.declared.TrialAnswer.{TrialAnswer}
 
 -- TEXTS as document 01 prints them: a list of lines, tabs shown as spaces
 unfoldable pub byte_shown : (code : ℕ) → ℕ
@@ -59,37 +55,37 @@ pub data Specimen : Type 0 where
 -- what a specimen says of an entry: a result is promised exactly if it is the reply
 unfoldable pub Holds : Specimen → Type 0
 Holds (spread_gives t s v ts xs) =
-    ((r : TotalAnswer) → TotalSays (text_shown t) s r ↔ total_told (refusal 0 0 0) v r)
-    × ((r : PlacementAnswer) → PlacementSays (text_shown t) s v r ↔ placed_is (refusal 0 0 0) v ts xs r)
+    ((r : TotalResult) → TotalSays (text_shown t) s r ↔ total_told (refusal 0 0 0) v r)
+    × ((r : PlacementResult) → PlacementSays (text_shown t) s v r ↔ placed_is (refusal 0 0 0) v ts xs r)
 Holds (spread_refused t s n l f) =
-    ((r : TotalAnswer) → TotalSays (text_shown t) s r ↔ total_told (refusal n l f) 0 r)
-    × ((v : ℕ) (r : PlacementAnswer) → PlacementSays (text_shown t) s v r ↔ placed_is (refusal n l f) 0 [] [] r)
-Holds (place_gives t s v ts xs) = (r : PlacementAnswer) → PlacementSays (text_shown t) s v r ↔ placed_is (refusal 0 0 0) v ts xs r
-Holds (place_refused t s v n l f) = (r : PlacementAnswer) → PlacementSays (text_shown t) s v r ↔ placed_is (refusal n l f) 0 [] [] r
+    ((r : TotalResult) → TotalSays (text_shown t) s r ↔ total_told (refusal n l f) 0 r)
+    × ((v : ℕ) (r : PlacementResult) → PlacementSays (text_shown t) s v r ↔ placed_is (refusal n l f) 0 [] [] r)
+Holds (place_gives t s v ts xs) = (r : PlacementResult) → PlacementSays (text_shown t) s v r ↔ placed_is (refusal 0 0 0) v ts xs r
+Holds (place_refused t s v n l f) = (r : PlacementResult) → PlacementSays (text_shown t) s v r ↔ placed_is (refusal n l f) 0 [] [] r
 Holds (table_gives t n a) =
-    (r : TableAnswer) (o x : List ℕ) → length o ≡ n →
+    (r : TableResult) (o x : List ℕ) → length o ≡ n →
     TableSays (text_shown t) r o x
     ↔ (table_told (refusal 0 0 0) (length (text_shown a)) r × (x ≡ text_shown a ++ replicate (n - length (text_shown a)) 0))
 Holds (table_refused t n m l f) =
-    (r : TableAnswer) (o x : List ℕ) → length o ≡ n → TableSays (text_shown t) r o x ↔ (table_told (refusal m l f) 0 r × (x ≡ replicate n 0))
+    (r : TableResult) (o x : List ℕ) → length o ≡ n → TableSays (text_shown t) r o x ↔ (table_told (refusal m l f) 0 r × (x ≡ replicate n 0))
 Holds (trial_gives t s ts xs v) =
-    (r : TrialAnswer) → TrialSays (text_shown t) s (padded 8 ts) (padded 9 xs) r ↔ ((refusal_of r.outcome ≡ refusal 0 0 0) × (r.legal ≡ v))
+    (r : TrialResult) → TrialSays (text_shown t) s (padded 8 ts) (padded 9 xs) r ↔ ((refusal_of r ≡ refusal 0 0 0) × (legal_in r ≡ v))
 Holds (trial_refused t s ts xs n l f) =
-    (r : TrialAnswer) → TrialSays (text_shown t) s (padded 8 ts) (padded 9 xs) r ↔ ((refusal_of r.outcome ≡ refusal n l f) × (r.legal ≡ false))
+    (r : TrialResult) → TrialSays (text_shown t) s (padded 8 ts) (padded 9 xs) r ↔ ((refusal_of r ≡ refusal n l f) × (legal_in r ≡ false))
 Holds (page_gives t s c n p) =
-    (r : TableAnswer) (o x : List ℕ) → length o ≡ n →
+    (r : TableResult) (o x : List ℕ) → length o ≡ n →
     PageSays (text_shown t) s c r o x
     ↔ (table_told (refusal 0 0 0) (length (page_shown p)) r × (x ≡ page_shown p ++ replicate (n - length (page_shown p)) 0))
 Holds (page_refused t s c n m l f) =
-    (r : TableAnswer) (o x : List ℕ) → length o ≡ n → PageSays (text_shown t) s c r o x ↔ (table_told (refusal m l f) 0 r × (x ≡ replicate n 0))
+    (r : TableResult) (o x : List ℕ) → length o ≡ n → PageSays (text_shown t) s c r o x ↔ (table_told (refusal m l f) 0 r × (x ≡ replicate n 0))
 Holds (session_gives t s v ts xs) =
-    ((r : TotalAnswer) → StepsTotalSays (text_shown t) s r ↔ total_told (refusal 0 0 0) v r)
-    × ((r : PlacementAnswer) → StepsPlacementSays (text_shown t) s v r ↔ placed_is (refusal 0 0 0) v ts xs r)
+    ((r : TotalResult) → StepsTotalSays (text_shown t) s r ↔ total_told (refusal 0 0 0) v r)
+    × ((r : PlacementResult) → StepsPlacementSays (text_shown t) s v r ↔ placed_is (refusal 0 0 0) v ts xs r)
 Holds (session_refused t s n l f) =
-    ((r : TotalAnswer) → StepsTotalSays (text_shown t) s r ↔ total_told (refusal n l f) 0 r)
-    × ((v : ℕ) (r : PlacementAnswer) → StepsPlacementSays (text_shown t) s v r ↔ placed_is (refusal n l f) 0 [] [] r)
-Holds (session_place_gives t s v ts xs) = (r : PlacementAnswer) → StepsPlacementSays (text_shown t) s v r ↔ placed_is (refusal 0 0 0) v ts xs r
-Holds (session_place_refused t s v n l f) = (r : PlacementAnswer) → StepsPlacementSays (text_shown t) s v r ↔ placed_is (refusal n l f) 0 [] [] r
+    ((r : TotalResult) → StepsTotalSays (text_shown t) s r ↔ total_told (refusal n l f) 0 r)
+    × ((v : ℕ) (r : PlacementResult) → StepsPlacementSays (text_shown t) s v r ↔ placed_is (refusal n l f) 0 [] [] r)
+Holds (session_place_gives t s v ts xs) = (r : PlacementResult) → StepsPlacementSays (text_shown t) s v r ↔ placed_is (refusal 0 0 0) v ts xs r
+Holds (session_place_refused t s v n l f) = (r : PlacementResult) → StepsPlacementSays (text_shown t) s v r ↔ placed_is (refusal n l f) 0 [] [] r
 
 unfoldable pub AllHold : List Specimen → Type 0
 AllHold [] = Unit

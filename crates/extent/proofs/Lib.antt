@@ -1,2 +1,2 @@
--- The laws of the loops over a stack's strips.
-pub mod Loops
+-- The laws of the greatest number and of the sum over a stack's strips.
+pub mod Folds

@@ -1,22 +1,28 @@
--- What the loops over a stack's strips answer, from the top strip down. Assumes nothing: these are definitions.
-use Rattle.std.specs.Prelude.{◌≡◌, ℕ, suc, ◌+◌, ◌*◌, ◌≤◌, ◌<◌, drop}
-use Rattle.stack.specs.Stack.{Strip, greatest_of, sum}
-use Rattle.stack.specs.Value.{stack_of}
-use Rattle.stack.specs.Lengths.{lengths}
+-- The strips that a stack uses, and the greatest number that a call reads of strips. Assumes nothing: these are definitions.
+use Rattle.std.specs.Prelude.{◌≡◌, List, map, ℕ, suc, ◌<◌, max, length, drop}
+use Rattle.stack.specs.Stack.{Strip, greatest_of}
+use Rattle.stack.specs.Value.{strip_of, stack_of}
+use Rattle.stack.specs.Made.{NumberOf}
 use Rattle.stack.specs.declared.Stack.{Stack as StackStruct}
+use Rattle.stack.specs.declared.Strip.{Strip as StripStruct}
 
--- a length added, and that it is one of 32 bits
-pub record LengthMore (l rest r : ℕ) : Type 0 where
-  pub all : r ≡ l + rest
-  pub small : l < 4294967296
+-- strips as list values
+abbrev pub values : List StripStruct → List Strip
+values ls = map (λ (s : StripStruct). strip_of s) ls
 
--- of the strips from i on the greatest number, and the sum of the lengths
-pub record GreatestFrom (f : Strip → ℕ) (k : StackStruct) (i most : ℕ) : Type 0 where
-  pub inside : i ≤ suc k.count
-  pub most_is : most ≡ greatest_of f (drop i (stack_of k).strips)
-  pub small : most < 8589934592
+-- the strips that a stack uses: one more than it has channels
+pub record StripsOf (k : StackStruct) (ls : List StripStruct) : Type 0 where
+  pub are : values ls ≡ (stack_of k).strips
+  pub many : length ls ≡ suc k.count
 
-pub record SumFrom (k : StackStruct) (i all : ℕ) : Type 0 where
-  pub inside : i ≤ suc k.count
-  pub sum_is : all ≡ sum (lengths (drop i (stack_of k).strips))
-  pub small : all + 4294967296 * i ≤ 4294967296 * suc k.count
+-- what a call reads of a strip is its number by f
+abbrev pub Reads : (read : StripStruct → ℕ → Type 0) → (f : Strip → ℕ) → Type 0
+Reads R f = (l : StripStruct) (x : ℕ) → R l x → NumberOf (f (strip_of l)) x
+
+-- whatever number a call reads, the greatest over the strips
+abbrev pub Greatest : (read : StripStruct → ℕ → Type 0) → List StripStruct → (most : ℕ) → Type 0
+Greatest R ls r = (f : Strip → ℕ) → Reads R f → NumberOf (greatest_of f (values ls)) r
+
+-- while it is sought: the greatest of all is the greater of the greatest so far and that of the strips from i on
+abbrev pub GreatestSoFar : (read : StripStruct → ℕ → Type 0) → List StripStruct → (i most : ℕ) → Type 0
+GreatestSoFar R ls i m = (f : Strip → ℕ) → Reads R f → (max m (greatest_of f (values (drop i ls))) ≡ greatest_of f (values ls)) × (m < 8589934592)

@@ -1,20 +1,20 @@
--- The laws of the loop that tests whether pairs are wirable: start, step, refusal and end. Assumes nothing.
+-- Pairs are wirable exactly if the code's test passes at each. Assumes nothing.
 use mathlib.Core.Path.{◌≡◌, refl, sym, ◌∙◌}
 use mathlib.Core.Bool.{Bool, true, false}
 use mathlib.Core.List.{List}
-use Prim.Native.Nat.{ℕ, ◌+◌, ◌-◌, ◌≤◌, ◌<◌}
+use Prim.Native.Nat.{ℕ, zero, suc, ◌+◌, ◌-◌, ◌≤◌, ◌<◌}
 use native.Mathlib.Omega.{arith}
-use lib.Dec.{leb}
 use lib.ListN.{length, get_or}
-use borrow.Author.Count.{below_more}
-use borrow.Author.Tests.{leb-true, le-leb, lt-leb}
-use Rattle.numbers.proofs.Bools.{ands, not_true_false}
+use Rattle.std.specs.List.{list_all, range_with_len}
+use native.Mathlib.Nat.{add-zero, zero-add}
+use borrow.Author.Tests.{leb-true, le-leb}
+use Rattle.numbers.proofs.Bools.{and_left, and_right, and_both, ands, not_true_false, impossible}
 use Rattle.stack.specs.Stack.{Pair, p_at, q_at, wirable}
 use Rattle.stack.specs.Value.{columns, channel_of}
 use Rattle.stack.specs.declared.Terminals.{Terminals}
 use Rattle.stack.proofs.Values.{channel_length, channel_p_at, channel_q_at}
 use Rattle.stack.proofs.Feasible.{ByPairs, by_pairs_wirable, wirable_by_pairs}
-use Rattle.feasibility.specs.Trying.{clear, clear_at, Trying}
+use Rattle.feasibility.specs.Trying.{clear, clear_at}
 
 -- what the test says
 clear_says : (p q pt qt t a b : ℕ) → clear p q pt qt t a b ≡ true → (p + t + a ≤ b + qt) × (b + t + q ≤ pt + a)
@@ -24,15 +24,6 @@ clear_says p q pt qt t a b e = (leb-true (p + t + a) (b + qt) (search ands), leb
 says_clear : (p q pt qt t a b : ℕ) → p + t + a ≤ b + qt → b + t + q ≤ pt + a → clear p q pt qt t a b ≡ true
 unfolding clear
 says_clear p q pt qt t a b l r = rw (le-leb (p + t + a) (b + qt) l, le-leb (b + t + q) (pt + a) r)
-
--- the two halves that the code tests, one after the other
-pub not_clear : (p q pt qt t a b : ℕ) → b + qt < p + t + a → false ≡ clear p q pt qt t a b
-unfolding clear
-not_clear p q pt qt t a b h = rw (lt-leb (p + t + a) (b + qt) h)
-
-pub half_clear : (p q pt qt t a b : ℕ) → p + t + a ≤ b + qt → leb (b + t + q) (pt + a) ≡ clear p q pt qt t a b
-unfolding clear
-half_clear p q pt qt t a b h = rw (le-leb (p + t + a) (b + qt) h)
 
 all_clear_wirable : (c : List Pair) (t a b : ℕ) → ((i : ℕ) → i < length c - t → clear_at c t a b i ≡ true) → wirable c t a b ≡ true
 unfolding clear_at
@@ -54,37 +45,35 @@ wirable_all_clear c t a b i h e =
     let r = f.right i (i + t) refl (omega arith) in
     says_clear (p_at c i) (q_at c i) (p_at c (i + t)) (q_at c (i + t)) t a b (omega arith) (omega arith)
 
-pub trying_starts : (c : List Pair) (t a b : ℕ) → Trying c t a b 0
-trying_starts c t a b = record { seen = omega arith; passed = λ j h. absurd (omega arith) }
+-- a test of each of the n numbers from i on
+passes_each : (p : ℕ → Bool) (n i j : ℕ) → list_all p (range_with_len i n) ≡ true → j < n → p (i + j) ≡ true
+passes_each p zero i j e h = absurd (omega arith)
+passes_each p (suc n) i zero e h = rw add-zero (and_left (p i) _ e)
+passes_each p (suc n) i (suc j) e h = let s : i + suc j ≡ i + 1 + j = omega arith in rw s (passes_each p n (i + 1) j (and_right (p i) _ e) (omega arith))
 
-module _ (k : Terminals) (t a b i : ℕ) (r : Bool) (less : i < k.count - t) where
-  -- the test that the code makes
-  tested : r ≡ clear (get_or k.lower i (columns 0)).0 (get_or k.upper i (columns 0)).0 (get_or k.lower (i + t) (columns 0)).0 (get_or k.upper (i + t) (columns 0)).0 t a b →
-      clear_at (channel_of k) t a b i ≡ r
-  unfolding clear_at
-  tested e =
-      rw (channel_p_at k i (omega arith), channel_q_at k i (omega arith), channel_p_at k (i + t) (omega arith), channel_q_at k (i + t) (omega arith)) (sym e)
+each_passes : (p : ℕ → Bool) (n i : ℕ) → ((j : ℕ) → j < n → p (i + j) ≡ true) → list_all p (range_with_len i n) ≡ true
+each_passes p zero i f = refl
+each_passes p (suc n) i f =
+    and_both (p i) _ (rw add-zero at (f 0 (omega arith)))
+    (each_passes p n (i + 1) (λ j h. let s : i + 1 + j ≡ i + suc j = omega arith in rw s (f (suc j) (omega arith))))
 
-  pub trying_steps : Trying (channel_of k) t a b i →
-      r ≡ clear (get_or k.lower i (columns 0)).0 (get_or k.upper i (columns 0)).0 (get_or k.lower (i + t) (columns 0)).0 (get_or k.upper (i + t) (columns 0)).0 t a b →
-      r ≡ true → Trying (channel_of k) t a b (i + 1)
-  trying_steps s e h = record {
-    seen = omega (arith, channel_length k);
-    passed = below_more (λ j. clear_at (channel_of k) t a b j ≡ true) i s.passed (tested e ∙ h);
-  }
+-- pairs are wirable exactly if the test passes at each of them that has one t places on
+pub all_clear_is : (k : Terminals) (t a b : ℕ) →
+    list_all (λ i. clear (get_or k.lower i (columns 0)).0 (get_or k.upper i (columns 0)).0 (get_or k.lower (i + t) (columns 0)).0 (get_or k.upper (i + t) (columns 0)).0 t a b)
+    (range_with_len 0 (k.count - t)) ≡ wirable (channel_of k) t a b
+unfolding clear_at
+all_clear_is k t a b = go (wirable (channel_of k) t a b) refl
+  where
+    p : ℕ → Bool
+    p i = clear (get_or k.lower i (columns 0)).0 (get_or k.upper i (columns 0)).0 (get_or k.lower (i + t) (columns 0)).0 (get_or k.upper (i + t) (columns 0)).0 t a b
 
-  pub trying_refuses :
-      r ≡ clear (get_or k.lower i (columns 0)).0 (get_or k.upper i (columns 0)).0 (get_or k.lower (i + t) (columns 0)).0 (get_or k.upper (i + t) (columns 0)).0 t a b →
-      r ≡ false → false ≡ wirable (channel_of k) t a b
-  trying_refuses e h =
-      sym (not_true_false _ (λ f.
-      let g : clear_at (channel_of k) t a b i ≡ true = wirable_all_clear (channel_of k) t a b i (omega (arith, channel_length k)) f in
-      let n : clear_at (channel_of k) t a b i ≡ false = tested e ∙ h in
-      let z : ◌≡◌ {A = ℕ} 0 1 = cc in omega arith))
+    same : (i : ℕ) → i < k.count - t → clear_at (channel_of k) t a b i ≡ p i
+    same i h = rw (channel_p_at k i (omega arith), channel_q_at k i (omega arith), channel_p_at k (i + t) (omega arith), channel_q_at k (i + t) (omega arith)) refl
 
-pub trying_ends : (k : Terminals) (t a b i : ℕ) → k.count - t ≤ i → Trying (channel_of k) t a b i → true ≡ wirable (channel_of k) t a b
-trying_ends k t a b i h s =
-    sym (all_clear_wirable (channel_of k) t a b (λ j l. s.passed j (omega (arith, channel_length k))))
-
-pub trying_open : (k : Terminals) (t a b : ℕ) → k.count ≤ t → true ≡ wirable (channel_of k) t a b
-trying_open k t a b h = sym (all_clear_wirable (channel_of k) t a b (λ j l. absurd (omega (arith, channel_length k))))
+    go : (w : Bool) → wirable (channel_of k) t a b ≡ w → list_all p (range_with_len 0 (k.count - t)) ≡ w
+    go true e = each_passes p (k.count - t) 0 (λ j h. rw zero-add (sym (same j h) ∙ wirable_all_clear (channel_of k) t a b j (omega (arith, channel_length k)) e))
+    go false e =
+        not_true_false _ (λ f.
+        let all : wirable (channel_of k) t a b ≡ true =
+        all_clear_wirable (channel_of k) t a b (λ j h. let l : j < k.count - t = omega (arith, channel_length k) in same j l ∙ rw zero-add at (passes_each p (k.count - t) 0 j f l)) in
+        impossible (sym e ∙ all))

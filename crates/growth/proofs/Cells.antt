@@ -6,18 +6,21 @@ use Prim.Native.Nat.{ℕ, zero, suc, ◌+◌, ◌-◌, ◌*◌, ◌≤◌, ◌<�
 use native.Mathlib.Numerals.{add-one}
 use native.Mathlib.Omega.{arith}
 use borrow.Author.Tests.{lt-ltb, le-ltb, ltb-true}
-use Rattle.spans.specs.Spans.{Span, nonempty}
+use Rattle.spans.specs.Spans.{nonempty}
+use Rattle.spans.specs.declared.Span.{Span}
 use Rattle.spans.specs.Solver.{start, stop}
 use Rattle.spans.specs.Jump.{max_if, furthest, near_of, reach_of}
 use Rattle.spans.specs.Growth.{shifted, furthest_grow, growing, end_lack, grow_of, cell_grow, both_lack, cell_lack}
 use Rattle.spans.proofs.Jump.{cell_ends}
-use Rattle.arrays.specs.Arrays.{bias, greatest_end, entry, sides, low_in, high_in, span_in}
+use Rattle.arrays.specs.Arrays.{bias, entry, low_in, high_in, span_in, spans_of}
+use Rattle.arrays.specs.declared.ChannelLimits.{ChannelLimits}
+use Rattle.arrays.specs.declared.StripSpans.{StripSpans}
 use Rattle.arrays.proofs.Searches.{one_left, none_left}
-use Rattle.scan.specs.Scan.{EndsAsk, EndsAre, window_in}
+use Rattle.scan.specs.Scan.{EndsAre}
 use Rattle.scan.specs.declared.Cell.{Cell}
 use Rattle.scan.specs.declared.Ends.{Ends}
-use Rattle.scan.proofs.Scanning.{tried_less, strip_ends_ask, near_tried, reach_tried, left_empty}
-use Rattle.growth.specs.Growth.{GrowthsFit, CellAsks, grow_in, lack_in}
+use Rattle.scan.proofs.Scanning.{tried_less, near_tried, reach_tried, left_empty}
+use Rattle.growth.specs.Growth.{CellAsks, grow_in, lack_in}
 
 -- one growing end shifted back
 pub shift_none : (b l g : ℕ) → g ≡ 0 → 0 ≡ shifted b l g
@@ -79,23 +82,20 @@ furthest_grow_same b low₁ low₂ f₁ f₂ h₁ h₂ q (suc n) t s =
     step false e k = refl
 
 -- where a cell's span ends
-span_end : (limits : List (List ℕ)) (c : Cell) (t : List (List (List ℕ))) (h : List ℕ) → CellAsks limits c t h →
-    (span_in t c.i c.v).upto ≡ min c.upto (reach_of bias (low_in limits) c.least c.last c.above (span_in t (c.i + 1)) c.v - bias)
+span_end : (limits : ChannelLimits) (c : Cell) (t : List StripSpans) (h : List ℕ) → CellAsks limits c t h →
+    (span_in t c.i c.v).upto ≡ min c.window.upto (reach_of bias (low_in limits) c.least c.last c.above (span_in t (c.i + 1)) c.v - bias)
 span_end limits c t h a =
     ap (λ (x : Span). x.upto)
-    (a.here ∙ cell_ends bias bias (low_in limits) (high_in limits) c.least c.last c.above (span_in t (c.i + 1)) (window_in c) c.v (omega (arith, a.spans.end)))
-
-pub end_small : (limits : List (List ℕ)) (c : Cell) (t : List (List (List ℕ))) (h : List ℕ) → CellAsks limits c t h → (span_in t c.i c.v).upto ≤ greatest_end
-end_small limits c t h a = omega (arith, span_end limits c t h a, a.spans.end)
+    (a.here ∙ cell_ends bias bias (low_in limits) (high_in limits) c.least c.last c.above (span_in t (c.i + 1)) c.window c.v (omega (arith, a.spans.end)))
 
 -- ONE CELL, from the separations tried
-module _ (limits : List (List ℕ)) (c : Cell) (t : List (List (List ℕ))) (h : List ℕ) (own first end : ℕ) (a : CellAsks limits c t h)
+module _ (limits : ChannelLimits) (c : Cell) (t : List StripSpans) (h : List ℕ) (own first end : ℕ) (a : CellAsks limits c t h)
     (d : first ≡ max c.least (c.v - c.above)) (e : end ≡ min (c.last + 1) (c.v + 1 - c.empty)) where
   abbrev f : ℕ → Span
   f = span_in t (c.i + 1)
 
   abbrev w : Span
-  w = window_in c
+  w = c.window
 
   abbrev near : ℕ
   near = near_of bias bias (high_in limits) c.least c.last c.above f c.v
@@ -109,12 +109,6 @@ module _ (limits : List (List ℕ)) (c : Cell) (t : List (List (List ℕ))) (h :
   s : first ≡ start c.least c.last c.above c.v
   s = omega (arith, a.spans.of_use)
 
-  pub cell_ends_ask : EndsAsk limits (sides t (c.i + 1)) c.v first end
-  cell_ends_ask = strip_ends_ask limits c t first end a.spans d e
-
-  pub cell_growths_fit : GrowthsFit (sides t (c.i + 1)) h c.v first
-  cell_growths_fit = record { fit = λ u i m. let k = a.spans.of_use in a.fits u (omega arith) (omega arith) m }
-
   grow_tried : furthest_grow bias (low_in limits) (λ q. f (c.v - q)) (λ q. entry h (c.v - q)) first (end - first) 0 ≡ grow
   grow_tried =
       rw (← s)
@@ -122,21 +116,21 @@ module _ (limits : List (List ℕ)) (c : Cell) (t : List (List (List ℕ))) (h :
       (rw e (tried_less c.last c.v c.empty first)) (left_empty limits c t first end a.spans d e))
 
   -- the lack, from the ends of the separations tried
-  module _ (r : Ends) (is : EndsAre limits (sides t (c.i + 1)) c.v first end (record { near = 2 * bias; reach = 0 }) r) where
+  module _ (r : Ends) (is : EndsAre limits (spans_of t (c.i + 1)) c.v first end (record { near = 2 * bias; reach = 0 }) r) where
     near_is : r.near - bias ≡ near
     near_is = let z : 2 * bias - bias ≡ bias = omega arith in rw z at is.near_is ∙ near_tried limits c t first end a.spans d e
 
     reach_is : r.reach ≡ reach
     reach_is = is.reach_is ∙ reach_tried limits c t first end a.spans d e
 
-    module _ (x y : ℕ) (at : x ≡ max c.from (r.near - bias) + 1 + bias) (by : y ≡ end_lack x (c.upto + bias) own) where
-      place : x ≡ max c.from near + 1 + bias
+    module _ (x y : ℕ) (at : x ≡ max c.window.from (r.near - bias) + 1 + bias) (by : y ≡ end_lack x (c.window.upto + bias) own) where
+      place : x ≡ max c.window.from near + 1 + bias
       place = rw near_is at at
 
       -- the reach is far enough
       pub lack_window : x ≤ r.reach → y ≡ lack_in limits c own t h c.v
       unfolding cell_lack
-      lack_window k = rw (← place) (by ∙ nothing (end_lack x (c.upto + bias) own) (end_lack x reach grow) (lack_none x reach grow (rw reach_is at k)))
+      lack_window k = rw (← place) (by ∙ nothing (end_lack x (c.window.upto + bias) own) (end_lack x reach grow) (lack_none x reach grow (rw reach_is at k)))
         where
           nothing : (m n : ℕ) → 0 ≡ n → m ≡ max m n
           nothing m n i = omega arith
@@ -146,24 +140,24 @@ module _ (limits : List (List ℕ)) (c : Cell) (t : List (List (List ℕ))) (h :
       unfolding cell_lack
       lack_both g z u p q k = rw (← place, ← reach_is, ← grow_tried, ← p, k, by, q)
 
-  end_is : (span_in t c.i c.v).upto ≡ min c.upto (reach - bias)
+  end_is : (span_in t c.i c.v).upto ≡ min c.window.upto (reach - bias)
   end_is = span_end limits c t h a
 
   -- the growing end of a span that is not empty
   module _ (full : (span_in t c.i c.v).from < (span_in t c.i c.v).upto) where
     -- it ends with its window
-    pub grow_window : (span_in t c.i c.v).upto ≡ c.upto → own ≡ grow_in limits c own t h c.v
+    pub grow_window : (span_in t c.i c.v).upto ≡ c.window.upto → own ≡ grow_in limits c own t h c.v
     unfolding cell_grow growing
-    grow_window k = rw (le-ltb reach (c.upto + bias) (beyond c.upto reach (omega arith) (sym end_is ∙ k)))
+    grow_window k = rw (le-ltb reach (c.window.upto + bias) (beyond c.window.upto reach (omega arith) (sym end_is ∙ k)))
       where
         beyond : (u m : ℕ) → 0 < u → min u (m - bias) ≡ u → u + bias ≤ m
         beyond u m i j = omega arith
 
     -- or before it
-    pub grow_reach : ((span_in t c.i c.v).upto ≡ c.upto → ⊥) → (g : ℕ) →
+    pub grow_reach : ((span_in t c.i c.v).upto ≡ c.window.upto → ⊥) → (g : ℕ) →
         g ≡ furthest_grow bias (low_in limits) (λ q. f (c.v - q)) (λ q. entry h (c.v - q)) first (end - first) 0 → g ≡ grow_in limits c own t h c.v
     unfolding cell_grow growing
-    grow_reach k g p = rw (lt-ltb reach (c.upto + bias) (before c.upto reach (λ i. k (end_is ∙ i)))) (p ∙ grow_tried)
+    grow_reach k g p = rw (lt-ltb reach (c.window.upto + bias) (before c.window.upto reach (λ i. k (end_is ∙ i)))) (p ∙ grow_tried)
       where
         before : (u m : ℕ) → (min u (m - bias) ≡ u → ⊥) → m < u + bias
         before u m i = omega (arith, i)
@@ -175,13 +169,13 @@ module _ (limits : List (List ℕ)) (c : Cell) (t : List (List (List ℕ))) (h :
       let z : 0 ≡ end - first = none_left end first i in
       let r : 0 ≡ reach = ap (λ (m : ℕ). furthest bias (low_in limits) (λ q. f (c.v - q)) first m 0) z ∙ reach_tried limits c t first end a.spans d e in
       let g : 0 ≡ grow = ap (λ (m : ℕ). furthest_grow bias (low_in limits) (λ q. f (c.v - q)) (λ q. entry h (c.v - q)) first m 0) z ∙ grow_tried in
-      rw (← r, ← g) (far (max c.from near + 1 + bias) (omega arith) (end_lack (max c.from near + 1 + bias) (c.upto + bias) own))
+      rw (← r, ← g) (far (max c.window.from near + 1 + bias) (omega arith) (end_lack (max c.window.from near + 1 + bias) (c.window.upto + bias) own))
     where
       far : (x : ℕ) → bias < x → (y : ℕ) → bias ≤ max y (end_lack x 0 0)
       far x l y = omega (arith, lack_gap x 0 0 x (omega arith) (omega arith))
 
 -- a cell depends on the growing ends above for totals up to its own
-module _ (limits : List (List ℕ)) (c : Cell) (t : List (List (List ℕ))) (own v : ℕ) (h h' : List ℕ) (kept : (u : ℕ) → u ≤ v → entry h u ≡ entry h' u) where
+module _ (limits : ChannelLimits) (c : Cell) (t : List StripSpans) (own v : ℕ) (h h' : List ℕ) (kept : (u : ℕ) → u ≤ v → entry h u ≡ entry h' u) where
   pub grow_kept : grow_in limits c own t h v ≡ grow_in limits c own t h' v
   unfolding cell_grow
   grow_kept = ap (growing _ _ own) (furthest_grow_same bias _ _ _ _ _ _ _ _ 0 (λ j k m. (refl, refl, λ l. kept (v - j) (omega arith))))

@@ -3,12 +3,14 @@ use mathlib.Core.Path.{◌≡◌, refl, sym, ap, ap₂, ◌∙◌}
 use mathlib.Core.List.{List}
 use Prim.Native.Nat.{ℕ, zero, suc, ◌+◌, ◌-◌, ◌≤◌, ◌<◌}
 use native.Mathlib.Omega.{arith}
-use Rattle.spans.specs.Spans.{Span, Limit, low_at, high_at}
+use Rattle.spans.specs.Spans.{Limit, low_at, high_at}
+use Rattle.spans.specs.declared.Span.{Span}
 use Rattle.spans.specs.Solver.{first_open, most, start, stop, back}
 use Rattle.spans.specs.Jump.{near_of, reach_of}
 use Rattle.spans.specs.Growth.{growing, grow_of, cell_grow, both_lack, cell_lack, back_grow, Lows, Near, GrowBelow, AllGrow, NoneLacks}
 use Rattle.spans.proofs.Growths.{lack_short, short_positive}
-use Rattle.arrays.specs.Arrays.{bias, entry, Given, low_of, high_of, last_of, window_of, limits_from, levels, taken, StackAsks}
+use Rattle.arrays.specs.Arrays.{bias, entry, low_of, high_of, last_of, window_of, limits_from, levels, taken, StackAsks}
+use Rattle.arrays.specs.declared.Given.{Given}
 use Rattle.arrays.proofs.Levels.{last_is, low_at_of, high_at_of, low_at_any, open_of, in_use}
 use Rattle.scan.specs.Scan.{short_of}
 use Rattle.scan.proofs.Scans.{nearest_same, furthest_same}
@@ -68,31 +70,31 @@ module _ (g : Given) (hs : List ℕ) (i n v : ℕ) (f : ℕ → Span) (h : ℕ �
       ∙ ap (both_lack bias (window_of g i) (near_of bias bias (high_at limits) least last above f_back v) (reach_of bias (low_at limits) least last above f_back v) (entry hs i)) grow_same)
 
 -- WHAT THE LEVELS ARE ASKED, from what the arrays are
-module _ (g : Given) (k : ℕ) (a : StackAsks g k) where
-  pub near_levels : (i n : ℕ) → i + n ≡ k → Near bias (window_of g i) (levels g i n)
+module _ (g : Given) (a : StackAsks g) where
+  pub near_levels : (i n : ℕ) → i + n ≡ g.channels → Near bias (window_of g i) (levels g i n)
   unfolding Near levels
   near_levels i zero e = omega (arith, a.ends i (omega arith))
   near_levels i (suc n) e = (omega (arith, a.ends i (omega arith)), near_levels (suc i) n (omega arith))
 
-  pub lows_levels : (i n : ℕ) → i + n ≡ k → Lows bias (levels g i n)
+  pub lows_levels : (i n : ℕ) → i + n ≡ g.channels → Lows bias (levels g i n)
   unfolding Lows levels
   lows_levels i zero e = refl
   lows_levels i (suc n) e =
       (λ q. rw (low_at_any (low_of g i) (high_of g i) (last_of g i) q) (a.lows i _ (omega arith) (omega arith)), lows_levels (suc i) n (omega arith))
 
-module _ (g : Given) (hs : List ℕ) (k : ℕ) where
-  pub below_levels : ((i : ℕ) → i ≤ k → entry hs i ≤ (window_of g i).upto + bias) → (i n : ℕ) → i + n ≡ k → GrowBelow bias (window_of g i) (entry hs i) (levels g i n) (taken hs (suc i) n)
+module _ (g : Given) (hs : List ℕ) where
+  pub below_levels : ((i : ℕ) → i ≤ g.channels → entry hs i ≤ (window_of g i).upto + bias) → (i n : ℕ) → i + n ≡ g.channels → GrowBelow bias (window_of g i) (entry hs i) (levels g i n) (taken hs (suc i) n)
   unfolding GrowBelow levels taken
   below_levels b i zero e = b i (omega arith)
   below_levels b i (suc n) e = (b i (omega arith), below_levels b (suc i) n (omega arith))
 
-  pub all_levels : ((i : ℕ) → i ≤ k → entry hs i ≡ (window_of g i).upto + bias) → (i n : ℕ) → i + n ≡ k → AllGrow bias (window_of g i) (entry hs i) (levels g i n) (taken hs (suc i) n)
+  pub all_levels : ((i : ℕ) → i ≤ g.channels → entry hs i ≡ (window_of g i).upto + bias) → (i n : ℕ) → i + n ≡ g.channels → AllGrow bias (window_of g i) (entry hs i) (levels g i n) (taken hs (suc i) n)
   unfolding AllGrow levels taken
   all_levels b i zero e = b i (omega arith)
   all_levels b i (suc n) e = (b i (omega arith), all_levels b (suc i) n (omega arith))
 
   -- A JUMP LESS THAN EVERY LACK
-  pub none_lacks : (total jump d v : ℕ) → NoneLess g hs k total 0 jump → d < jump → v < total → (i n : ℕ) → i + n ≡ k →
+  pub none_lacks : (total jump d v : ℕ) → NoneLess g hs total 0 jump → d < jump → v < total → (i n : ℕ) → i + n ≡ g.channels →
       NoneLacks bias bias d v (window_of g i) (entry hs i) (levels g i n) (taken hs (suc i) n)
   unfolding NoneLacks levels taken
   none_lacks total jump d v s l m i zero e = refl
@@ -100,13 +102,13 @@ module _ (g : Given) (hs : List ℕ) (k : ℕ) where
       (λ u o p q. omega (arith, s i n u (omega arith) e (omega arith) p q), none_lacks total jump d v s l m (suc i) n (omega arith))
 
   -- WHERE EVERY WINDOW'S END GROWS what is less than every shortfall is less than every lack
-  pub scan_none_less : (total jump : ℕ) → StackAsks g k → ((i : ℕ) → i ≤ k → entry hs i ≡ (window_of g i).upto + bias) →
-      ((j n u : ℕ) → j + suc n ≡ k → u < total → u ≤ most (levels g j (suc n)) → 0 < short_of g j n u → jump ≤ short_of g j n u) → NoneLess g hs k total 0 jump
+  pub scan_none_less : (total jump : ℕ) → StackAsks g → ((i : ℕ) → i ≤ g.channels → entry hs i ≡ (window_of g i).upto + bias) →
+      ((j n u : ℕ) → j + suc n ≡ g.channels → u < total → u ≤ most (levels g j (suc n)) → 0 < short_of g j n u → jump ≤ short_of g j n u) → NoneLess g hs total 0 jump
   unfolding levels taken
   scan_none_less total jump a b s j n u i e l m f = rw lack (s j n u e l m short)
     where
       lack : lack_of g hs j n u ≡ short_of g j n u
-      lack = lack_short bias bias _ _ _ _ _ _ (near_levels g k a j (suc n) e) (lows_levels g k a j (suc n) e) (all_levels b j (suc n) e) u
+      lack = lack_short bias bias _ _ _ _ _ _ (near_levels g a j (suc n) e) (lows_levels g a j (suc n) e) (all_levels b j (suc n) e) u
 
       short : 0 < short_of g j n u
-      short = short_positive bias bias _ _ _ _ _ _ (near_levels g k a j (suc n) e) (lows_levels g k a j (suc n) e) (all_levels b j (suc n) e) u f
+      short = short_positive bias bias _ _ _ _ _ _ (near_levels g a j (suc n) e) (lows_levels g a j (suc n) e) (all_levels b j (suc n) e) u f

@@ -8,13 +8,15 @@ use lib.ListN.{set, length-set}
 use lib.Seq.{get_or-set_same, get_or-set_other}
 use Rattle.numbers.proofs.Orders.{lt_or_eq}
 use Rattle.arrays.specs.Arrays.{entry, span_in}
+use Rattle.arrays.specs.declared.ChannelLimits.{ChannelLimits}
+use Rattle.arrays.specs.declared.StripSpans.{StripSpans}
 use Rattle.scan.specs.Scan.{cell_at}
 use Rattle.scan.specs.declared.Cell.{Cell}
-use Rattle.growth.specs.Growth.{CellAsks, grow_in, lack_in, GrowAsks, StripGrown}
+use Rattle.growth.specs.Growth.{grow_in, lack_in, GrowAsks, StripGrown}
 use Rattle.growth.proofs.Cells.{grow_kept, lack_kept}
 
 -- before the greatest total
-pub strip_start : (limits : List (List ℕ)) (c : Cell) (end own : ℕ) (t : List (List (List ℕ))) (h : List ℕ) (before : ℕ) → GrowAsks limits c end own t h before →
+pub strip_start : (limits : ChannelLimits) (c : Cell) (end own : ℕ) (t : List StripSpans) (h : List ℕ) (before : ℕ) → GrowAsks limits c end own t h before →
     StripGrown limits c end end own t h h before end before
 strip_start limits c end own t h before a =
     record {
@@ -28,14 +30,9 @@ strip_start limits c end own t h before a =
     }
 
 -- totals from p on are done, v is the next one
-module _ (limits : List (List ℕ)) (c : Cell) (end own : ℕ) (t : List (List (List ℕ))) (h : List ℕ) (before : ℕ) (a : GrowAsks limits c end own t h before)
+module _ (limits : ChannelLimits) (c : Cell) (end own : ℕ) (t : List StripSpans) (h : List ℕ) (before : ℕ) (a : GrowAsks limits c end own t h before)
     (p v : ℕ) (next : v + 1 ≡ p) (inside : p ≤ end) (from : c.v < p) (h' : List ℕ) (empty jump : ℕ) (s : StripGrown limits c p end own t h h' before empty jump)
     (kept : (u : ℕ) → u < p → entry h' u ≡ entry h u) where
-  pub strip_cell : CellAsks limits (cell_at c v) t h'
-  strip_cell =
-      let b = a.cells v (omega arith) (omega arith) in
-      record { spans = b.spans; here = b.here; fits = λ u i k m. omega (arith, kept u (omega arith), b.fits u i k m) }
-
   -- its span is not empty
   module _ (x : ℕ) (full : (span_in t c.i v).from < (span_in t c.i v).upto) (e : x ≡ grow_in limits (cell_at c v) own t h' v) where
     written : entry (set h' v x) v ≡ grow_in limits c own t h v
@@ -92,17 +89,3 @@ module _ (limits : List (List ℕ)) (c : Cell) (end own : ℕ) (t : List (List (
       empties : (u : ℕ) → u < empty → (v < u) ⊎ (v ≡ u) → (span_in t c.i u).upto ≤ (span_in t c.i u).from
       empties u k (inl i) = s.empties u (omega arith) k
       empties u k (inr i) = rw (← i) none
-
--- totals from a later one on
-pub strip_from : (limits : List (List ℕ)) (c : Cell) (p v end own : ℕ) (t : List (List (List ℕ))) (h h' : List ℕ) (before empty jump : ℕ) → p ≤ v →
-    StripGrown limits c p end own t h h' before empty jump → StripGrown limits c v end own t h h' before empty jump
-strip_from limits c p v end own t h h' before empty jump l s =
-    record {
-      size = s.size;
-      grown = λ u i k m. s.grown u (omega arith) k m;
-      lacks = λ u i k m. s.lacks u (omega arith) k m;
-      empties = λ u i k. s.empties u (omega arith) k;
-      few = s.few;
-      some = s.some;
-      less = s.less;
-    }

@@ -10,93 +10,85 @@ use lib.Dec.{ltb, leb, eqb}
 use lib.ListN.{length, get_or, length-append}
 use lib.Seq.{ext_get_or, get_or-append_seam}
 use borrow.Author.Tests.{leb-false, lt-ltb, le-ltb, ltb-true, ltb-false, eqb-true, le-leb, lt-leb, ne_eqb}
+use Rattle.std.specs.Prelude.{Option, None, Some, IfSome, Result, Ok, Err}
+use Rattle.std.specs.Option.{option_or}
 use Rattle.numbers.proofs.Lists.{get_or_tabulate}
 use Rattle.lines.specs.Lines.{Line, numbers_of}
 use Rattle.lines.proofs.Fields.{getD_in_places}
 use Rattle.stack.specs.Stack.{Pair, pair, p_at, q_at}
-use Rattle.stack.specs.Value.{channel_of}
-use Rattle.stack.specs.Made.{not_above, pair_found, or_fault, pairs_found, terminals_found, kept, pairs_in, IsTerminalsMade}
-use Rattle.stack.proofs.Found.{pairs_in_length}
+use Rattle.stack.specs.Made.{not_above, pair_fault, pairs_fault, terminals_fault, pairs_in, IsTerminalsMade}
+use Rattle.stack.proofs.Values.{channel_length}
+use Rattle.stack.proofs.Found.{pairs_in_length, made_few}
 use Rattle.stack.specs.declared.Terminals.{Terminals}
-use Rattle.stack.specs.declared.TerminalsFound.{TerminalsFound}
-use Rattle.stack.specs.declared.TerminalsFound.TheVariants.{Good, Crowd, Overhang, Crossing}
-use Rattle.stack.specs.declared.TerminalsMade.{TerminalsMade}
-use Rattle.text.specs.Text.{Refusal, refusal, nets_word, entry, fault_at, kind, in_pairs, terminals_refusal, nets_content, nets_kind, pairs_of}
-use Rattle.text.specs.Outcome.{refusal_of, is_accepted, refused}
+use Rattle.stack.specs.declared.TerminalsFault.{TerminalsFault}
+use Rattle.stack.specs.declared.TerminalsFault.TheVariants.{Crowd, Overhang, Crossing}
+use Rattle.text.specs.Text.{Refusal, refusal, fine, nets_word, entry, fault_at, kind, in_pairs, terminals_refusal, nets_content, nets_kind, pairs_of}
+use Rattle.text.specs.Outcome.{number_of}
 use Rattle.text.specs.Kinds.{IsKindRead}
-use Rattle.kinds.specs.Readers.{place, found_refusal, Kept, NetsContent, IsNetsRead}
-use Rattle.kinds.specs.declared.NetsRead.{NetsRead}
-use Rattle.text.specs.declared.Refusal.TheVariants as why
-use Rattle.text.specs.declared.KindRead.{KindRead}
-use Rattle.text.specs.declared.Outcome.{Outcome}
-use Rattle.text.proofs.Refusals.{refused_number}
+use Rattle.text.specs.declared.Refused.{Refused}
+use Rattle.kinds.specs.Readers.{place, terminals_refused, Kept, NetsContent, IsNetsRead}
 use Rattle.text.proofs.Layouts.{layout_refused, layout_then}
 
 -- THE PLACE of a fault is below 64
+abbrev Small : Option TerminalsFault → Type 0
+Small o = IfSome o (λ f. place f < 64)
+
 module _ (c : List Pair) (lo hi p q : ℕ) where
   place_cases : (a b d e f : Bool) → leb 32 (length c) ≡ a →
       let n = length c in
-      place (cond a Crowd (cond b (Overhang (2 * n)) (cond d (Crossing (2 * n)) (cond e (Overhang (2 * n + 1)) (cond f (Crossing (2 * n + 1)) Good))))) < 64
+      Small (cond a (Some Crowd) (cond b (Some (Overhang (2 * n))) (cond d (Some (Crossing (2 * n))) (cond e (Some (Overhang (2 * n + 1))) (cond f (Some (Crossing (2 * n + 1))) None)))))
   place_cases true b d e f h = omega arith
   place_cases false true d e f h = omega (arith, leb-false)
   place_cases false false true e f h = omega (arith, leb-false)
   place_cases false false false true f h = omega (arith, leb-false)
   place_cases false false false false true h = omega (arith, leb-false)
-  place_cases false false false false false h = omega arith
+  place_cases false false false false false h = tt
 
-  place_pair : place (pair_found c lo hi p q) < 64
-  unfolding pair_found
+  place_pair : Small (pair_fault c lo hi p q)
+  unfolding pair_fault
   place_pair =
       let n = length c in
       place_cases (leb 32 n) (ltb lo p) (not_above n (p_at c (n - 1)) p) (ltb hi q) (not_above n (q_at c (n - 1)) q) refl
 
-place_or : (f g : TerminalsFound) → place f < 64 → place g < 64 → place (or_fault f g) < 64
-unfolding or_fault
-place_or Good g a b = b
-place_or Crowd g a b = a
-place_or (Overhang n) g a b = a
-place_or (Crossing n) g a b = a
+place_or : (f g : Option TerminalsFault) → Small f → Small g → Small (option_or f g)
+place_or None g a b = b
+place_or (Some f) g a b = a
 
-place_pairs : (c : List Pair) (lo hi : ℕ) (xs : List Pair) → place (pairs_found c lo hi xs) < 64
-unfolding pairs_found
-place_pairs c lo hi [] = omega arith
-place_pairs c lo hi (x ∷ xs) = place_or (pair_found c lo hi x.p x.q) _ (place_pair c lo hi x.p x.q) (place_pairs (c ++ (x ∷ [])) lo hi xs)
+place_pairs : (c : List Pair) (lo hi : ℕ) (xs : List Pair) → Small (pairs_fault c lo hi xs)
+unfolding pairs_fault
+place_pairs c lo hi [] = tt
+place_pairs c lo hi (x ∷ xs) = place_or (pair_fault c lo hi x.p x.q) _ (place_pair c lo hi x.p x.q) (place_pairs (c ++ (x ∷ [])) lo hi xs)
 
-pub place_found : (lo hi : ℕ) (xs : List Pair) → place (terminals_found lo hi xs) < 64
-unfolding terminals_found
+place_found : (lo hi : ℕ) (xs : List Pair) → Small (terminals_fault lo hi xs)
+unfolding terminals_fault
 place_found lo hi xs = go (ltb 32 (length xs))
   where
-    go : (v : Bool) → place (cond v Crowd (pairs_found [] lo hi xs)) < 64
+    go : (v : Bool) → Small (cond v (Some Crowd) (pairs_fault [] lo hi xs))
     go true = omega arith
     go false = place_pairs [] lo hi xs
 
-pub place_overhang : (f : TerminalsFound) (n : ℕ) → f ≡ Overhang n → place f < 64 → n < 64
-place_overhang f n e h = rw e at h
+pub fault_small : (xs : List ℕ) (n lo hi : ℕ) (f : TerminalsFault) → IsTerminalsMade xs n lo hi (Err f) → place f < 64
+fault_small xs n lo hi f m = rw (← m.fault) at (place_found lo hi (pairs_in xs n))
 
-pub place_crossing : (f : TerminalsFound) (n : ℕ) → f ≡ Crossing n → place f < 64 → n < 64
-place_crossing f n e h = rw e at h
+-- THE REFUSAL of line n for the first fault, if there is one
+abbrev fault_refusal : (n : ℕ) → Option TerminalsFault → Refusal
+fault_refusal n None = fine
+fault_refusal n (Some f) = refusal (number_of (terminals_refused n f).why) n (terminals_refused n f).field
 
--- A REFUSAL at the fault
-module _ (n : ℕ) (f : TerminalsFound) (o : Outcome) where
-  pub told_crowd : f ≡ Crowd → o ≡ refused why.Crowd n 66 → refusal_of o ≡ found_refusal n f
-  told_crowd e h = rw (e, h)
-
-  pub told_overhang : (i : ℕ) → f ≡ Overhang i → o ≡ refused why.Overhang n (i + 2) → refusal_of o ≡ found_refusal n f
-  told_overhang i e h = rw (e, h)
-
-  pub told_crossing : (i : ℕ) → f ≡ Crossing i → o ≡ refused why.Crossing n (i + 2) → refusal_of o ≡ found_refusal n f
-  told_crossing i e h = rw (e, h)
+same_refusal : (n : ℕ) (f : TerminalsFault) → refusal (number_of (terminals_refused n f).why) (terminals_refused n f).line (terminals_refused n f).field ≡ fault_refusal n (Some f)
+same_refusal n Crowd = refl
+same_refusal n (Overhang i) = refl
+same_refusal n (Crossing i) = refl
 
 -- THE FIRST FAULT
 some_before : (n : ℕ) → leb 1 n ≡ not (eqb n 0)
 some_before zero = refl
 some_before (suc n) = rw (le-leb 1 (suc n) (omega arith), ne_eqb (suc n) 0 (omega arith))
 
-step_cases : (i n : ℕ) (a b c d : Bool) (f : TerminalsFound) (r : Refusal) → found_refusal i f ≡ r →
-    found_refusal i (or_fault (cond a (Overhang (2 * n)) (cond b (Crossing (2 * n)) (cond c (Overhang (2 * n + 1)) (cond d (Crossing (2 * n + 1)) Good)))) f)
+step_cases : (i n : ℕ) (a b c d : Bool) (f : Option TerminalsFault) (r : Refusal) → fault_refusal i f ≡ r →
+    fault_refusal i (option_or (cond a (Some (Overhang (2 * n))) (cond b (Some (Crossing (2 * n))) (cond c (Some (Overhang (2 * n + 1))) (cond d (Some (Crossing (2 * n + 1))) None)))) f)
     ≡ cond a (refusal 5 i (2 * n + 2)) (cond b (refusal 6 i (2 * n + 2))
     (cond c (refusal 5 i (suc (2 * n + 2))) (cond d (refusal 6 i (suc (2 * n + 2))) r)))
-unfolding or_fault
 step_cases i n true b c d f r e = refl
 step_cases i n false true c d f r e = refl
 step_cases i n false false true d f r e = ap (λ k. refusal 5 i k) (omega arith)
@@ -105,10 +97,10 @@ step_cases i n false false false false f r e = e
 
 pair_tests : (c : List Pair) (lo hi p q : ℕ) → length c < 32 →
     let n = length c in
-    pair_found c lo hi p q
-    ≡ cond (ltb lo p) (Overhang (2 * n)) (cond (not (eqb n 0) && leb p (p_at c (n - 1))) (Crossing (2 * n))
-    (cond (ltb hi q) (Overhang (2 * n + 1)) (cond (not (eqb n 0) && leb q (q_at c (n - 1))) (Crossing (2 * n + 1)) Good)))
-unfolding pair_found not_above
+    pair_fault c lo hi p q
+    ≡ cond (ltb lo p) (Some (Overhang (2 * n))) (cond (not (eqb n 0) && leb p (p_at c (n - 1))) (Some (Crossing (2 * n)))
+    (cond (ltb hi q) (Some (Overhang (2 * n + 1))) (cond (not (eqb n 0) && leb q (q_at c (n - 1))) (Some (Crossing (2 * n + 1))) None)))
+unfolding pair_fault not_above
 pair_tests c lo hi p q h = rw (lt-leb 32 (length c) h, some_before (length c))
 
 last_p : (c : List Pair) (x y : ℕ) → p_at (c ++ (pair x y ∷ [])) (length c) ≡ x
@@ -131,9 +123,9 @@ behind c x y lo hi n vs =
     rw (long, field, ne_eqb (suc (length c)) 0 (omega arith), last, last_p c x y, last_q c x y)
 
 faults_refused : (i : ℕ) (c : List Pair) (lo hi : ℕ) (vs : List ℕ) → length c + length (pairs_of vs) ≤ 32 →
-    found_refusal i (pairs_found c lo hi (pairs_of vs))
+    fault_refusal i (pairs_fault c lo hi (pairs_of vs))
     ≡ terminals_refusal (2 * length c + 2) (eqb (length c) 0) (p_at c (length c - 1)) (q_at c (length c - 1)) lo hi i vs
-unfolding pairs_found pairs_of terminals_refusal pair
+unfolding pairs_fault pairs_of terminals_refusal pair
 faults_refused i c lo hi [] h = refl
 faults_refused i c lo hi (x ∷ []) h = refl
 faults_refused i c lo hi (x ∷ y ∷ vs) h =
@@ -142,7 +134,7 @@ faults_refused i c lo hi (x ∷ y ∷ vs) h =
     let n = length c in
     let left = not (eqb n 0) && leb x (p_at c (n - 1)) in
     let right = not (eqb n 0) && leb y (q_at c (n - 1)) in
-    rw (pair_tests c lo hi x y (omega arith)) (step_cases i n (ltb lo x) left (ltb hi y) right (pairs_found d lo hi (pairs_of vs)) _ rest)
+    rw (pair_tests c lo hi x y (omega arith)) (step_cases i n (ltb lo x) left (ltb hi y) right (pairs_fault d lo hi (pairs_of vs)) _ rest)
 
 -- THE PAIRS of a line's numbers
 pub pairs_length : (vs : List ℕ) → length (pairs_of vs) ≡ length vs / 2
@@ -176,32 +168,17 @@ module _ (vs places : List ℕ) (same : (i : ℕ) → i < 64 → i < length vs �
       let long = pairs_in_length places n in
       ext_get_or (pair 0 0) (pairs_in places n) (pairs_of vs) (long ∙ sym (pairs_length vs)) (λ j h. pair_in_places j (omega arith))
 
-good_only : (i : ℕ) (f : TerminalsFound) → (found_refusal i f).number ≡ 0 → f ≡ Good
-unfolding refusal
-good_only i Good h = refl
-good_only i Crowd h = absurd (omega arith)
-good_only i (Overhang n) h = absurd (omega arith)
-good_only i (Crossing n) h = absurd (omega arith)
-
-good_few : (lo hi : ℕ) (xs : List Pair) → terminals_found lo hi xs ≡ Good → length xs ≤ 32
-unfolding terminals_found
-good_few lo hi xs e = go (ltb 32 (length xs)) refl e
-  where
-    go : (v : Bool) → ltb 32 (length xs) ≡ v → cond v Crowd (pairs_found [] lo hi xs) ≡ Good → length xs ≤ 32
-    go true h e = let z : ◌≡◌ {A = ℕ} 0 1 = cc in absurd (omega arith)
-    go false h e = ltb-false 32 (length xs) h
-
 -- crowd, then the terminals
-terminals_refused : (n lo hi : ℕ) (vs places : List ℕ) → ((i : ℕ) → i < 64 → i < length vs → get_or places i 0 ≡ get_or vs i 0) → length vs % 2 ≡ 0 →
-    found_refusal n (terminals_found lo hi (pairs_in places (length vs / 2))) ≡ nets_content lo hi (entry n 0 vs)
-unfolding terminals_found nets_content entry fault_at p_at q_at pair
-terminals_refused n lo hi vs places same even = go (ltb 64 (length vs)) refl
+terminals_refused_as : (n lo hi : ℕ) (vs places : List ℕ) → ((i : ℕ) → i < 64 → i < length vs → get_or places i 0 ≡ get_or vs i 0) → length vs % 2 ≡ 0 →
+    fault_refusal n (terminals_fault lo hi (pairs_in places (length vs / 2))) ≡ nets_content lo hi (entry n 0 vs)
+unfolding terminals_fault nets_content entry fault_at p_at q_at pair
+terminals_refused_as n lo hi vs places same even = go (ltb 64 (length vs)) refl
   where
     long : length (pairs_in places (length vs / 2)) ≡ length vs / 2
     long = pairs_in_length places (length vs / 2)
 
     go : (v : Bool) → ltb 64 (length vs) ≡ v →
-        found_refusal n (cond (ltb 32 (length (pairs_in places (length vs / 2)))) Crowd (pairs_found [] lo hi (pairs_in places (length vs / 2))))
+        fault_refusal n (cond (ltb 32 (length (pairs_in places (length vs / 2)))) (Some Crowd) (pairs_fault [] lo hi (pairs_in places (length vs / 2))))
         ≡ cond v (refusal 3 n 66) (terminals_refusal 2 true 0 0 lo hi n vs)
     go true h = rw (long, lt-ltb 32 (length vs / 2) (omega (arith, ltb-true)))
     go false h =
@@ -218,30 +195,30 @@ pairs_even n h = go (eqb (n % 2) 0) refl h
 
 -- THE NUMBERS that a line supplies
 module _ (lo hi n : ℕ) (vs places : List ℕ) (count : ℕ) (m : Kept vs places count) where
-  pairs_kept : (q : TerminalsMade) → IsTerminalsMade places (count / 2) lo hi q → q.found ≡ Good → channel_of q.terminals ≡ pairs_of vs
-  unfolding kept
-  pairs_kept q s g =
-      let found = good_few lo hi (pairs_in places (count / 2)) (sym s.found ∙ g) in
-      let few : length vs / 2 ≤ 32 = omega (arith, found, pairs_in_length places (count / 2), m.count_is) in
-      s.pairs ∙ rw (g, m.count_is) (pairs_in_places vs places m.in_place few)
+  told : (o : Option TerminalsFault) → o ≡ terminals_fault lo hi (pairs_in places (count / 2)) → fault_refusal n o ≡ nets_content lo hi (entry n 0 vs)
+  told o e = rw (e, m.count_is) (terminals_refused_as n lo hi vs places m.in_place m.even)
 
-  pub numbers_found : (w : Outcome) (q : TerminalsMade) → IsTerminalsMade places (count / 2) lo hi q → refusal_of w ≡ found_refusal n q.found →
-      NetsContent lo hi n vs (record { outcome = w; terminals = q.terminals })
-  numbers_found w q s v = record {
-    outcome = v ∙ rw (s.found, m.count_is) (terminals_refused n lo hi vs places m.in_place m.even);
-    pairs = λ z. pairs_kept q s (good_only n q.found (rw v at z));
-  }
+  pub numbers_made : (t : Terminals) → IsTerminalsMade places (count / 2) lo hi (Ok t) → NetsContent lo hi n vs (Ok t)
+  numbers_made t s =
+      let few : length vs / 2 ≤ 32 = omega (arith, made_few places (count / 2) lo hi t s, channel_length t, ap length s.pairs, pairs_in_length places (count / 2), m.count_is) in
+      record {
+        outcome = told None s.fault;
+        pairs = s.pairs ∙ rw (m.count_is) (pairs_in_places vs places m.in_place few);
+      }
+
+  pub numbers_refused : (f : TerminalsFault) → IsTerminalsMade places (count / 2) lo hi (Err f) → NetsContent lo hi n vs (Err (terminals_refused n f))
+  numbers_refused f s = record { outcome = same_refusal n f ∙ told (Some f) s.fault; pairs = tt }
 
 -- THE LINE
-module _ (lo hi n : ℕ) (l : Line) (r : KindRead) (vs : List ℕ) (m : IsKindRead nets_word (λ n. in_pairs n) n l r vs) where
-  pub nets_ill : (q : Terminals) → is_accepted r.layout ≡ false → IsNetsRead lo hi n l (record { outcome = r.layout; terminals = q })
+module _ (lo hi n : ℕ) (l : Line) (vs : List ℕ) where
+  pub nets_ill : (x : Refused) → IsKindRead nets_word (λ n. in_pairs n) n l (Err x) vs → IsNetsRead lo hi n l (Err x)
   unfolding nets_kind kind
-  nets_ill q a = record { outcome = layout_refused (nets_kind lo hi) n l r vs m a; pairs = λ z. absurd (refused_number r.layout a z) }
+  nets_ill x m = record { outcome = layout_refused (nets_kind lo hi) n l vs x m; pairs = tt }
 
-  module _ (a : is_accepted r.layout ≡ true) where
-    pub line_kept : Kept (numbers_of l) vs r.count
-    line_kept = record { in_place = λ i h k. rw (m.kept a) (getD_in_places 64 i (numbers_of l) h); count_is = m.count; even = rw m.count at (pairs_even r.count (m.fault a)) }
+  module _ (count : ℕ) (m : IsKindRead nets_word (λ n. in_pairs n) n l (Ok count) vs) where
+    pub line_kept : Kept (numbers_of l) vs count
+    line_kept = record { in_place = λ i h k. rw m.kept (getD_in_places 64 i (numbers_of l) h); count_is = m.count; even = rw m.count at (pairs_even count m.fault) }
 
-    pub nets_found : (q : NetsRead) → NetsContent lo hi n (numbers_of l) q → IsNetsRead lo hi n l q
+    pub nets_found : (q : Result Terminals Refused) → NetsContent lo hi n (numbers_of l) q → IsNetsRead lo hi n l q
     unfolding nets_kind kind
-    nets_found q s = record { outcome = s.outcome ∙ sym (layout_then (nets_kind lo hi) n l r vs m a); pairs = s.pairs }
+    nets_found q s = record { outcome = s.outcome ∙ sym (layout_then (nets_kind lo hi) n l vs count m); pairs = s.pairs }

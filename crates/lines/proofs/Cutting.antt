@@ -1,19 +1,18 @@
--- Where a line and a field end: the first field goes up to the first tab and the other fields are those behind it; lines likewise, by line feeds. By induction
--- on the bytes. Then the laws of the search for a byte: start, step, find and end. Assumes nothing.
-use mathlib.Core.Path.{◌≡◌, refl, ap, sym, ◌∙◌}
+-- Where a line and a field end: the first field goes up to the first tab, and all of them are what std's split gives; the first line goes up to the first line feed and the other lines are
+-- those behind it. By induction on the bytes. Then what std's search for a place finds. Assumes nothing.
+use mathlib.Core.Path.{◌≡◌, refl, ap, ◌∙◌}
 use mathlib.Core.Bool.{Bool, true, false, cond}
 use mathlib.Core.List.{List, [], ◌∷◌}
 use Prim.Native.Nat.{ℕ, suc, ◌+◌, ◌≤◌, ◌<◌}
-use native.Mathlib.Nat.{zero-add}
-use native.Mathlib.Numerals.{add-one}
 use native.Mathlib.Omega.{arith}
-use lib.Dec.{ltb, eqb, leb-zero, leb-suc-suc}
-use lib.ListN.{length, get_or, take, drop, drop_of_length-le}
-use lib.Seq.{drop-cons}
-use borrow.Author.Tests.{lt-ltb, eq-eqb, ne_eqb}
+use lib.Dec.{ltb, eqb, leb-suc-suc}
+use lib.ListN.{length, get_or, take, drop}
+use borrow.Author.Tests.{lt-ltb, ltb-false}
+use Rattle.std.specs.List.{position_or_len, onto_first, slice_split}
+use Rattle.std.specs.Prelude.{Option, None, Some, unwrap_or}
+use Rattle.std.proofs.lemmas.List.Recursion.{is_position_or_len}
 use Rattle.lines.specs.Lines.{Line, line, to_front, lines, no_line, line_at, into_field, fields}
-use Rattle.lines.specs.Cut.{run, Seeking}
-use Rattle.lines.specs.Numbers.{fields_from}
+use Rattle.lines.specs.Cut.{run}
 
 pub run_below : (b : ℕ) (xs : List ℕ) → run b xs ≤ length xs
 unfolding run
@@ -24,23 +23,30 @@ run_below b (x ∷ xs) = go (eqb x b) (run_below b xs)
     go true h = omega arith
     go false h = omega arith
 
-pub fields_behind : (at x : ℕ) (xs : List ℕ) → fields_from (suc at) (x ∷ xs) ≡ fields_from at xs
-unfolding fields_from
-fields_behind at x xs = rw (leb-suc-suc at (length xs))
+-- std's parts between tabs are the fields
+onto_field : (x : ℕ) (fs : List (List ℕ)) → onto_first x fs ≡ into_field x fs
+unfolding into_field
+onto_field x [] = refl
+onto_field x (f ∷ fs) = refl
 
-fields_whole : (xs : List ℕ) → fields_from 0 xs ≡ fields xs
-unfolding fields_from
-fields_whole xs = rw (leb-zero (length xs))
+pub split_fields : (xs : List ℕ) → slice_split (λ x. eqb x 9) xs ≡ fields xs
+unfolding fields
+split_fields [] = refl
+split_fields (x ∷ xs) = rw (split_fields xs, onto_field x (fields xs))
 
-pub fields_cut : (xs : List ℕ) → fields xs ≡ take (run 9 xs) xs ∷ fields_from (suc (run 9 xs)) xs
-unfolding fields run fields_from into_field
-fields_cut [] = refl
-fields_cut (x ∷ xs) = go (eqb x 9) (fields_cut xs)
+front_field : (x : ℕ) (fs : List (List ℕ)) → get_or (into_field x fs) 0 [] ≡ x ∷ get_or fs 0 []
+unfolding into_field
+front_field x [] = refl
+front_field x (f ∷ fs) = refl
+
+pub first_field : (xs : List ℕ) → get_or (fields xs) 0 [] ≡ take (run 9 xs) xs
+unfolding fields run
+first_field [] = refl
+first_field (x ∷ xs) = go (eqb x 9) (first_field xs)
   where
-    go : (v : Bool) → fields xs ≡ take (run 9 xs) xs ∷ fields_from (suc (run 9 xs)) xs →
-        cond v ([] ∷ fields xs) (into_field x (fields xs)) ≡ take (cond v 0 (suc (run 9 xs))) (x ∷ xs) ∷ fields_from (suc (cond v 0 (suc (run 9 xs)))) (x ∷ xs)
-    go true e = ap (λ r. [] ∷ r) (sym (fields_behind 0 x xs ∙ fields_whole xs))
-    go false e = rw (e, fields_behind (suc (run 9 xs)) x xs)
+    go : (v : Bool) → get_or (fields xs) 0 [] ≡ take (run 9 xs) xs → get_or (cond v ([] ∷ fields xs) (into_field x (fields xs))) 0 [] ≡ take (cond v 0 (suc (run 9 xs))) (x ∷ xs)
+    go true e = refl
+    go false e = front_field x (fields xs) ∙ ap (λ r. x ∷ r) e
 
 front_first : (x : ℕ) (ls : List Line) → line_at (to_front x ls) 0 ≡ line (x ∷ (line_at ls 0).bytes) (line_at ls 0).ended
 unfolding line_at to_front line no_line
@@ -88,20 +94,18 @@ lines_some (x ∷ xs) h = go (eqb x 10)
     go true = omega arith
     go false = front_some x (lines xs)
 
-pub seeking_starts : (b : ℕ) (xs : List ℕ) → Seeking b xs 0
-seeking_starts b xs = record { below = omega arith; rest = sym (zero-add (run b xs)) }
+-- run is what std's search for a place finds
+pub run_position : (b : ℕ) (xs : List ℕ) → run b xs ≡ position_or_len (λ x. eqb x b) xs
+unfolding run
+run_position b xs =
+    is_position_or_len (λ ys. run b ys) (λ x. eqb x b) refl
+    (λ x ys. let e : suc (run b ys) ≡ 1 + run b ys = omega arith in ap (λ n. cond (eqb x b) 0 n) e)
+    xs
 
-module _ (b : ℕ) (xs : List ℕ) (i : ℕ) (s : Seeking b xs i) where
-  pub seeking_steps : i < length xs → (get_or xs i 0 ≡ b → ⊥) → Seeking b xs (i + 1)
-  unfolding run
-  seeking_steps h d = record { below = omega arith; rest = s.rest ∙ rw (drop-cons xs i 0 h, ne_eqb (get_or xs i 0) b d, add-one i) (omega arith) }
-
-  pub seeking_finds : i < length xs → get_or xs i 0 ≡ b → i ≡ run b xs
-  unfolding run
-  seeking_finds h e = sym (s.rest ∙ rw (drop-cons xs i 0 h, eq-eqb (get_or xs i 0) b e) (omega arith))
-
-  pub seeking_ends : length xs ≤ i → length xs ≡ run b xs
-  unfolding run
-  seeking_ends h =
-      let none : drop i xs ≡ [] = drop_of_length-le xs {i = i} h in
-      sym (s.rest ∙ rw none (omega (arith, s.below)))
+-- that place where there is one, and else the length
+pub place_run : (b : ℕ) (xs : List ℕ) (o : Option ℕ) → o ≡ cond (ltb (position_or_len (λ x. eqb x b) xs) (length xs)) (Some (position_or_len (λ x. eqb x b) xs)) None → unwrap_or o (length xs) ≡ run b xs
+place_run b xs o e = rw (e, ← run_position b xs) (go (ltb (run b xs) (length xs)) refl)
+  where
+    go : (v : Bool) → ltb (run b xs) (length xs) ≡ v → unwrap_or (cond v (Some (run b xs)) None) (length xs) ≡ run b xs
+    go true h = refl
+    go false h = omega (arith, ltb-false (run b xs) (length xs) h, run_below b xs)

@@ -2,21 +2,21 @@
 -- By the law that the first field goes up to the first tab. Assumes nothing.
 use mathlib.Core.Path.{◌≡◌, refl, ap, sym, ◌∙◌}
 use mathlib.Core.Bool.{Bool, true, false, ◌&&◌, cond}
-use mathlib.Core.List.{List, [], ◌∷◌, ◌++◌, append_assoc, append-nil}
+use mathlib.Core.List.{List, [], ◌∷◌, ◌++◌}
 use Prim.Native.Nat.{ℕ, zero, suc, ◌+◌, ◌-◌, ◌≤◌, ◌<◌}
 use native.Mathlib.Nat.{zero-add}
-use native.Mathlib.Numerals.{add-one}
 use native.Mathlib.Omega.{arith}
 use lib.Dec.{eqb}
 use lib.ListN.{length, get_or, set, take, drop, replicate, length-append, length-drop}
 use lib.Seq.{take_all}
-use borrow.Author.Tests.{le-leb, lt-leb, ne_eqb}
+use borrow.Author.Tests.{eqb-true, ne_eqb}
 use Rattle.lines.specs.Lines.{Line, line, into_field, fields, word_of, number_fields, same_bytes, has_word, is_number, ill_formed, value, values, numbers_of}
 use Rattle.lines.specs.Cut.{run}
-use Rattle.lines.specs.Numbers.{number_in, numbers_in, in_places, IsFieldRead, NumbersRead, first_ill, fields_from, Taking, IsLineRead}
-use Rattle.lines.specs.declared.FieldRead.{FieldRead}
+use Rattle.std.specs.Prelude.{Option, None, Some}
+use Rattle.std.specs.Option.{option_or}
+use Rattle.lines.specs.Numbers.{field_read, number_in, numbers_in, in_places, field_if_any, NumbersRead, IsLineRead}
 use Rattle.lines.specs.declared.Numbers.{Numbers}
-use Rattle.lines.proofs.Cutting.{run_below, fields_cut, fields_behind}
+use Rattle.lines.proofs.Cutting.{first_field}
 
 set_in_places : (n : ℕ) (vs : List ℕ) (v : ℕ) → set (in_places n vs) (length vs) v ≡ in_places n (vs ++ (v ∷ []))
 unfolding in_places
@@ -43,52 +43,75 @@ unfolding numbers_in
 numbers_length [] = refl
 numbers_length (f ∷ fs) = ap suc (numbers_length fs)
 
-ill_more : (k : ℕ) (fs : List (List ℕ)) (f : List ℕ) → ill_formed (suc k) (fs ++ (f ∷ [])) ≡ first_ill (ill_formed (suc k) fs) (is_number f) (length fs + suc k)
-unfolding ill_formed first_ill
-ill_more k [] f = rw (zero-add (suc k))
+-- the first ill-formed field, where one more is looked at
+ill_more : (k : ℕ) (fs : List (List ℕ)) (f : List ℕ) →
+    field_if_any (ill_formed (suc k) (fs ++ (f ∷ []))) ≡ option_or (field_if_any (ill_formed (suc k) fs)) (cond (is_number f) None (Some (length fs + suc k)))
+unfolding ill_formed
+ill_more k [] f = rw (zero-add (suc k)) (go (is_number f))
+  where
+    go : (v : Bool) → field_if_any (cond v 0 (suc k)) ≡ cond v None (Some (suc k))
+    go true = refl
+    go false = rw (ne_eqb (suc k) 0 (omega arith))
 ill_more k (g ∷ fs) f = go (is_number g) (ill_more (suc k) fs f)
   where
-    go : (v : Bool) → ill_formed (suc (suc k)) (fs ++ (f ∷ [])) ≡ first_ill (ill_formed (suc (suc k)) fs) (is_number f) (length fs + suc (suc k)) →
-        cond v (ill_formed (suc (suc k)) (fs ++ (f ∷ []))) (suc k) ≡ first_ill (cond v (ill_formed (suc (suc k)) fs) (suc k)) (is_number f) (suc (length fs) + suc k)
+    go : (v : Bool) →
+        field_if_any (ill_formed (suc (suc k)) (fs ++ (f ∷ []))) ≡ option_or (field_if_any (ill_formed (suc (suc k)) fs)) (cond (is_number f) None (Some (length fs + suc (suc k)))) →
+        field_if_any (cond v (ill_formed (suc (suc k)) (fs ++ (f ∷ []))) (suc k))
+        ≡ option_or (field_if_any (cond v (ill_formed (suc (suc k)) fs) (suc k))) (cond (is_number f) None (Some (suc (length fs) + suc k)))
     go true e =
         let place : suc (length fs) + suc k ≡ length fs + suc (suc k) = omega arith in
         rw place e
-    go false e = rw (ne_eqb (suc k) 0 (omega arith)) (kept (is_number f))
-      where
-        kept : (w : Bool) → suc k ≡ cond w (suc k) (suc k)
-        kept true = refl
-        kept false = refl
+    go false e = rw (ne_eqb (suc k) 0 (omega arith))
 
--- one field more
-module _ (f : List ℕ) (n : Numbers) (before : List ℕ) (g : FieldRead) (ill : ℕ) (values : List ℕ) (read : IsFieldRead f g)
-    (first : ill ≡ first_ill n.ill g.good (n.count + 2)) (put : values ≡ set before n.count g.value) where
-  abbrev more : Numbers
-  more = record { ill = ill; count = n.count + 1 }
+-- a zero more changes no place
+zero_in_places : (n : ℕ) (vs : List ℕ) → in_places n (vs ++ (0 ∷ [])) ≡ in_places n vs
+unfolding in_places
+zero_in_places zero vs = refl
+zero_in_places (suc n) [] = ap (λ r. 0 ∷ r) (none n)
+  where
+    none : (n : ℕ) → in_places n [] ≡ in_places n []
+    none n = refl
+zero_in_places (suc n) (x ∷ vs) = ap (λ r. x ∷ r) (zero_in_places n vs)
 
-  field_read_more : (fs : List (List ℕ)) → NumbersRead fs n before → NumbersRead (fs ++ (f ∷ [])) more values
-  field_read_more fs m = record {
-    ill = first ∙ rw (read.good, m.ill, m.count) (sym (ill_more 1 fs f));
-    count = rw (m.count, length-append fs (f ∷ []));
-    kept = put ∙ rw (read.value, m.kept, m.count, ← numbers_length fs, set_in_places 64 (numbers_in fs) (number_in f), numbers_more fs f);
-  }
+-- one field more: a number, or an ill-formed field
+option_or_none : {A : Type 0} (o : Option A) → o ≡ option_or o None
+option_or_none None = refl
+option_or_none (Some x) = refl
 
-fields_on : (at j : ℕ) (xs : List ℕ) → at ≤ length xs → fields_from j (drop at xs) ≡ fields_from (at + j) xs
-fields_on zero j xs h = rw zero-add
-fields_on (suc at) j [] h = absurd (omega arith)
-fields_on (suc at) j (x ∷ xs) h =
-    let e : suc at + j ≡ suc (at + j) = omega arith in
-    rw (e, fields_behind (at + j) x xs) (fields_on at j xs (omega arith))
+module _ (f : List ℕ) (n : Numbers) (before : List ℕ) (fs : List (List ℕ)) (m : NumbersRead fs n before) where
+  pub number_more : (x : ℕ) (values : List ℕ) → Some x ≡ field_read f → values ≡ set before n.count x → NumbersRead (fs ++ (f ∷ [])) (record { ill = n.ill; count = n.count + 1 }) values
+  unfolding field_read number_in
+  number_more x values read put = go (is_number f) refl read
+    where
+      go : (v : Bool) → is_number f ≡ v → Some x ≡ cond v (Some (value f)) None → NumbersRead (fs ++ (f ∷ [])) (record { ill = n.ill; count = n.count + 1 }) values
+      go true e q =
+          let is : x ≡ value f = cc in
+          record {
+            ill = m.ill ∙ sym (ill_more 1 fs f ∙ rw e (sym (option_or_none (field_if_any (ill_formed 2 fs)))));
+            count = rw (m.count, length-append fs (f ∷ []));
+            kept = put ∙ rw (is, m.kept, m.count, ← numbers_length fs, set_in_places 64 (numbers_in fs) (value f), numbers_more fs f, e);
+          }
+      go false e q = cc
+
+  pub ill_formed_more : None ≡ field_read f → NumbersRead (fs ++ (f ∷ [])) (record { ill = option_or n.ill (Some (n.count + 2)); count = n.count + 1 }) before
+  unfolding field_read number_in
+  ill_formed_more read = go (is_number f) refl read
+    where
+      go : (v : Bool) → is_number f ≡ v → None ≡ cond v (Some (value f)) None → NumbersRead (fs ++ (f ∷ [])) (record { ill = option_or n.ill (Some (n.count + 2)); count = n.count + 1 }) before
+      go true e q = cc
+      go false e q = record {
+        ill = sym (ill_more 1 fs f ∙ rw (e, m.ill, m.count));
+        count = rw (m.count, length-append fs (f ∷ []));
+        kept = m.kept ∙ rw (numbers_more fs f, e, zero_in_places 64 (numbers_in fs));
+      }
 
 -- the bytes of a part up to the end
 pub rest_of : (xs : List ℕ) (at : ℕ) → take (length xs - at) (drop at xs) ≡ drop at xs
 rest_of xs at = take_all (length xs - at) (drop at xs) (omega (arith, length-drop at xs))
 
-none_read : (values : List ℕ) → values ≡ replicate 64 0 → NumbersRead [] (record { ill = 0; count = 0 }) values
+pub none_read : (values : List ℕ) → values ≡ replicate 64 0 → NumbersRead [] (record { ill = None; count = 0 }) values
 unfolding ill_formed numbers_in in_places
 none_read values e = record { ill = refl; count = refl; kept = e }
-
-pub taking_starts : (xs : List ℕ) (from : ℕ) (values : List ℕ) → from ≤ suc (length xs) → values ≡ replicate 64 0 → Taking xs from from (record { ill = 0; count = 0 }) values
-taking_starts xs from values h e = record { seen = []; rest = refl; few = omega arith; below = h; read = none_read values e }
 
 -- while fields are read, the numbers kept have their places
 places_length : (n : ℕ) (vs : List ℕ) → length (in_places n vs) ≡ n
@@ -97,43 +120,8 @@ places_length zero vs = refl
 places_length (suc n) [] = ap suc (places_length n [])
 places_length (suc n) (v ∷ vs) = ap suc (places_length n vs)
 
-pub taking_long : (xs : List ℕ) (from at : ℕ) (n : Numbers) (values : List ℕ) → Taking xs from at n values → length values ≡ 64
-taking_long xs from at n values t = rw t.read.kept (places_length 64 (numbers_in t.seen))
-
--- the field at a place ends at the first tab behind it
-module _ (xs : List ℕ) (at r : ℕ) (here : at ≤ length xs) (e : r ≡ run 9 (take (length xs - at) (drop at xs))) where
-  pub field_end : at + r ≤ length xs
-  field_end = rw (e, rest_of xs at) (omega (arith, run_below 9 (drop at xs), length-drop at xs))
-
-  field_whole : fields_from at xs ≡ fields (drop at xs)
-  unfolding fields_from
-  field_whole = rw (le-leb at (length xs) here)
-
-  field_cut : fields_from at xs ≡ take (at + r - at) (drop at xs) ∷ fields_from (at + r + 1) xs
-  field_cut =
-      let s : at + r - at ≡ r = omega arith in
-      let n : at + r + 1 ≡ at + suc r = omega arith in
-      let q : r ≡ run 9 (drop at xs) = e ∙ rw (rest_of xs at) in
-      rw (s, n, ← fields_on at (suc r) xs here, q) (field_whole ∙ fields_cut (drop at xs))
-
-  pub taking_steps : (from : ℕ) (n : Numbers) (before : List ℕ) (g : FieldRead) (ill : ℕ) (values : List ℕ) → Taking xs from at n before →
-      IsFieldRead (take (at + r - at) (drop at xs)) g → ill ≡ first_ill n.ill g.good (n.count + 2) → values ≡ set before n.count g.value →
-      Taking xs from (at + r + 1) (record { ill = ill; count = n.count + 1 }) values
-  taking_steps from n before g ill values t a p q =
-      let f = take (at + r - at) (drop at xs) in
-      record {
-        seen = t.seen ++ (f ∷ []);
-        rest = t.rest ∙ rw (field_cut, append_assoc t.seen (f ∷ []) (fields_from (at + r + 1) xs));
-        few = omega (arith, t.few, length-append t.seen (f ∷ []));
-        below = omega (arith, field_end);
-        read = field_read_more f n before g ill values a p q t.seen t.read;
-      }
-
-pub taking_ends : (xs : List ℕ) (from at : ℕ) (n : Numbers) (values : List ℕ) → length xs < at → Taking xs from at n values → NumbersRead (fields_from from xs) n values
-unfolding fields_from
-taking_ends xs from at n values h t =
-    let none : fields_from at xs ≡ [] = rw (lt-leb at (length xs) h) in
-    rw (t.rest, none, append-nil t.seen) t.read
+pub read_long : (fs : List (List ℕ)) (n : Numbers) (values : List ℕ) → NumbersRead fs n values → length values ≡ 64
+read_long fs n values m = rw m.kept (places_length 64 (numbers_in fs))
 
 -- where none is ill-formed, the numbers kept are the numbers
 numbers_are : (k : ℕ) (fs : List (List ℕ)) → ill_formed (suc k) fs ≡ 0 → numbers_in fs ≡ values fs
@@ -184,16 +172,25 @@ ill_few f (x ∷ xs) = go (is_number x) (ill_few (suc f) xs)
     go true h = omega arith
     go false h = omega arith
 
+no_field : (f : ℕ) → field_if_any f ≡ None → f ≡ 0
+no_field f h = go (eqb f 0) refl h
+  where
+    go : (v : Bool) → eqb f 0 ≡ v → cond v None (Some f) ≡ None → f ≡ 0
+    go true e h = eqb-true f 0 e
+    go false e h = cc
+
 -- A LINE whose word ends at r
-pub line_reads : (xs w : List ℕ) (b v : Bool) (r : ℕ) (n : Numbers) (values : List ℕ) → r ≡ run 9 xs → NumbersRead (fields_from (r + 1) xs) n values →
+pub line_reads : (xs w : List ℕ) (b v : Bool) (r : ℕ) (n : Numbers) (values : List ℕ) → r ≡ run 9 xs → NumbersRead (drop 1 (fields xs)) n values →
     v ≡ (b && same_bytes (take r xs) w) → IsLineRead (line xs b) w (record { worded = v; ill = n.ill; count = n.count }) values
 unfolding has_word word_of number_fields numbers_of line
 line_reads xs w b v r n values e m g =
-    let word : get_or (fields xs) 0 [] ≡ take r xs = rw (fields_cut xs, e) in
-    let others : drop 1 (fields xs) ≡ fields_from (r + 1) xs = rw (fields_cut xs, e, add-one (run 9 xs)) in
     record {
-      worded = rw word g;
-      ill = rw others m.ill;
-      count = rw others m.count;
-      kept = λ z. rw others (m.kept ∙ ap (λ v. in_places 64 v) (numbers_are 1 (fields_from (r + 1) xs) (sym m.ill ∙ z)));
+      worded = rw (first_field xs, ← e) g;
+      ill = m.ill;
+      count = m.count;
+      kept = λ z. m.kept ∙ ap (λ v. in_places 64 v) (numbers_are 1 (drop 1 (fields xs)) (no_field _ (sym m.ill ∙ z)));
     }
+
+-- the fields yielded so far are no more than the bytes
+pub fields_bound : (xs : List ℕ) → length (drop 1 (fields xs)) ≤ length xs
+fields_bound xs = omega (arith, length-drop 1 (fields xs), fields_few xs)

@@ -1,5 +1,6 @@
 -- TRUSTED. A text's lines, their fields, words and numbers. Document 01, "Lines and tabs". Assumes nothing: these are definitions.
 use Rattle.std.specs.Prelude.{Bool, true, false, ◌&&◌, ◌||◌, not, cond, List, [], ◌∷◌, ℕ, suc, ◌+◌, ◌*◌, ◌-◌, leb, eqb, length, get_or, drop}
+use Rattle.lines.specs.declared.Line.{Line as LineStruct}
 
 -- LINES, each ended by a line feed, byte 10; what is behind the last is an unended line
 pub record Line : Type 0 where
@@ -8,6 +9,10 @@ pub record Line : Type 0 where
 
 unfoldable pub line : List ℕ → (ended : Bool) → Line
 line b e = record { bytes = b; ended = e }
+
+-- the line that a struct stands for
+abbrev pub line_of : LineStruct → Line
+line_of l = line l.bytes.now l.ended
 
 unfoldable pub to_front : ℕ → List Line → List Line
 to_front x [] = line (x ∷ []) false ∷ []

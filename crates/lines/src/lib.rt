@@ -1,138 +1,112 @@
 // A text's lines: where each ends, and one reader for the lines of every word.
 #![tactic(auto)]
 
-ghost use Rattle.std.specs.Prelude.{◌≡◌, suc, ◌≤◌, length, set, replicate};
-ghost use Rattle.lines.specs.Lines.{line, is_digit, same_bytes};
-ghost use Rattle.lines.specs.Cut.{run, LineFrom};
+ghost use Rattle.std.specs.Prelude.{◌≡◌, ◌^◌, ◌≤◌, ◌<◌, length, set, drop, replicate, IfSome};
+ghost use Rattle.lines.specs.Lines.{line_of, fields, is_digit, same_bytes};
+ghost use Rattle.lines.specs.Cut.{run, line_from};
 ghost use Rattle.lines.specs.Numbers.{
   sized,
-  IsDigitsRead,
-  IsFieldRead,
+  digits_read,
+  field_read,
   NumbersRead,
-  first_ill,
-  fields_from,
   IsLineRead,
 };
 
-const TAB: u8 = 9;
+const TAB: u8 = b'\t';
 
-const LINE_FEED: u8 = 10;
+const LINE_FEED: u8 = b'\n';
+
+// A line of a text: its bytes, and whether a line feed ends it.
+#[derive(Clone, Copy, Debug, PartialEq, Eq)]
+pub struct Line<'a> {
+    pub bytes: &'a [u8],
+    pub ended: bool,
+}
 
 // How many bytes stand before the first b; all, where there is none.
 fn run(bytes: &[u8], b: u8) -> usize
     ensures { result ≡ run b bytes.now }
 {
-    for i in 0..bytes.len() {
-        if bytes[i] == b {
-            return i;
-        }
+    bytes.iter().position(|x| *x == b).unwrap_or(bytes.len())
+}
+
+// The line that begins at a place; the next begins behind its line feed.
+#[tactic(auto, using(crate::proofs::Places::run_length, crate::proofs::Places::line_cut))]
+pub fn line_from(text: &[u8], at: usize) -> Line<'_>
+    requires { at ≤ length text.now }
+    ensures { line_of result ≡ line_from text.now at }
+{
+    let rest = &text[at..];
+    let end = run(rest, LINE_FEED);
+    Line {
+        bytes: &rest[..end],
+        ended: end < rest.len(),
     }
-    bytes.len()
 }
 
 // Whether two byte strings are the same.
+#[tactic(auto, using(crate::proofs::Digits::same_pointwise))]
 pub fn is_word(field: &[u8], word: &[u8]) -> bool
     ensures { result ≡ same_bytes field.now word.now }
 {
-    if field.len() != word.len() {
-        return false;
-    }
-    for i in 0..field.len() {
-        if field[i] != word[i] {
-            return false;
-        }
-    }
-    true
+    field == word
 }
-
-const ZERO: u8 = 48;
-
-const NINE: u8 = 57;
 
 const MAX_DIGITS: usize = 4;
 
 // Whether a byte is a decimal digit.
+#[tactic(auto, using(std::proofs::lemmas::Bool::Decides::nat_tests), unfolding(crate::specs::Lines::is_digit))]
 pub fn is_digit(x: u8) -> bool
     ensures { result ≡ is_digit x }
 {
-    if x < ZERO {
-        return false;
-    }
-    x <= NINE
+    x.is_ascii_digit()
 }
 
 // A number's count of digits and its first digit: 1 to 4, and no leading zero save 0 itself.
+#[tactic(auto, using(std::proofs::lemmas::Bool::Decides::nat_tests, crate::proofs::Digits::first_digit), unfolding(crate::specs::Numbers::sized))]
 fn is_sized(field: &[u8]) -> bool
     ensures { result ≡ sized field.now }
 {
     let digits = field.len();
-    if digits < 1 {
-        return false;
-    }
-    if MAX_DIGITS < digits {
-        return false;
-    }
-    if digits == 1 {
-        return true;
-    }
-    field[0] != ZERO
+    digits == 1 || 1 < digits && digits <= MAX_DIGITS && field[0] != b'0'
 }
 
-// Whether bytes are all digits, and their value; 0 where they are not.
-#[derive(Clone, Copy)]
-pub struct DigitsRead {
-    pub good: bool,
-    pub value: u64,
-}
-
-pub fn read_digits(bytes: &[u8]) -> DigitsRead
+// The value of digits, if all bytes are digits.
+#[tactic(auto, using(crate::proofs::Digits::counting))]
+pub fn read_digits(bytes: &[u8]) -> Option<u64>
     requires { length bytes.now ≤ 10 }
-    ensures { IsDigitsRead bytes.now result }
+    ensures value { result ≡ digits_read bytes.now }
+    ensures small { IfSome result (λ v. v < 10 ^ length bytes.now) }
 {
     let mut value: u64 = 0;
-    for i in 0..bytes.len() {
-        let x = bytes[i];
-        if !is_digit(x) {
-            return DigitsRead {
-                good: false,
-                value: 0,
-            };
+    for x in bytes {
+        if !is_digit(*x) {
+            return None;
         }
-        value = 10 * value + (x as u64 - ZERO as u64);
+        value = 10 * value + u64::from(*x - b'0');
     }
-    DigitsRead { good: true, value }
+    Some(value)
 }
 
-// Whether a field is a number, and which; 0 where it is none.
-#[derive(Clone, Copy)]
-struct FieldRead {
-    good: bool,
-    value: u32,
-}
-
-fn read_field(field: &[u8]) -> FieldRead
-    ensures { IsFieldRead field.now result }
+// A field's number, if it is one.
+#[tactic(auto, using(crate::proofs::Digits::sizes))]
+fn read_field(field: &[u8]) -> Option<u32>
+    ensures { result ≡ field_read field.now }
 {
     if !is_sized(field) {
-        return FieldRead {
-            good: false,
-            value: 0,
-        };
+        return None;
     }
-    let digits = read_digits(field);
-    FieldRead {
-        good: digits.good,
-        value: digits.value as u32,
-    }
+    let value = read_digits(field)?;
+    Some(value as u32)
 }
 
 // So many numbers of a line are kept, as many as a channel may have terminals.
 pub const KEPT: usize = 64;
 
-// The first of a line's fields that is no number, 0 where all are numbers, and how many they are.
+// The first of a line's fields that is no number, and how many they are.
 #[derive(Clone, Copy)]
 struct Numbers {
-    ill: usize,
+    ill: Option<usize>,
     count: usize,
 }
 
@@ -141,82 +115,48 @@ fn put_number(values: &mut [u32; KEPT], i: usize, x: u32)
     requires { length values.old ≡ 64 }
     ensures { values.new ≡ set values.old i x }
 {
+    // By `get_mut` it is as long, and the proof did not close.
     if i < KEPT {
         values[i] = x;
     }
 }
 
-// The first ill-formed field, where one more is looked at.
-#[tactic(auto, using(std::proofs::lemmas::Bool::Decides::nat_tests), unfolding(crate::specs::Numbers::first_ill))]
-fn first_ill(before: usize, good: bool, field: usize) -> usize
-    ensures { result ≡ first_ill before good field }
+// The numbers of a line, in the fields behind the first: the first of them into these places, which are zeros before.
+fn read_numbers(bytes: &[u8], values: &mut [u32; KEPT]) -> Numbers
+    requires { values.old ≡ replicate 64 0 }
+    ensures { NumbersRead (drop 1 (fields bytes.now)) result values.new }
 {
-    if good {
-        return before;
-    }
-    if before == 0 {
-        return field;
-    }
-    before
-}
-
-// The numbers of a line's fields from a place on: the first of them into these places, which are zeros before.
-fn numbers_from(line: &[u8], from: usize, values: &mut [u32; KEPT]) -> Numbers
-    requires { (from ≤ suc (length line.now)) × (values.old ≡ replicate 64 0) }
-    ensures { NumbersRead (fields_from from line.now) result values.new }
-{
-    let mut ill = 0;
+    let mut ill = None;
     let mut count = 0;
-    let mut at = from;
-    while at <= line.len() {
-        let end = at + run(&line[at..], TAB);
-        let field = read_field(&line[at..end]);
-        put_number(values, count, field.value);
-        ill = first_ill(ill, field.good, count + 2);
+    for field in bytes.split(|x| *x == TAB).skip(1) {
+        match read_field(field) {
+            Some(number) => put_number(values, count, number),
+            None => ill = ill.or(Some(count + 2)),
+        }
         count += 1;
-        at = end + 1;
     }
     Numbers { ill, count }
 }
 
-// A line as one of a word: whether it is ended and has the word; of the fields behind it the first that is no number, 0 where all are numbers, and how many they
-// are.
+// A line as one of a word: whether it is ended and has the word; of the fields behind it the first that is no number, and how many they are.
 #[derive(Clone, Copy)]
 pub struct LineRead {
     pub worded: bool,
-    pub ill: usize,
+    pub ill: Option<usize>,
     pub count: usize,
 }
 
 // The line, its first numbers into these places, which are zeros before.
-pub fn read_line(bytes: &[u8], ended: bool, word: &[u8], values: &mut [u32; KEPT]) -> LineRead
+#[tactic(auto, using(crate::proofs::Places::run_length))]
+pub fn read_line(line: Line, word: &[u8], values: &mut [u32; KEPT]) -> LineRead
     requires { values.old ≡ replicate 64 0 }
-    ensures { IsLineRead (line bytes.now ended) word.now result values.new }
+    ensures { IsLineRead (line_of line.entry) word.now result values.new }
 {
-    let end = run(bytes, TAB);
-    let numbers = numbers_from(bytes, end + 1, values);
+    let end = run(line.bytes, TAB);
+    let numbers = read_numbers(line.bytes, values);
     LineRead {
-        worded: ended && is_word(&bytes[..end], word),
+        worded: line.ended && is_word(&line.bytes[..end], word),
         ill: numbers.ill,
         count: numbers.count,
-    }
-}
-
-// Where a line ends, and whether by a line feed.
-#[derive(Clone, Copy)]
-pub struct LineEnd {
-    pub end: usize,
-    pub ended: bool,
-}
-
-// The end of the line that begins at a place.
-pub fn line_end(text: &[u8], at: usize) -> LineEnd
-    requires { at ≤ length text.now }
-    ensures { LineFrom text.now at result }
-{
-    let end = at + run(&text[at..], LINE_FEED);
-    LineEnd {
-        end,
-        ended: end < text.len(),
     }
 }

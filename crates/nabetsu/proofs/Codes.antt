@@ -1,14 +1,11 @@
--- An outcome and a value in one number. Assumes nothing.
+-- A refusal in one number. Assumes nothing.
 use mathlib.Core.Path.{◌≡◌, refl}
 use Prim.Native.Nat.{ℕ, ◌+◌, ◌*◌, ◌≤◌}
 use native.Mathlib.Omega.{arith}
-use Rattle.text.specs.Text.{refusal, fine}
-use Rattle.text.specs.Outcome.{number_of, refusal_of, refused}
+use Rattle.text.specs.Text.{refusal}
+use Rattle.text.specs.Outcome.{number_of}
 use Rattle.text.specs.declared.Refusal.{Refusal as Why}
 use Rattle.text.specs.declared.Refusal.TheVariants.{Overlong, Layout, Crowd, Length, Overhang, Crossing, Narrow, ShortSpace, Broad, Unmet, Count, IllFormed, Empty, Inverted}
-use Rattle.text.specs.declared.Refused.{Refused as RefusedStruct}
-use Rattle.text.specs.declared.Outcome.{Outcome}
-use Rattle.text.specs.declared.Outcome.TheVariants.{Accepted, Refused}
 use Rattle.nabetsu.specs.Entry.{code}
 
 pub number_small : (w : Why) → number_of w ≤ 14
@@ -27,11 +24,7 @@ number_small IllFormed = omega arith
 number_small Empty = omega arith
 number_small Inverted = omega arith
 
-pub code_fine : (o : Outcome) (v : ℕ) → o ≡ Accepted → v ≡ code (refusal_of o) v
-unfolding code fine refusal
-code_fine o v e = rw e
-
-code_refused : (w : Why) (l f v : ℕ) → number_of w * 1099511627776 + l * 1048576 + f ≡ code (refusal_of (refused w l f)) v
+pub code_refused : (w : Why) (l f v : ℕ) → number_of w * 1099511627776 + l * 1048576 + f ≡ code (refusal (number_of w) l f) v
 unfolding code refusal
 code_refused Overlong l f v = refl
 code_refused Layout l f v = refl
@@ -47,6 +40,3 @@ code_refused Count l f v = refl
 code_refused IllFormed l f v = refl
 code_refused Empty l f v = refl
 code_refused Inverted l f v = refl
-
-pub code_known : (o : Outcome) (r : RefusedStruct) (n v : ℕ) → o ≡ Refused r → n ≡ number_of r.why → n * 1099511627776 + r.line * 1048576 + r.field ≡ code (refusal_of o) v
-code_known o r n v e h = rw (e, h) (code_refused r.why r.line r.field v)

@@ -16,12 +16,11 @@ use Rattle.stack.specs.Value.{tracks, columns, no_terminals, channel_of, stack_o
 use Rattle.stack.specs.declared.Stack.{Stack as StackStruct}
 use Rattle.stack.proofs.Values.{track_at, column_at, stack_channel}
 use Rattle.stack.proofs.Within.{stack_channels, strips_count, few_channels}
-use Rattle.text.specs.Text.{Refusal, refusal, fine, or_else, text_refusal, stack_in}
-use Rattle.text.specs.Outcome.{refusal_of, is_accepted}
-use Rattle.reading.specs.Driver.{StackRead}
-use Rattle.kinds.specs.declared.Reading.{Reading}
-use Rattle.text.specs.declared.Outcome.{Outcome}
-use Rattle.text.proofs.Refusals.{or_else_fine, or_else_refused, or_else_next, accepted_fine, refused_number}
+use Rattle.text.specs.Text.{Refusal, refusal, fine, text_refusal, stack_in}
+use Rattle.std.specs.Prelude.{Ok, Err}
+use Rattle.text.specs.Outcome.{number_of}
+use Rattle.text.specs.declared.Refused.{Refused}
+use Rattle.text.proofs.Refusals.{or_else_fine, first_refused, or_else_then, fine_number}
 use Rattle.reading.proofs.Within.{accepted_within}
 use Rattle.solver.specs.declared.Placement.{Placement}
 use Rattle.answer.specs.Solve.{answer_separations, answer_positions}
@@ -37,21 +36,15 @@ use Rattle.page.proofs.Inside.{channel_placed}
 use Rattle.plot.specs.Drawing.{PagePut}
 use Rattle.plot.proofs.Lines.{page_long}
 use Rattle.plot.proofs.Shown.{placed_shown}
-use Rattle.reply.specs.Told.{zeros, table_told}
+use Rattle.reply.specs.Told.{TableResult, written_in, zeros, table_told}
 use Rattle.nabetsu.specs.Entry.{Fits}
 use Rattle.nabetsu.specs.Pages.{page_refusal, Paged, PageSays, PageEnough, PageShows}
-use Rattle.nabetsu.specs.Parts.{ChannelPut}
+use Rattle.reading.specs.Driver.{StackRead}
+use Rattle.nabetsu.specs.Parts.{TextPut, page_in, ChannelPut}
 use Rattle.reply.specs.Refusals.{asked_refusal}
-use Rattle.reply.specs.Parts.{RefusedTable, Finished}
 use Rattle.reply.proofs.Outcomes.{Asked, asked_fine}
-use Rattle.reply.specs.declared.TableAnswer.{TableAnswer}
-use Rattle.nabetsu.proofs.Readings.{refused_text, text_fine, stack_is}
-use Rattle.nabetsu.proofs.Tables.{zeros_long, finished_fits}
+use Rattle.nabetsu.proofs.Tables.{Settled, fits, sent_back}
 use Rattle.nabetsu.proofs.Space.{fits_fine}
-
-pub asked_number : (k : Stack) (s n : ℕ) (u : Outcome) → refusal_of u ≡ asked_refusal k s n → is_accepted u ≡ true → (asked_refusal k s n).number ≡ 0
-unfolding fine refusal
-asked_number k s n u q b = ap (λ (f : Refusal). f.number) (sym q ∙ accepted_fine u b)
 
 -- THE CHANNEL of the answer
 padded_at : (n : ℕ) (xs : List ℕ) (i : ℕ) → i < length xs → get_or (padded n xs) i 0 ≡ get_or xs i 0
@@ -123,45 +116,24 @@ pub channel_place : (k : StackStruct) (s n : ℕ) → within_limits (stack_of k)
 channel_place k s n w e = omega (arith, channel_below k s n w (asked_fine (stack_of k) s n e), few_channels k w)
 
 -- THE PAGE of a text
-paged_refused : (c : ℕ) (f : Refusal) (k : Stack) (s n : ℕ) (r : TableAnswer) (o x : List ℕ) → (c ≡ 0 → ⊥) → table_told f 0 r → x ≡ zeros o → Paged c f k s n r o x
-unfolding Paged
-paged_refused zero f k s n r o x h t z = absurd (h refl)
-paged_refused (suc c) f k s n r o x h t z = (t, z)
+module _ (bs : List ℕ) (s n : ℕ) (o m : List ℕ) where
+  pub page_text_refused : (e : Refused) → refusal (number_of e.why) e.line e.field ≡ text_refusal bs → TextPut (page_refusal bs s n) (page_in bs s n) o m (Err e)
+  unfolding page_refusal
+  page_text_refused e q = record { refused = first_refused e (text_refusal bs) _ q; counted = tt; written = tt }
 
-module _ (bs : List ℕ) (s n : ℕ) (g : Reading) (d : StackRead bs g) (r : TableAnswer) (o m x : List ℕ) (l : length m ≡ length o) where
-  pub page_text_refused : is_accepted g.outcome ≡ false → RefusedTable g.outcome m x r → PageSays bs s n r o x
-  unfolding PageSays page_refusal table_told
-  page_text_refused h t =
-      let e : or_else (text_refusal bs) (asked_refusal (stack_in bs) s n) ≡ text_refusal bs = or_else_refused (text_refusal bs) _ (refused_text bs g d h) in
-      rw e
-      (paged_refused (text_refusal bs).number (text_refusal bs) (stack_in bs) s n r o x (refused_text bs g d h) (ap refusal_of t.outcome_is ∙ d.outcome, t.none_written)
-      (zeros_long o m x l t.cleared))
-
-  module _ (a : is_accepted g.outcome ≡ true) (u : Outcome) (q : refusal_of u ≡ asked_refusal (stack_of g.stack) s n) where
-    refusal_is : page_refusal bs s n ≡ refusal_of u
+  module _ (k : StackStruct) (t : StackRead bs (Ok k)) where
+    refusal_is : (f : Refusal) → f ≡ asked_refusal (stack_of k) s n → f ≡ page_refusal bs s n
     unfolding page_refusal
-    refusal_is = or_else_next (text_refusal bs) _ (text_fine bs g d a) ∙ rw (← stack_is bs g d a) (sym q)
+    refusal_is f q = or_else_then (text_refusal bs) (asked_refusal (stack_in bs) s n) f t.outcome (rw (← t.stack) q)
 
-    pub page_not_asked : is_accepted u ≡ false → RefusedTable u m x r → PageSays bs s n r o x
-    unfolding PageSays table_told
-    page_not_asked h t =
-        rw refusal_is
-        (paged_refused (refusal_of u).number (refusal_of u) (stack_in bs) s n r o x (refused_number u h) (ap refusal_of t.outcome_is, t.none_written) (zeros_long o m x l t.cleared))
+    pub page_not_asked : (e : Refused) → refusal (number_of e.why) e.line e.field ≡ asked_refusal (stack_of k) s n → TextPut (page_refusal bs s n) (page_in bs s n) o m (Err e)
+    page_not_asked e q = record { refused = refusal_is _ q; counted = tt; written = tt }
 
-    module _ (b : is_accepted u ≡ true) where
-      whole : List ℕ
-      whole = channel_page (stack_of g.stack) (answer_separations (stack_of g.stack) s) (answer_positions (stack_of g.stack) s) (n - 1)
-
-      says : Fits (leb (length whole) (length o)) whole r o x → PageSays bs s n r o x
-      unfolding PageSays Paged fine refusal whole
-      says f =
-          let k = stack_of g.stack in
-          let e : page_refusal bs s n ≡ fine = refusal_is ∙ accepted_fine u b in
-          rw (e, ← stack_is bs g d a) (answer_separations k s, answer_positions k s, answer_there k s d.within (asked_fine k s n (asked_number k s n u q b)).wide, f)
-
-      pub page_finished : (v : ℕ) → ChannelPut (stack_of g.stack) s n o m v → Finished (leb v (length m)) g.outcome v m x r → PageSays bs s n r o x
-      unfolding whole
-      page_finished v p f = says (finished_fits whole g.outcome v o o m x r a l p.counted p.written f)
+    pub page_put : (v : ℕ) → fine ≡ asked_refusal (stack_of k) s n → ChannelPut (stack_of k) s n o m v → TextPut (page_refusal bs s n) (page_in bs s n) o m (Ok v)
+    unfolding page_in
+    page_put v q p =
+        let c : ChannelPut (stack_in bs) s n o m v = rw t.stack at p in
+        record { refused = refusal_is fine q; counted = c.counted; written = c.written }
 
 -- ENOUGH SPACE, and what the page shows
 module _ (bs : List ℕ) (s n : ℕ) (e : (page_refusal bs s n).number ≡ 0) where
@@ -199,11 +171,11 @@ module _ (bs : List ℕ) (s n : ℕ) (e : (page_refusal bs s n).number ≡ 0) wh
     unfolding channel_page channel_paths
     page_plain = wiring_page_lacks (channel_in (stack_in bs) (n - 1)).pairs (get_or ts (n - 1) 0) (get_or xs (n - 1) 0) (get_or xs (suc (n - 1)) 0) shown_placed.rises shown_placed.good
 
-    fits_shows : (r : TableAnswer) (o x : List ℕ) (v : Bool) → Fits v (channel_page (stack_in bs) ts xs (n - 1)) r o x → PageShows bs s n r x
+    fits_shows : (r : TableResult) (o x : List ℕ) (v : Bool) → Fits v (channel_page (stack_in bs) ts xs (n - 1)) r o x → PageShows bs s n r x
     unfolding Fits table_told refusal zeros channel_paths
     fits_shows r o x true f =
         let page = channel_page (stack_in bs) ts xs (n - 1) in
-        let front : take r.written x ≡ page = rw (f.1, f.0.1) (take_at page (replicate (length o - length page) 0) (length page) refl) in
+        let front : take (written_in r) x ≡ page = rw (f.1, f.0.1) (take_at page (replicate (length o - length page) 0) (length page) refl) in
         record {
           drawn = λ z. record {
             separations = ts;
@@ -220,13 +192,25 @@ module _ (bs : List ℕ) (s n : ℕ) (e : (page_refusal bs s n).number ≡ 0) wh
           plain = rw f.1 (lacks_copies 35 0 (length o) refl);
         }
 
-pub page_enough : (bs : List ℕ) (s n : ℕ) (r : TableAnswer) (o x : List ℕ) → PageSays bs s n r o x → PageEnough 4485 bs s n r o
+paged_refused : (c : ℕ) (f : Refusal) (k : Stack) (s n : ℕ) (r : TableResult) (o x : List ℕ) → (c ≡ 0 → ⊥) → table_told f 0 r → x ≡ zeros o → Paged c f k s n r o x
+unfolding Paged
+paged_refused zero f k s n r o x h t z = absurd (h refl)
+paged_refused (suc c) f k s n r o x h t z = (t, z)
+
+pub page_said : (bs : List ℕ) (s n : ℕ) (r : TableResult) (o x : List ℕ) → Settled (page_refusal bs s n) (page_in bs s n) r o x → PageSays bs s n r o x
+unfolding PageSays Paged page_in fine refusal
+page_said bs s n r o x (fits q p) =
+    let there = page_answered bs s n (fine_number (page_refusal bs s n) (sym q)) in
+    rw q (answer_separations (stack_in bs) s, answer_positions (stack_in bs) s, there, p)
+page_said bs s n r o x (sent_back h t z) = paged_refused (page_refusal bs s n).number (page_refusal bs s n) (stack_in bs) s n r o x h t z
+
+pub page_enough : (bs : List ℕ) (s n : ℕ) (r : TableResult) (o x : List ℕ) → PageSays bs s n r o x → PageEnough 4485 bs s n r o
 unfolding PageSays Paged PageEnough
 page_enough bs s n r o x says z l =
     let t = rw z at says in
     fits_fine (channel_page (stack_in bs) t.0 t.1 (n - 1)) r o x (omega (arith, page_below bs s n z t.0 t.1 t.2)) t.3
 
-pub page_shows : (bs : List ℕ) (s n : ℕ) (r : TableAnswer) (o x : List ℕ) → PageSays bs s n r o x → PageShows bs s n r x
+pub page_shows : (bs : List ℕ) (s n : ℕ) (r : TableResult) (o x : List ℕ) → PageSays bs s n r o x → PageShows bs s n r x
 unfolding PageSays Paged table_told zeros
 page_shows bs s n r o x says = go (page_refusal bs s n).number refl says
   where

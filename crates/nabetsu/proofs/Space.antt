@@ -13,10 +13,9 @@ use Rattle.reading.proofs.Within.{accepted_within}
 use Rattle.writing.specs.Output.{row_bytes, rows_most, table_bytes}
 use Rattle.writing.specs.TableText.{table_text}
 use Rattle.table.proofs.Space.{rows_space, total_small}
-use Rattle.reply.specs.Told.{table_told}
+use Rattle.reply.specs.Told.{TableResult, table_told}
 use Rattle.nabetsu.specs.Entry.{Fits, Tabled, TableSays}
 use Rattle.nabetsu.specs.Space.{TableSpace, TotalBelow, SpaceEnough}
-use Rattle.reply.specs.declared.TableAnswer.{TableAnswer}
 use Rattle.nabetsu.proofs.Promises.{stack_within}
 
 pub table_space : TableSpace
@@ -28,11 +27,11 @@ unfolding TotalBelow
 total_below bs s ts xs e a = total_small (stack_in bs) (stack_within bs e) s ts xs a
 
 -- a text that fits is written
-pub fits_fine : (t : List ℕ) (r : TableAnswer) (o x : List ℕ) → length t ≤ length o → Fits (leb (length t) (length o)) t r o x → (refusal_of r.outcome).number ≡ 0
+pub fits_fine : (t : List ℕ) (r : TableResult) (o x : List ℕ) → length t ≤ length o → Fits (leb (length t) (length o)) t r o x → (refusal_of r).number ≡ 0
 unfolding Fits table_told refusal
 fits_fine t r o x h f = let told = rw (le-leb (length t) (length o) h) at f in ap (λ (f : Refusal). f.number) told.0.0
 
-pub space_enough : (bs : List ℕ) (r : TableAnswer) (o x : List ℕ) → TableSays bs r o x → SpaceEnough 24388 bs r o
+pub space_enough : (bs : List ℕ) (r : TableResult) (o x : List ℕ) → TableSays bs r o x → SpaceEnough 24388 bs r o
 unfolding TableSays Tabled SpaceEnough table_bytes row_bytes rows_most
 space_enough bs r o x says z l =
     let t = rw z at says in

@@ -4,9 +4,7 @@ use Rattle.std.specs.Prelude.{◌≡◌, Bool, true, ◌&&◌, List, [], ◌∷�
 use Rattle.stack.specs.Stack.{TotalMet, LeastTotal, Placement, Answer, Row, RowsAre, sum, first_spread}
 use Rattle.routing.specs.Paths.{Drawable}
 use Rattle.text.specs.Text.{text_refusal, stack_in}
-use Rattle.reply.specs.declared.PlacementAnswer.{PlacementAnswer}
-use Rattle.spread.specs.declared.TotalAnswer.{TotalAnswer}
-use Rattle.spread.specs.Answers.{TotalSays, PlacementSays}
+use Rattle.spread.specs.Answers.{TotalResult, PlacementResult, total_in, TotalSays, PlacementSays}
 use Rattle.nabetsu.specs.Best.{SpreadSays}
 
 unfoldable pub all_bytes : List ℕ → Bool
@@ -72,7 +70,7 @@ AnswerIsBoth =
 
 unfoldable pub BothTogether : Type 0
 BothTogether =
-    (bs : List ℕ) (s : ℕ) (t : TotalAnswer) (r : PlacementAnswer) → TotalSays bs s t → PlacementSays bs s t.total.0 r → SpreadSays bs s r
+    (bs : List ℕ) (s : ℕ) (t : TotalResult) (r : PlacementResult) → TotalSays bs s t → PlacementSays bs s (total_in t) r → SpreadSays bs s r
 
 unfoldable pub RowsThere : Type 0
 RowsThere = (bs : List ℕ) → accepted bs ≡ true → (rs : List Row) × RowsAre (stack_in bs) rs × ((qs : List Row) → RowsAre (stack_in bs) qs → qs ≡ rs)

@@ -202,11 +202,11 @@ module _ (c : List Pair) (t a b m : ℕ) (from upto : List ℕ) (ends : EndsAre 
 
   -- the column once the first n paths are drawn
   begun : ℕ → ℕ
-  begun n = painted (λ j. arrival from upto m j y) (λ j. arrival from upto m j (suc y)) (ltb y t) (ltb 0 y) 0 n x 46
+  begun n = painted (λ j. arrival from upto m j y) (λ j. arrival from upto m j (suc y)) (ltb y t) (ltb 0 y) n x 46
 
   one_more : (n : ℕ) → n < m → begun (suc n) ≡ cond (on_path z (path_at ws n)) (character x y ws) (begun n)
   unfolding begun painted
-  one_more n h = rw zero-add (drawn_is n h (painted (λ j. arrival from upto m j y) (λ j. arrival from upto m j (suc y)) (ltb y t) (ltb 0 y) 0 n x 46))
+  one_more n h = drawn_is n h (painted (λ j. arrival from upto m j y) (λ j. arrival from upto m j (suc y)) (ltb y t) (ltb 0 y) n x 46)
 
   painted_none : (n : ℕ) → n ≤ m → on_some z ws ≡ false → begun n ≡ 46
   unfolding begun painted

@@ -36,11 +36,11 @@ unfoldable pub drawn : (s e : ℕ) → (up down : Bool) → (c old : ℕ) → �
 drawn s e u d c old =
     cond (leb (min s e) c && leb c (max s e)) (arms_character (ltb (min s e) c) (ltb c (max s e)) (eqb c e && u) (eqb c s && d)) old
 
--- what column c shows once the n paths from a on are drawn, each of which is on the track from its column in s to its column in e
-unfoldable pub painted : (s e : ℕ → ℕ) → (up down : Bool) → (a n : ℕ) → (c old : ℕ) → ℕ
-painted s e u d a zero c old = old
-painted s e u d a (suc n) c old = drawn (s (a + n)) (e (a + n)) u d c (painted s e u d a n c old)
+-- what column c shows once the first n paths are drawn, each of which is on the track from its column in s to its column in e
+unfoldable pub painted : (s e : ℕ → ℕ) → (up down : Bool) → (n : ℕ) → (c old : ℕ) → ℕ
+painted s e u d zero c old = old
+painted s e u d (suc n) c old = drawn (s n) (e n) u d c (painted s e u d n c old)
 
 -- track y of a channel with separation t, all paths drawn over dots
 unfoldable pub track_painted : (from upto : List ℕ) → (m t y c : ℕ) → ℕ
-track_painted from upto m t y c = painted (λ j. arrival from upto m j y) (λ j. arrival from upto m j (suc y)) (ltb y t) (ltb 0 y) 0 m c 46
+track_painted from upto m t y c = painted (λ j. arrival from upto m j y) (λ j. arrival from upto m j (suc y)) (ltb y t) (ltb 0 y) m c 46

@@ -1,4 +1,4 @@
--- The laws of the loops over channels: the sums of the last separations above each strip, and the least open separations. Assumes nothing.
+-- The laws of the loop over channels that sums the last separations above each strip. Assumes nothing.
 use mathlib.Core.Path.{◌≡◌, refl, ap, ◌∙◌}
 use mathlib.Core.Logic.{◌⊎◌, inl, inr}
 use mathlib.Core.List.{List}
@@ -9,8 +9,7 @@ use lib.ListN.{set, replicate, length-set, get_or-replicate}
 use lib.Seq.{get_or-set_same, get_or-set_other}
 use Rattle.numbers.proofs.Orders.{lt_or_eq}
 use Rattle.stack.specs.Sizes.{strips_held, last_held}
-use Rattle.spans.specs.Solver.{first_open}
-use Rattle.arrays.specs.Arrays.{entry, sides, low_in, high_in, sums, SumsAre, LeastsAre}
+use Rattle.arrays.specs.Arrays.{entry, sums, SumsAre}
 use Rattle.plan.specs.Plan.{LastsAsk}
 
 -- THE SUMS above each strip
@@ -26,9 +25,6 @@ sums_start lasts k a =
     }
 
 module _ (lasts : List ℕ) (k i j : ℕ) (r : List ℕ) (a : LastsAsk lasts k) (s : SumsAre lasts k i r) (below : j + 1 ≡ i) (h : i ≤ k) where
-  pub sums_room : entry lasts j + entry r (j + 1) < 4096
-  sums_room = rw below (omega (arith, a.listed j (omega arith), a.channels, s.small i (omega arith) h))
-
   abbrev new : List ℕ
   new = set r j (entry lasts j + entry r (j + 1))
 
@@ -57,15 +53,3 @@ module _ (lasts : List ℕ) (k i j : ℕ) (r : List ℕ) (a : LastsAsk lasts k) 
       bound p l (inr m) =
           let above : entry r (j + 1) + last_held * (j + 1) ≤ last_held * k = rw below (s.small i (omega arith) h) in
           rw (← m) (omega (arith, written, a.listed j (omega arith)))
-
--- THE LEAST OPEN SEPARATIONS
-pub leasts_start : (limits : List (List (List ℕ))) (lasts : List ℕ) → LeastsAre limits lasts 0 (replicate strips_held 0)
-leasts_start limits lasts = record { size = refl; leasts_are = λ j h. absurd (omega arith) }
-
-pub leasts_step : (limits : List (List (List ℕ))) (lasts : List ℕ) (i x : ℕ) (r : List ℕ) → i < strips_held → LeastsAre limits lasts i r →
-    x ≡ first_open (low_in (sides limits i)) (high_in (sides limits i)) (entry lasts i) → LeastsAre limits lasts (i + 1) (set r i x)
-leasts_step limits lasts i x r h s e = record { size = length-set r i x ∙ s.size; leasts_are = λ j l. go j (lt_or_eq j i (omega arith)) }
-  where
-    go : (j : ℕ) → (j < i) ⊎ (j ≡ i) → entry (set r i x) j ≡ first_open (low_in (sides limits j)) (high_in (sides limits j)) (entry lasts j)
-    go j (inl m) = get_or-set_other r i j x 0 (omega arith) ∙ s.leasts_are j m
-    go j (inr m) = rw m (get_or-set_same r i x 0 (omega (arith, s.size)) ∙ e)

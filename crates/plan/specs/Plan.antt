@@ -1,7 +1,9 @@
 -- What the plan of a stack is made from. Assumes nothing: these are definitions.
 use Rattle.std.specs.Prelude.{◌≡◌, List, ℕ, ◌≤◌, ◌<◌}
 use Rattle.stack.specs.Sizes.{channels_held, separations_held}
-use Rattle.arrays.specs.Arrays.{entry, lasts_in, PlanIs}
+use Rattle.arrays.specs.Arrays.{entry, PlanIs}
+use Rattle.arrays.specs.declared.ChannelLimits.{ChannelLimits}
+use Rattle.arrays.specs.declared.Plan.{Plan}
 
 -- k channels whose last separations are within the arrays
 pub record LastsAsk (lasts : List ℕ) (k : ℕ) : Type 0 where
@@ -9,6 +11,6 @@ pub record LastsAsk (lasts : List ℕ) (k : ℕ) : Type 0 where
   pub listed : (i : ℕ) → i < k → entry lasts i < separations_held
 
 -- the plan of k channels with these limits and last separations
-pub record Planned (limits : List (List (List ℕ))) (lasts : List ℕ) (k : ℕ) (plan : List (List ℕ)) : Type 0 where
-  pub kept : lasts_in plan ≡ lasts
+pub record Planned (limits : List ChannelLimits) (lasts : List ℕ) (k : ℕ) (plan : Plan) : Type 0 where
+  pub kept : plan.lasts ≡ lasts
   pub plan_is : PlanIs limits k plan

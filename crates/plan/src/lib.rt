@@ -7,7 +7,7 @@ ghost use Rattle.spans.specs.Solver.{first_open};
 ghost use Rattle.arrays.specs.Arrays.{low_in, high_in, SumsAre, LeastsAre};
 ghost use Rattle.plan.specs.Plan.{LastsAsk, Planned};
 
-use arrays::{ChannelLimits, HIGH, LOW, Plan, StackLimits};
+use arrays::{ChannelLimits, Plan, StackLimits};
 use stack::Stack;
 
 // The least separation whose limit is open, or one past the last.
@@ -15,14 +15,12 @@ fn least_open(limits: &ChannelLimits, last: usize) -> usize
     requires { last < separations_held }
     ensures { result ≡ first_open (low_in limits.now) (high_in limits.now) last }
 {
-    let mut q = 0;
-    while q <= last {
-        if limits[LOW][q] <= limits[HIGH][q] {
+    for q in 0..last + 1 {
+        if limits.low[q] <= limits.high[q] {
             return q;
         }
-        q += 1;
     }
-    q
+    last + 1
 }
 
 // The least open separation of each channel.
@@ -47,9 +45,7 @@ fn sums_above(lasts: &[usize; Stack::STRIPS], k: usize) -> [usize; Stack::STRIPS
     ensures { SumsAre lasts.now k 0 result }
 {
     let mut sums = [0usize; Stack::STRIPS];
-    let mut i = k;
-    while 0 < i {
-        i -= 1;
+    for i in (0..k).rev() {
         sums[i] = lasts[i] + sums[i + 1];
     }
     sums
@@ -60,7 +56,9 @@ pub fn plan_for(limits: &StackLimits, lasts: [usize; Stack::STRIPS], k: usize) -
     requires { LastsAsk lasts k }
     ensures { Planned limits.now lasts k result }
 {
-    let leasts = least_opens(limits, &lasts, k);
-    let sums = sums_above(&lasts, k);
-    [lasts, leasts, sums]
+    Plan {
+        lasts,
+        leasts: least_opens(limits, &lasts, k),
+        above: sums_above(&lasts, k),
+    }
 }

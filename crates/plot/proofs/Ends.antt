@@ -1,9 +1,9 @@
 -- What arrivals are worked out from: filled in pair by pair, it is the channel's, and what it gives are the arrivals of the channel's paths. Assumes nothing.
-use mathlib.Core.Path.{◌≡◌, sym, ◌∙◌}
+use mathlib.Core.Path.{◌≡◌, refl, sym, ◌∙◌}
 use mathlib.Core.Bool.{cond}
 use mathlib.Core.List.{List}
 use mathlib.Core.Logic.{◌⊎◌, inl, inr}
-use Prim.Native.Nat.{ℕ, suc, ◌+◌, ◌-◌, ◌≤◌, ◌<◌, min, max}
+use Prim.Native.Nat.{ℕ, zero, suc, ◌+◌, ◌-◌, ◌≤◌, ◌<◌, min, max}
 use native.Mathlib.Omega.{arith}
 use borrow.Author.Tests.{lt-ltb, le-ltb, le-leb, lt-leb}
 use lib.Dec.{ltb, leb}
@@ -14,7 +14,6 @@ use Rattle.numbers.proofs.Lists.{get_or_tabulate, zeros_at}
 use Rattle.numbers.proofs.Orders.{le_or_lt, eq_or_not}
 use Rattle.stack.specs.Stack.{p_at}
 use Rattle.stack.specs.Value.{columns, channel_of}
-use Rattle.stack.specs.declared.Columns.{Columns}
 use Rattle.stack.specs.declared.Terminals.{Terminals}
 use Rattle.stack.proofs.Values.{channel_length, channel_p_at, channel_q_at}
 use Rattle.stack.proofs.Rising.{rising_before}
@@ -22,15 +21,34 @@ use Rattle.routing.specs.Wiring.{wiring}
 use Rattle.page.specs.Page.{character}
 use Rattle.page.specs.Arrivals.{ChannelPlaced, EndsAre, right_arrival, left_arrival, arrival, track_painted}
 use Rattle.page.proofs.Painted.{painted_right}
+use Rattle.plot.specs.declared.Levels.{Levels}
 use Rattle.plot.specs.Drawing.{passing, reached, track_drawn, ArrivalsShown, EndsAsk, LevelsFilled}
-use Rattle.track.proofs.Rows.{front_step, painted_same}
+use denote.Param.Members.{Mut, Called}
+use Rattle.std.specs.Array.{IsFromFnResult, IsFromFnResultFrom}
+use Rattle.track.proofs.Rows.{front_step, front_end, painted_same}
 
 -- what the code works out
-pub reached_by : (ahead back upto : List ℕ) (y j n h v : ℕ) → n ≡ y - 1 → h ≡ min n 32
-    → v ≡ min (get_or upto j 0) (get_or ahead (j + n) 0 + j) + max (get_or upto j 0) (get_or back (32 + j - h) 0 + j) - get_or upto j 0
-    → v ≡ reached ahead back upto y j
+pub reached_by : (levels : Levels) (y j n h v : ℕ) → n ≡ y - 1 → h ≡ min n 32
+    → v ≡ min (get_or levels.upto j 0) (get_or levels.ahead (j + n) 0 + j) + max (get_or levels.upto j 0) (get_or levels.back (32 + j - h) 0 + j) - get_or levels.upto j 0
+    → v ≡ reached levels y j
 unfolding reached passing
-reached_by ahead back upto y j n h v a e d = rw (← a) (rw e at d)
+reached_by levels y j n h v a e d = rw (← a) (rw e at d)
+
+-- an array made by a closure that computes h and stays as it was
+closure_made : {F : Type 0} (g : Mut F (ℕ × Unit {0}) ℕ) (h : ℕ → ℕ) (f : F) (ys : List ℕ) (i n : ℕ) → ((j r : ℕ) (q : F) → j < i + n → Called g f (j, tt) r q → (q ≡ f) × (r ≡ h j))
+    → IsFromFnResultFrom g f ys i n → (j : ℕ) → i ≤ j → j < i + n → get_or ys j 0 ≡ h j
+closure_made g h f ys i zero gives made j l m = absurd (omega arith)
+closure_made g h f ys i (suc n) gives made j l m =
+    let told = gives i made.1 made.0 (omega arith) made.3 in
+    go (eq_or_not j i) told (λ e o. closure_made g h f ys (i + 1) n (λ k r q o. gives k r q (omega arith)) (rw o.0 at made.4) j (omega arith) (omega arith))
+  where
+    go : (j ≡ i) ⊎ (j ≡ i → ⊥) → (made.0 ≡ f) × (made.1 ≡ h i) → ((j ≡ i → ⊥) → (made.0 ≡ f) × (made.1 ≡ h i) → get_or ys j 0 ≡ h j) → get_or ys j 0 ≡ h j
+    go (inl e) told rest = rw e (made.2.1 0 ∙ told.1)
+    go (inr e) told rest = rest e told
+
+pub arrivals_made : {F : Type 0} (g : Mut F (ℕ × Unit {0}) ℕ) (h : ℕ → ℕ) (f : F) (ys : List ℕ) → ((j r : ℕ) (q : F) → j < 32 → Called g f (j, tt) r q → (q ≡ f) × (r ≡ h j))
+    → IsFromFnResult g f ys 32 → ys ≡ tabulate 32 0 h
+arrivals_made g h f ys gives made = front_end h ys 32 32 (omega arith) made.long (λ j l. closure_made g h f ys 0 32 (λ k r q m. gives k r q (omega arith)) made.each j (omega arith) (omega arith))
 
 -- LOW NUMBERS stay low
 low_copies : (n v b i : ℕ) → v ≤ b → get_or (replicate n v) i 0 ≤ b
@@ -48,11 +66,10 @@ low_stored xs k v b l h f i = go (eq_or_not i k)
     go (inr n) = rw (get_or-set_other xs k i v 0 n) (f i)
 
 -- PAIR BY PAIR
-pub levels_start : (ps qs : List Columns) (a b : ℕ) (ahead back upto : List ℕ) → ahead ≡ replicate 96 64 → back ≡ replicate 64 0 → upto ≡ replicate 32 0
-    → LevelsFilled ps qs a b 0 ahead back upto
-levels_start ps qs a b ahead back upto e f g =
-    rw (e, f, g)
-    (record {
+pub levels_start : (k : Terminals) (a b : ℕ) → LevelsFilled k a b 0 (record { ahead = replicate 96 64; back = replicate 64 0; upto = replicate 32 0; count = k.count })
+levels_start k a b =
+    record {
+      counted = refl;
       sized_ahead = length-replicate {A = ℕ} 96 64;
       sized_back = length-replicate {A = ℕ} 64 0;
       sized_upto = length-replicate {A = ℕ} 32 0;
@@ -66,34 +83,32 @@ levels_start ps qs a b ahead back upto e f g =
         back_low = λ i. low_copies 64 0 64 i (omega arith);
         upto_low = λ i. let h = low_copies 32 0 63 i (omega arith) in omega arith;
       };
-    })
+    }
 
-pub levels_step : (ps qs : List Columns) (a b n : ℕ) (ahead back upto : List ℕ) (v x : ℕ) → n < 32 → v ≡ a + (get_or ps n (columns 0)).0 - n → v ≤ 64
-    → x ≡ b + (get_or qs n (columns 0)).0 → x < 64 → LevelsFilled ps qs a b n ahead back upto
-    → LevelsFilled ps qs a b (n + 1) (set ahead n v) (set back (32 + n) v) (set upto n x)
-levels_step ps qs a b n ahead back upto v x l d small e shown f =
+pub levels_step : (k : Terminals) (a b n : ℕ) (levels : Levels) (v x : ℕ) → n < 32 → v ≡ a + (get_or k.lower n (columns 0)).0 - n → v ≤ 64
+    → x ≡ b + (get_or k.upper n (columns 0)).0 → x < 64 → LevelsFilled k a b n levels
+    → LevelsFilled k a b (n + 1) (record { ahead = set levels.ahead n v; back = set levels.back (32 + n) v; upto = set levels.upto n x; count = levels.count })
+levels_step k a b n levels v x l d small e shown f =
     record {
-      sized_ahead = length-set ahead n v ∙ f.sized_ahead;
-      sized_back = length-set back (32 + n) v ∙ f.sized_back;
-      sized_upto = length-set upto n x ∙ f.sized_upto;
-      ahead_are = front_step (λ j. a + (get_or ps j (columns 0)).0 - j) ahead n v (omega (arith, f.sized_ahead)) d f.ahead_are;
-      ahead_none = λ j k m. get_or-set_other ahead n j v 0 (omega arith) ∙ f.ahead_none j (omega arith) m;
-      back_are = λ j k. back_at j k (eq_or_not j n);
-      back_none = λ j k. get_or-set_other back (32 + n) j v 0 (omega arith) ∙ f.back_none j k;
-      upto_are = front_step (λ j. b + (get_or qs j (columns 0)).0) upto n x (omega (arith, f.sized_upto)) e f.upto_are;
+      counted = f.counted;
+      sized_ahead = length-set levels.ahead n v ∙ f.sized_ahead;
+      sized_back = length-set levels.back (32 + n) v ∙ f.sized_back;
+      sized_upto = length-set levels.upto n x ∙ f.sized_upto;
+      ahead_are = front_step (λ j. a + (get_or k.lower j (columns 0)).0 - j) levels.ahead n v (omega (arith, f.sized_ahead)) d f.ahead_are;
+      ahead_none = λ j o m. get_or-set_other levels.ahead n j v 0 (omega arith) ∙ f.ahead_none j (omega arith) m;
+      back_are = λ j o. back_at j o (eq_or_not j n);
+      back_none = λ j o. get_or-set_other levels.back (32 + n) j v 0 (omega arith) ∙ f.back_none j o;
+      upto_are = front_step (λ j. b + (get_or k.upper j (columns 0)).0) levels.upto n x (omega (arith, f.sized_upto)) e f.upto_are;
       low = record {
-        ahead_low = low_stored ahead n v 64 (omega (arith, f.sized_ahead)) small f.low.ahead_low;
-        back_low = low_stored back (32 + n) v 64 (omega (arith, f.sized_back)) small f.low.back_low;
-        upto_low = λ i. let h = low_stored upto n x 63 (omega (arith, f.sized_upto)) (omega arith) (λ j. let k = f.low.upto_low j in omega arith) i in omega arith;
+        ahead_low = low_stored levels.ahead n v 64 (omega (arith, f.sized_ahead)) small f.low.ahead_low;
+        back_low = low_stored levels.back (32 + n) v 64 (omega (arith, f.sized_back)) small f.low.back_low;
+        upto_low = λ i. let h = low_stored levels.upto n x 63 (omega (arith, f.sized_upto)) (omega arith) (λ j. let o = f.low.upto_low j in omega arith) i in omega arith;
       };
     }
   where
-    back_at : (j : ℕ) → j < n + 1 → (j ≡ n) ⊎ (j ≡ n → ⊥) → get_or (set back (32 + n) v) (32 + j) 0 ≡ a + (get_or ps j (columns 0)).0 - j
-    back_at j k (inl i) = rw i (get_or-set_same back (32 + n) v 0 (omega (arith, f.sized_back)) ∙ d)
-    back_at j k (inr i) = get_or-set_other back (32 + n) (32 + j) v 0 (omega arith) ∙ f.back_are j (omega arith)
-
-pub levels_done : (ps qs : List Columns) (a b n m : ℕ) (ahead back upto : List ℕ) → m ≤ n → n ≤ m → LevelsFilled ps qs a b n ahead back upto → LevelsFilled ps qs a b m ahead back upto
-levels_done ps qs a b n m ahead back upto l h f = let e : n ≡ m = omega arith in rw e at f
+    back_at : (j : ℕ) → j < n + 1 → (j ≡ n) ⊎ (j ≡ n → ⊥) → get_or (set levels.back (32 + n) v) (32 + j) 0 ≡ a + (get_or k.lower j (columns 0)).0 - j
+    back_at j o (inl i) = rw i (get_or-set_same levels.back (32 + n) v 0 (omega (arith, f.sized_back)) ∙ d)
+    back_at j o (inr i) = get_or-set_other levels.back (32 + n) (32 + j) v 0 (omega arith) ∙ f.back_are j (omega arith)
 
 -- THE CHANNEL'S
 module _ (k : Terminals) (t a b : ℕ) (p : ChannelPlaced 63 (channel_of k) t a b) where
@@ -107,7 +122,7 @@ module _ (k : Terminals) (t a b : ℕ) (p : ChannelPlaced 63 (channel_of k) t a 
         omega (arith, o.lower, channel_p_at k j l);
   }
 
-  module _ (ahead back upto : List ℕ) (f : LevelsFilled k.lower k.upper a b k.count ahead back upto) where
+  module _ (levels : Levels) (f : LevelsFilled k a b k.count levels) where
     -- the columns of the lower terminals
     pub from : List ℕ
     from = tabulate 32 0 (λ j. a + p_at (channel_of k) j)
@@ -122,17 +137,17 @@ module _ (k : Terminals) (t a b : ℕ) (p : ChannelPlaced 63 (channel_of k) t a 
     unfolding from
     from_at j l = get_or_tabulate 32 j (λ j. a + p_at (channel_of k) j) 0 (omega (arith, few))
 
-    pub ends_are : EndsAre (channel_of k) a b k.count from upto
+    pub ends_are : EndsAre (channel_of k) a b k.count from levels.upto
     ends_are = record {
       count = sym (channel_length k);
       from_are = from_at;
       upto_are = λ j l. f.upto_are j l ∙ rw (channel_q_at k j l);
     }
 
-    ahead_at : (j : ℕ) → j < m → get_or ahead j 0 ≡ get_or from j 0 - j
+    ahead_at : (j : ℕ) → j < m → get_or levels.ahead j 0 ≡ get_or from j 0 - j
     ahead_at j l = f.ahead_are j l ∙ rw (from_at j l, channel_p_at k j l)
 
-    back_at : (j : ℕ) → j < m → get_or back (32 + j) 0 ≡ get_or from j 0 - j
+    back_at : (j : ℕ) → j < m → get_or levels.back (32 + j) 0 ≡ get_or from j 0 - j
     back_at j l = f.back_are j l ∙ rw (from_at j l, channel_p_at k j l)
 
     -- they rise, so no column is below its pair's number
@@ -141,20 +156,20 @@ module _ (k : Terminals) (t a b : ℕ) (p : ChannelPlaced 63 (channel_of k) t a 
         let o = rising_before (channel_of k) p.rises i n j e (omega (arith, channel_length k)) in
         omega (arith, from_at i (omega arith), from_at j l, o.lower)
 
-    past : (j : ℕ) → j < m → (j ≤ get_or from j 0) × (j ≤ get_or upto j 0)
+    past : (j : ℕ) → j < m → (j ≤ get_or from j 0) × (j ≤ get_or levels.upto j 0)
     past j l =
         let o = rising_before (channel_of k) p.rises 0 j j (omega arith) (omega (arith, channel_length k)) in
         (omega (arith, apart 0 j j (omega arith) l), omega (arith, ends_are.upto_are j l, o.upper))
 
     module _ (j n : ℕ) (l : j < m) (h : n ≤ 64) where
       q : ℕ
-      q = get_or upto j 0
+      q = get_or levels.upto j 0
 
       on : ℕ
-      on = get_or ahead (j + n) 0 + j
+      on = get_or levels.ahead (j + n) 0 + j
 
       behind : ℕ
-      behind = get_or back (32 + j - min n 32) 0 + j
+      behind = get_or levels.back (32 + j - min n 32) 0 + j
 
       -- ahead: what the terminal n pairs further says, or a column behind the last
       ahead_is : (j + n < m → on ≡ get_or from (j + n) 0 - n) × (m ≤ j + n → q < on)
@@ -174,48 +189,49 @@ module _ (k : Terminals) (t a b : ℕ) (p : ChannelPlaced 63 (channel_of k) t a 
         λ i. omega (arith, f.back_none (32 + j - min n 32) (omega (arith, few)), (past j l).1),
       )
 
-      passing_is : passing ahead back upto n j ≡ cond (leb (get_or from j 0) (get_or upto j 0)) (right_arrival from m (get_or upto j 0) j n) (left_arrival from (get_or upto j 0) j n)
+      passing_is : passing levels n j ≡ cond (leb (get_or from j 0) (get_or levels.upto j 0)) (right_arrival from m (get_or levels.upto j 0) j n) (left_arrival from (get_or levels.upto j 0) j n)
       unfolding passing right_arrival left_arrival q on behind
-      passing_is = go (le_or_lt (get_or from j 0) (get_or upto j 0)) (le_or_lt m (j + n)) (le_or_lt n j)
+      passing_is = go (le_or_lt (get_or from j 0) (get_or levels.upto j 0)) (le_or_lt m (j + n)) (le_or_lt n j)
         where
-          go : (get_or from j 0 ≤ get_or upto j 0) ⊎ (get_or upto j 0 < get_or from j 0) → (m ≤ j + n) ⊎ (j + n < m) → (n ≤ j) ⊎ (j < n)
+          go : (get_or from j 0 ≤ get_or levels.upto j 0) ⊎ (get_or levels.upto j 0 < get_or from j 0) → (m ≤ j + n) ⊎ (j + n < m) → (n ≤ j) ⊎ (j < n)
               → min q on + max q behind - q
-              ≡ cond (leb (get_or from j 0) (get_or upto j 0)) (cond (ltb (j + n) m) (min q (get_or from (j + n) 0 - n)) q) (cond (leb n j) (max q (get_or from (j - n) 0 + n)) q)
-          go (inl r) (inl i) (inl o) = rw (le-leb (get_or from j 0) (get_or upto j 0) r, le-ltb (j + n) m i) (omega (arith, ahead_is.1 i, back_is.0 o, apart (j - n) n j (omega arith) l))
-          go (inl r) (inl i) (inr o) = rw (le-leb (get_or from j 0) (get_or upto j 0) r, le-ltb (j + n) m i) (omega (arith, ahead_is.1 i, back_is.1 o))
-          go (inl r) (inr i) (inl o) = rw (le-leb (get_or from j 0) (get_or upto j 0) r, lt-ltb (j + n) m i) (omega (arith, ahead_is.0 i, back_is.0 o, apart (j - n) n j (omega arith) l))
-          go (inl r) (inr i) (inr o) = rw (le-leb (get_or from j 0) (get_or upto j 0) r, lt-ltb (j + n) m i) (omega (arith, ahead_is.0 i, back_is.1 o))
-          go (inr r) (inl i) (inl o) = rw (lt-leb (get_or from j 0) (get_or upto j 0) r, le-leb n j o) (omega (arith, ahead_is.1 i, back_is.0 o))
-          go (inr r) (inl i) (inr o) = rw (lt-leb (get_or from j 0) (get_or upto j 0) r, lt-leb n j o) (omega (arith, ahead_is.1 i, back_is.1 o))
-          go (inr r) (inr i) (inl o) = rw (lt-leb (get_or from j 0) (get_or upto j 0) r, le-leb n j o) (omega (arith, ahead_is.0 i, back_is.0 o, apart j n (j + n) (omega arith) i))
-          go (inr r) (inr i) (inr o) = rw (lt-leb (get_or from j 0) (get_or upto j 0) r, lt-leb n j o) (omega (arith, ahead_is.0 i, back_is.1 o, apart j n (j + n) (omega arith) i))
+              ≡ cond (leb (get_or from j 0) (get_or levels.upto j 0)) (cond (ltb (j + n) m) (min q (get_or from (j + n) 0 - n)) q) (cond (leb n j) (max q (get_or from (j - n) 0 + n)) q)
+          go (inl r) (inl i) (inl o) = rw (le-leb (get_or from j 0) (get_or levels.upto j 0) r, le-ltb (j + n) m i) (omega (arith, ahead_is.1 i, back_is.0 o, apart (j - n) n j (omega arith) l))
+          go (inl r) (inl i) (inr o) = rw (le-leb (get_or from j 0) (get_or levels.upto j 0) r, le-ltb (j + n) m i) (omega (arith, ahead_is.1 i, back_is.1 o))
+          go (inl r) (inr i) (inl o) = rw (le-leb (get_or from j 0) (get_or levels.upto j 0) r, lt-ltb (j + n) m i) (omega (arith, ahead_is.0 i, back_is.0 o, apart (j - n) n j (omega arith) l))
+          go (inl r) (inr i) (inr o) = rw (le-leb (get_or from j 0) (get_or levels.upto j 0) r, lt-ltb (j + n) m i) (omega (arith, ahead_is.0 i, back_is.1 o))
+          go (inr r) (inl i) (inl o) = rw (lt-leb (get_or from j 0) (get_or levels.upto j 0) r, le-leb n j o) (omega (arith, ahead_is.1 i, back_is.0 o))
+          go (inr r) (inl i) (inr o) = rw (lt-leb (get_or from j 0) (get_or levels.upto j 0) r, lt-leb n j o) (omega (arith, ahead_is.1 i, back_is.1 o))
+          go (inr r) (inr i) (inl o) = rw (lt-leb (get_or from j 0) (get_or levels.upto j 0) r, le-leb n j o) (omega (arith, ahead_is.0 i, back_is.0 o, apart j n (j + n) (omega arith) i))
+          go (inr r) (inr i) (inr o) = rw (lt-leb (get_or from j 0) (get_or levels.upto j 0) r, lt-leb n j o) (omega (arith, ahead_is.0 i, back_is.1 o, apart j n (j + n) (omega arith) i))
 
-      passing_shown : passing ahead back upto n j < 64
+      passing_shown : passing levels n j < 64
       unfolding passing q on behind
-      passing_shown = go (le_or_lt (get_or from j 0) (get_or upto j 0)) (le_or_lt n j)
+      passing_shown = go (le_or_lt (get_or from j 0) (get_or levels.upto j 0)) (le_or_lt n j)
         where
           first : get_or from j 0 < 64
           first = let w = p.from_within j (omega (arith, channel_length k)) in omega (arith, from_at j l)
 
-          go : (get_or from j 0 ≤ get_or upto j 0) ⊎ (get_or upto j 0 < get_or from j 0) → (n ≤ j) ⊎ (j < n) → min q on + max q behind - q < 64
+          go : (get_or from j 0 ≤ get_or levels.upto j 0) ⊎ (get_or levels.upto j 0 < get_or from j 0) → (n ≤ j) ⊎ (j < n) → min q on + max q behind - q < 64
           go (inl r) (inl o) = omega (arith, f.low.upto_low j, back_is.0 o, apart (j - n) n j (omega arith) l)
           go (inl r) (inr o) = omega (arith, f.low.upto_low j, back_is.1 o)
           go (inr r) (inl o) = omega (arith, f.low.upto_low j, first, back_is.0 o, apart (j - n) n j (omega arith) l)
           go (inr r) (inr o) = omega (arith, f.low.upto_low j, back_is.1 o)
 
-    pub reached_is : (j y : ℕ) → j < m → y ≤ 65 → reached ahead back upto y j ≡ arrival from upto k.count j y
+    pub reached_is : (j y : ℕ) → j < m → y ≤ 65 → reached levels y j ≡ arrival from levels.upto k.count j y
     unfolding reached arrival
     reached_is j y l h = passing_is j (y - 1) l (omega arith)
 
     -- and they are on the page
-    pub arrivals_shown : ArrivalsShown ahead back upto k.count
+    pub arrivals_shown : ArrivalsShown levels
     unfolding ArrivalsShown reached
-    arrivals_shown j y l h = passing_shown j (y - 1) l (omega arith)
+    arrivals_shown j y l h = passing_shown j (y - 1) (omega (arith, f.counted)) (omega arith)
 
     -- what the code draws is the page's
-    pub drawn_right : t ≤ 64 → (y x : ℕ) → y ≤ t → track_drawn ahead back upto k.count t y x ≡ character x y (wiring (channel_of k) t a b)
-    unfolding track_drawn track_painted
+    pub drawn_right : t ≤ 64 → (y x : ℕ) → y ≤ t → track_drawn levels t y x ≡ character x y (wiring (channel_of k) t a b)
+    unfolding track_drawn track_painted reached passing
     drawn_right h y x l =
-        painted_same (λ j. reached ahead back upto y j) (λ j. reached ahead back upto (suc y) j) (ltb y t) (ltb 0 y) (λ j. arrival from upto m j y) (λ j. arrival from upto m j (suc y)) 0 m x 46
+        rw f.counted
+        (painted_same (λ j. reached levels y j) (λ j. reached levels (suc y) j) (ltb y t) (ltb 0 y) (λ j. arrival from levels.upto m j y) (λ j. arrival from levels.upto m j (suc y)) m x 46
         (λ j i. (reached_is j y (omega arith) (omega arith), reached_is j (suc y) (omega arith) (omega arith)))
-        ∙ painted_right (channel_of k) t a b m from upto ends_are p.rises p.good x y l
+        ∙ painted_right (channel_of k) t a b m from levels.upto ends_are p.rises p.good x y l)

@@ -8,7 +8,7 @@ use native.Mathlib.Numerals.{add-one}
 use native.Mathlib.Omega.{arith}
 use borrow.Author.Tests.{lt-ltb, le-ltb}
 use lib.Dec.{ltb}
-use lib.ListN.{length, get_or, set, take, drop, replicate, length-append, length-take, length-drop, length-set, drop_of_length-le}
+use lib.ListN.{length, get_or, set, take, drop, replicate, length-append, length-take, length-drop, drop_of_length-le}
 use lib.Seq.{take_all, drop-cons, set_at, take_at, length-take-le, append_snoc}
 use Rattle.numbers.specs.Lists.{tabulate}
 use Rattle.numbers.proofs.Lists.{length_tabulate, get_or_tabulate, tabulate_same}
@@ -21,6 +21,8 @@ use Rattle.writing.specs.Output.{over}
 use Rattle.page.specs.Page.{character, in_three, line_of, track_line, page_text}
 use Rattle.page.specs.Arrivals.{painted}
 use Rattle.track.specs.Rows.{ColumnsShown}
+use Rattle.std.proofs.lemmas.List.{get_or-take}
+use Rattle.plot.specs.declared.Levels.{Levels}
 use Rattle.plot.specs.Drawing.{place, reached, track_drawn, ArrivalsShown, lines_below, LinesPut, PagePut}
 use Rattle.track.proofs.Rows.{painted_same}
 
@@ -34,14 +36,6 @@ unfolding place
 place_space u n l m = rw (lt-ltb n u l, lt-ltb 1 u m)
 
 -- the last place has a digit
-pub place_one : (u n : ℕ) → u ≤ 1 → place u n ≡ 48 + n / u % 10
-unfolding place
-place_one u n l = rw (le-ltb 1 u l) (go (ltb n u))
-  where
-    go : (b : Bool) → cond (b && false) 32 (48 + n / u % 10) ≡ 48 + n / u % 10
-    go true = refl
-    go false = refl
-
 place_last : (n : ℕ) → place 1 n ≡ 48 + n % 10
 unfolding place
 place_last n = go (ltb n 1)
@@ -73,10 +67,6 @@ line_bytes y f l = rw (in_three_places y l)
 pub line_long : (y : ℕ) (f : ℕ → ℕ) → y < 1000 → length (line_of y f) ≡ 69
 line_long y f l = rw (line_bytes y f l, length-append, length_tabulate)
 
-pub line_room : (o row : List ℕ) (a b c : ℕ) → 69 ≤ length o → length row ≡ 64
-    → length (take 4 (set (set (set (set o 0 a) 1 b) 2 c) 3 32) ++ (row ++ drop 64 (drop 4 (set (set (set (set o 0 a) 1 b) 2 c) 3 32)))) ≡ length o
-line_room o row a b c l m = simp (length-append, length-take, length-drop, length-set, m) (omega arith)
-
 pub line_put : (y : ℕ) (f : ℕ → ℕ) (o row : List ℕ) (a b c : ℕ) → 69 ≤ length o → y < 1000 → a ≡ place 100 y → b ≡ place 10 y → c ≡ place 1 y → row ≡ tabulate 64 0 f
     → set (take 4 (set (set (set (set o 0 a) 1 b) 2 c) 3 32) ++ (row ++ drop 64 (drop 4 (set (set (set (set o 0 a) 1 b) 2 c) 3 32)))) 68 10 ≡ over (line_of y f) o
 unfolding over
@@ -93,62 +83,64 @@ unfolding line_of
 line_same y f g h = rw (tabulate_same 64 0 f g (λ c l m. h c (omega arith)))
 
 -- a line drawn by the arrivals on its track and the next
-track_is : (ahead back upto starts ends : List ℕ) (m t n : ℕ) → m ≤ 32 → starts ≡ tabulate 32 0 (λ j. reached ahead back upto n j) → ends ≡ tabulate 32 0 (λ j. reached ahead back upto (suc n) j)
-    → line_of n (λ c. painted (λ j. get_or starts j 0) (λ j. get_or ends j 0) (ltb n t) (ltb 0 n) 0 m c 46) ≡ line_of n (λ c. track_drawn ahead back upto m t n c)
+track_is : (levels : Levels) (starts ends : List ℕ) (t n : ℕ) → levels.count ≤ 32 → starts ≡ tabulate 32 0 (λ j. reached levels n j) → ends ≡ tabulate 32 0 (λ j. reached levels (suc n) j)
+    → line_of n (λ c. painted (λ j. get_or (take levels.count starts) j 0) (λ j. get_or (take levels.count ends) j 0) (ltb n t) (ltb 0 n) (length (take levels.count starts)) c 46)
+    ≡ line_of n (λ c. track_drawn levels t n c)
 unfolding track_drawn
-track_is ahead back upto starts ends m t n l d e =
-    line_same n _ _
-    (λ c k. painted_same (λ j. get_or starts j 0) (λ j. get_or ends j 0) (ltb n t) (ltb 0 n) (λ j. reached ahead back upto n j) (λ j. reached ahead back upto (suc n) j) 0 m c 46
-    (λ j i. (rw d (get_or_tabulate 32 j (λ j. reached ahead back upto n j) 0 (omega arith)), rw e (get_or_tabulate 32 j (λ j. reached ahead back upto (suc n) j) 0 (omega arith)))))
+track_is levels starts ends t n l d e =
+    let m = levels.count in
+    let long : length (take m starts) ≡ m = rw (d, length-take-le m (tabulate 32 0 (λ j. reached levels n j)) (rw length_tabulate l)) in
+    rw long
+    (line_same n _ _
+    (λ c k. painted_same (λ j. get_or (take m starts) j 0) (λ j. get_or (take m ends) j 0) (ltb n t) (ltb 0 n) (λ j. reached levels n j) (λ j. reached levels (suc n) j) m c 46
+    (λ j i. (
+      get_or-take m starts j 0 i ∙ rw d (get_or_tabulate 32 j (λ j. reached levels n j) 0 (omega arith)),
+      get_or-take m ends j 0 i ∙ rw e (get_or_tabulate 32 j (λ j. reached levels (suc n) j) 0 (omega arith)),
+    ))))
 
 -- the arrivals worked out are on the page
-pub rule_shown : (ahead back upto xs : List ℕ) (m y : ℕ) → ArrivalsShown ahead back upto m → m ≤ 32 → y ≤ 65 → xs ≡ tabulate 32 0 (λ j. reached ahead back upto y j) → ColumnsShown m xs
+pub rule_shown : (levels : Levels) (xs : List ℕ) (y : ℕ) → ArrivalsShown levels → levels.count ≤ 32 → y ≤ 65 → xs ≡ tabulate 32 0 (λ j. reached levels y j) →
+    ColumnsShown (take levels.count xs)
 unfolding ArrivalsShown
-rule_shown ahead back upto xs m y s l h e j i = rw (e, get_or_tabulate 32 j (λ j. reached ahead back upto y j) 0 (omega arith)) (s j y i h)
+rule_shown levels xs y s l h e j i =
+    let k : j < levels.count = omega (arith, length-take levels.count xs) in
+    rw (get_or-take levels.count xs j 0 k, e, get_or_tabulate 32 j (λ j. reached levels y j) 0 (omega arith)) (s j y k h)
 
 -- THE LINES OF A PAGE
 pub lines_start : (f : ℕ → ℕ → ℕ) (t : ℕ) (o : List ℕ) → LinesPut f t 0 (t + 1) o o
 lines_start f t o = record { place = omega arith; same_length = refl; stands = rw add-one }
 
-lines_step : (f : ℕ → ℕ → ℕ) (t at y : ℕ) (before now part : List ℕ) → t < 1000 → 69 * suc t ≤ length before → LinesPut f t at y before now → 0 < y
-    → part ≡ over (line_of (y - 1) (f (y - 1))) (take (length now - at) (drop at now)) → LinesPut f t (at + 69) (y - 1) before (take at now ++ (part ++ drop (length now - at) (drop at now)))
+lines_step : (f : ℕ → ℕ → ℕ) (t at y : ℕ) (before now part : List ℕ) → t < 1000 → 69 * suc t ≤ length before → LinesPut f t at (suc y) before now
+    → part ≡ over (line_of y (f y)) (take (length now - at) (drop at now)) → LinesPut f t (at + 69) y before (take at now ++ (part ++ drop (length now - at) (drop at now)))
 unfolding over lines_below
-lines_step f t at y before now part small fits p some e =
-    let line = line_of (y - 1) (f (y - 1)) in
-    let long : length line ≡ 69 = line_long (y - 1) (f (y - 1)) (omega (arith, p.place)) in
+lines_step f t at y before now part small fits p e =
+    let line = line_of y (f y) in
+    let long : length line ≡ 69 = line_long y (f y) (omega (arith, p.place)) in
     let room : at + 69 ≤ length now = omega (arith, p.place, p.same_length) in
     let rest : length (drop at now) ≡ length now - at = length-drop at now in
     let all : take (length now - at) (drop at now) ≡ drop at now = take_all (length now - at) (drop at now) (omega arith) in
     let none : drop (length now - at) (drop at now) ≡ [] = drop_of_length-le (drop at now) {i = length now - at} (omega arith) in
     let front : length (take at now) ≡ at = length-take-le at now (omega arith) in
-    let whole : take at now ++ (part ++ drop (length now - at) (drop at now)) ≡ (take at now ++ line) ++ drop 69 (drop at now) =
-    rw (none, append-nil, e, all, long, append_assoc)
-    in
+    let whole : take at now ++ (part ++ drop (length now - at) (drop at now)) ≡ (take at now ++ line) ++ drop 69 (drop at now) = rw (none, append-nil, e, all, long, append_assoc) in
     rw whole
     (record {
       place = omega (arith, p.place);
       same_length = rw (length-append, length-append, length-drop, length-drop, front, long) (omega (arith, p.same_length));
-      stands =
-          rw (take_at (take at now ++ line) (drop 69 (drop at now)) (at + 69) (rw (length-append, front, long)), append_assoc) (last y some p.stands);
+      stands = rw (take_at (take at now ++ line) (drop 69 (drop at now)) (at + 69) (rw (length-append, front, long)), append_assoc) p.stands;
     })
-  where
-    last : (y : ℕ) → 0 < y → take at now ++ lines_below f y ≡ lines_below f (suc t) → take at now ++ (line_of (y - 1) (f (y - 1)) ++ lines_below f (y - 1)) ≡ lines_below f (suc t)
-    last zero h d = absurd (omega arith)
-    last (suc n) h d = let k : suc n - 1 ≡ n = omega arith in rw k (unfolded n d)
-      where
-        unfolded : (n : ℕ) → take at now ++ lines_below f (suc n) ≡ lines_below f (suc t) → take at now ++ (line_of n (f n) ++ lines_below f n) ≡ lines_below f (suc t)
-        unfolded n d = d
 
 -- the next line, by the arrivals on its track and on the track above
-pub track_step : (ahead back upto starts ends : List ℕ) (m t at y : ℕ) (before now part : List ℕ) → m ≤ 32 → t ≤ 64 → 69 * suc t ≤ length before
-    → LinesPut (λ y c. track_drawn ahead back upto m t y c) t at y before now → 0 < y → starts ≡ tabulate 32 0 (λ j. reached ahead back upto (y - 1) j)
-    → ends ≡ tabulate 32 0 (λ j. reached ahead back upto y j)
-    → part ≡ over (line_of (y - 1) (λ c. painted (λ j. get_or starts j 0) (λ j. get_or ends j 0) (ltb (y - 1) t) (ltb 0 (y - 1)) 0 m c 46)) (take (length now - at) (drop at now))
-    → LinesPut (λ y c. track_drawn ahead back upto m t y c) t (at + 69) (y - 1) before (take at now ++ (part ++ drop (length now - at) (drop at now)))
-track_step ahead back upto starts ends m t at y before now part few small fits p some d e h =
-    let z : suc (y - 1) ≡ y = omega arith in
-    lines_step (λ y c. track_drawn ahead back upto m t y c) t at y before now part (omega arith) fits p some
-    (rw (track_is ahead back upto starts ends m t (y - 1) few d (rw z e)) at h)
+pub track_step : (levels : Levels) (starts ends : List ℕ) (t at y : ℕ) (before now part : List ℕ) → levels.count ≤ 32 → t ≤ 64 → 69 * suc t ≤ length before
+    → LinesPut (λ y c. track_drawn levels t y c) t at (y + 1) before now → starts ≡ tabulate 32 0 (λ j. reached levels y j)
+    → ends ≡ tabulate 32 0 (λ j. reached levels (y + 1) j)
+    → part ≡ over (line_of y (λ c. painted (λ j. get_or (take levels.count starts) j 0) (λ j. get_or (take levels.count ends) j 0) (ltb y t) (ltb 0 y) (length (take levels.count starts)) c 46)) (take (length now - at) (drop at now))
+    → LinesPut (λ y c. track_drawn levels t y c) t (at + 69) y before (take at now ++ (part ++ drop (length now - at) (drop at now)))
+track_step levels starts ends t at y before now part few small fits p d e h =
+    lines_step (λ y c. track_drawn levels t y c) t at y before now part (omega arith) fits (rw add-one at p) (rw (track_is levels starts ends t y few d (rw add-one at e)) at h)
+
+-- a list of 32 columns, of which the first are taken
+pub taken_long : (f : ℕ → ℕ) (xs : List ℕ) (n : ℕ) → xs ≡ tabulate 32 0 f → n ≤ 32 → length (take n xs) ≡ n
+taken_long f xs n e l = rw e (length-take-le n (tabulate 32 0 f) (rw length_tabulate l))
 
 pub lines_end : (f : ℕ → ℕ → ℕ) (t at y : ℕ) (before now : List ℕ) → y ≤ 0 → LinesPut f t at y before now → take (69 * suc t) now ≡ lines_below f (suc t)
 unfolding lines_below

@@ -4,101 +4,77 @@
 ghost use Rattle.std.specs.Prelude.{◌≡◌, ◌+◌, ◌-◌, ◌*◌, ◌≤◌, ◌<◌, min, max, replicate};
 ghost use Rattle.stack.specs.Value.{tracks_of, columns_of};
 ghost use Rattle.stack.specs.Sizes.{strips_held, separations_held};
-ghost use Rattle.spans.specs.Spans.{span, cut, shift_back};
+ghost use Rattle.spans.specs.Spans.{cut, shift_back};
 ghost use Rattle.spans.specs.Solver.{positions};
-ghost use Rattle.arrays.specs.Arrays.{bias, entry, low_in, high_in, window_at, given, window_of, levels, StackAsks, store, taken};
+ghost use Rattle.arrays.specs.Arrays.{bias, low_in, high_in, window_of, levels, StackAsks, store, taken};
 ghost use Rattle.positions.specs.Positions.{StartsAre, NextAsks, PositionAsks};
 
-use arrays::{
-    ChannelLimits, FROM, HIGH, LAST, LOW, Plan, Span, StackLimits, UPTO, Window, Windows,
-};
-use numbers::{difference, greater, lesser};
+use arrays::{ChannelLimits, Given};
+use spans::Span;
 use stack::{Columns, Stack, Tracks};
 
-// The positions in the window (from, upto) that are within the limit (low, high) below some position in s.
-fn backward(s: Span, low: u64, high: u64, from: u64, upto: u64) -> Span
-    requires { (s.from ≤ strips_held * bias) × (s.upto ≤ bias) }
-    ensures { span result.from result.upto ≡ cut (span from upto) (shift_back bias low high (span s.from s.upto)) }
+// The positions in a window that are within the limit (low, high) below some position in s.
+fn backward(s: Span, low: u64, high: u64, window: Span) -> Span
+    requires starts { s.from ≤ strips_held * bias }
+    requires ends { s.upto ≤ bias }
+    ensures { result ≡ cut window (shift_back bias low high s) }
 {
     Span {
-        from: greater(from, difference(s.from + Stack::BIAS, high)),
-        upto: lesser(upto, difference(s.upto + Stack::BIAS, low)),
+        from: window.from.max((s.from + Stack::BIAS).saturating_sub(high)),
+        upto: window.upto.min((s.upto + Stack::BIAS).saturating_sub(low)),
     }
 }
 
 // The positions in the window of the strip below, for the strip above in s and separation q.
-fn pull_back(limits: &ChannelLimits, last: usize, q: u32, s: Span, window: &Window) -> Span
-    requires { (last < separations_held) × (s.from ≤ strips_held * bias) × (s.upto ≤ bias) }
-    ensures { span result.from result.upto ≡ cut (window_at window.now) (shift_back bias (low_in limits.now (min q last)) (high_in limits.now (min q last)) (span s.from s.upto)) }
+fn pull_back(limits: &ChannelLimits, last: usize, q: u32, s: Span, window: Span) -> Span
+    requires last { last < separations_held }
+    requires starts { s.from ≤ strips_held * bias }
+    requires ends { s.upto ≤ bias }
+    ensures { result ≡ cut window (shift_back bias (low_in limits.now (min q last)) (high_in limits.now (min q last)) s) }
 {
-    let p = lesser(q as u64, last as u64) as usize;
-    backward(
-        s,
-        limits[LOW][p],
-        limits[HIGH][p],
-        window[FROM],
-        window[UPTO],
-    )
+    let p = last.min(q as usize);
+    backward(s, limits.low[p], limits.high[p], window)
 }
 
 // The first position of each strip from which the strips above can be placed with these separations.
-fn starts_for(
-    limits: &StackLimits,
-    plan: &Plan,
-    windows: &Windows,
-    k: usize,
-    ts: [Tracks; Stack::MAX_CHANNELS],
-) -> [u64; Stack::STRIPS]
-    requires { StackAsks (given limits.now plan.now windows.now) k }
-    ensures { StartsAre (given limits.now plan.now windows.now) k (tracks_of ts) 0 result }
+fn starts_for(given: &Given, ts: &[Tracks; Stack::MAX_CHANNELS]) -> [u64; Stack::STRIPS]
+    requires { StackAsks given.now }
+    ensures { StartsAre given.now (tracks_of ts.now) 0 result }
 {
-    let mut s = Span {
-        from: windows[k][FROM],
-        upto: windows[k][UPTO],
-    };
+    let k = given.channels;
+    let mut s = given.windows[k];
     let mut starts = [0u64; Stack::STRIPS];
     starts[k] = s.from;
-    let mut i = k;
-    while 0 < i {
-        i -= 1;
-        let Tracks(q) = ts[i];
-        let t = pull_back(&limits[i], plan[LAST][i], q, s, &windows[i]);
-        s = t;
+    for i in (0..k).rev() {
+        let last = given.plan.lasts[i];
+        s = pull_back(&given.limits[i], last, ts[i].0, s, given.windows[i]);
         starts[i] = s.from;
     }
     starts
 }
 
 // The position of the strip above, as far left as start and the strip below at x allow.
-fn next(low: &[u64; Stack::SEPARATIONS], last: usize, q: u32, x: u64, start: u64) -> u64
-    requires { NextAsks low.now last x }
-    ensures { result ≡ max start (x + entry low.now (min q last) - bias) }
+fn next(limits: &ChannelLimits, last: usize, q: u32, x: u64, start: u64) -> u64
+    requires { NextAsks limits.now last x }
+    ensures { result ≡ max start (x + low_in limits.now (min q last) - bias) }
 {
-    let p = lesser(q as u64, last as u64) as usize;
-    greater(start, difference(x + low[p], Stack::BIAS))
+    let p = last.min(q as usize);
+    start.max((x + limits.low[p]).saturating_sub(Stack::BIAS))
 }
 
 // The positions for separations that can be had, bottom strip first, each as far left as can be; zeros in unused places.
-pub fn positions_for(
-    limits: &StackLimits,
-    plan: &Plan,
-    windows: &Windows,
-    k: usize,
-    ts: [Tracks; Stack::MAX_CHANNELS],
-) -> [Columns; Stack::STRIPS]
-    requires { PositionAsks (given limits.now plan.now windows.now) k (tracks_of ts) }
-    ensures { columns_of result ≡ store (replicate strips_held 0) 0 (positions bias (window_of (given limits.now plan.now windows.now) 0) (levels (given limits.now plan.now windows.now) 0 k) (taken (tracks_of ts) 0 k)) }
+pub fn positions_for(given: &Given, ts: &[Tracks; Stack::MAX_CHANNELS]) -> [Columns; Stack::STRIPS]
+    requires { PositionAsks given.now (tracks_of ts.now) }
+    ensures { columns_of result ≡ store (replicate strips_held 0) 0 (positions bias (window_of given.now 0) (levels given.now 0 given.now.channels) (taken (tracks_of ts.now) 0 given.now.channels)) }
 {
-    let starts = starts_for(limits, plan, windows, k, ts);
+    let starts = starts_for(given, ts);
     let mut xs = [Columns(0); Stack::STRIPS];
     let mut x = starts[0];
     xs[0] = Columns(x as u32);
-    let mut i = 0;
-    while i < k {
-        let Tracks(q) = ts[i];
-        x = next(&limits[i][LOW], plan[LAST][i], q, x, starts[i + 1]);
-        i += 1;
-        xs[i] = Columns(x as u32);
+    for i in 0..given.channels {
+        let last = given.plan.lasts[i];
+        x = next(&given.limits[i], last, ts[i].0, x, starts[i + 1]);
+        xs[i + 1] = Columns(x as u32);
     }
     xs
 }

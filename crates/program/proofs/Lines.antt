@@ -1,21 +1,21 @@
 -- Where a line of the input is, and that what a session holds behind it steps have made. Assumes nothing.
-use mathlib.Core.Path.{◌≡◌, sym, ap, ◌∙◌}
+use mathlib.Core.Path.{◌≡◌, ap, sym, ◌∙◌}
+use mathlib.Core.Bool.{true}
 use mathlib.Core.List.{List}
-use Prim.Native.Nat.{ℕ, ◌≤◌}
+use Prim.Native.Nat.{ℕ, ◌+◌, ◌≤◌, ◌<◌}
 use native.Mathlib.Omega.{arith}
-use lib.ListN.{length, take, length-take}
-use lib.Seq.{length-take-le}
-use borrow.Author.Tests.{ltb-true}
-use Rattle.lines.specs.Lines.{Line}
-use Rattle.lines.specs.Cut.{LineFrom}
-use Rattle.lines.specs.declared.LineEnd.{LineEnd}
+use lib.ListN.{length}
+use Rattle.lines.specs.Lines.{Line, line, line_of}
+use Rattle.lines.specs.Cut.{line_from}
+use Rattle.lines.specs.declared.Line.{Line as LineStruct}
+use Rattle.lines.proofs.Places.{line_within, next_there}
+use Rattle.program.specs.Input.{LineIn}
 use Rattle.session.specs.Session.{Made, made_empty}
 use Rattle.session.specs.Value.{held_of}
 use Rattle.replay.specs.Replay.{State, state, start, line_taken}
 use Rattle.replay.specs.Value.{state_of}
 use Rattle.replay.specs.declared.Replay.{Replay}
 use Rattle.replay.proofs.Made.{line_made}
-use Rattle.program.specs.Input.{LineIn}
 
 pub line_run_made : (n : ℕ) (p q : Replay) (l : Line) → Made (held_of p.session) → state_of q ≡ line_taken n (state_of p) l → Made (held_of q.session)
 unfolding state_of state
@@ -25,16 +25,15 @@ pub start_made : (p : Replay) → state_of p ≡ start → Made (held_of p.sessi
 unfolding state_of state start
 start_made p e = rw (ap (λ (x : State). x.held) e) made_empty
 
--- a line among the first bytes of a space
-pub line_in_part : (text : List ℕ) (from filled : ℕ) (r : LineEnd) → filled ≤ length text → LineFrom (take filled text) from r → LineIn from filled r
-line_in_part text from filled r h l =
-    let n = length-take-le filled text h in
-    record {
-      begins = omega (arith, l.end);
-      within = omega (arith, l.within, n);
-      ended = λ e. omega (arith, n, ltb-true r.end (length (take filled text)) (sym l.ended ∙ e));
-    }
+-- the line that begins at a place
+module _ (bs : List ℕ) (at : ℕ) (here : at ≤ length bs) (l : LineStruct) (e : line_of l ≡ line_from bs at) where
+  bytes_long : length l.bytes.now ≡ length (line_from bs at).bytes
+  unfolding line
+  bytes_long = ap (λ (x : Line). length x.bytes) e
 
--- at most so many bytes are taken
-pub few_taken : (n m : ℕ) (xs : List ℕ) → n ≤ m → length (take n xs) ≤ m
-few_taken n m xs h = omega (arith, length-take n xs)
+  pub line_ends : at + length l.bytes.now ≤ length bs
+  line_ends = omega (arith, bytes_long, line_within bs at here)
+
+  pub line_fed : l.ended ≡ true → at + length l.bytes.now < length bs
+  unfolding line
+  line_fed h = omega (arith, bytes_long, (next_there bs at here (sym (ap (λ (x : Line). x.ended) e) ∙ h)).within)

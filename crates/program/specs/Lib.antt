@@ -1,3 +1,3 @@
--- How the status is passed on, how many bytes of the input are there, and where a line of it is.
+-- How the status is passed on, and where a line of the input is.
 pub mod Status
 pub mod Input

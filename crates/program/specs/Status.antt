@@ -1,8 +1,7 @@
 -- How the status is passed on by what prints. Assumes nothing: these are definitions.
 use Rattle.std.specs.Prelude.{◌≡◌, ◌⊎◌, List, ℕ}
 use Rattle.text.specs.Outcome.{refusal_of}
-use Rattle.spread.specs.Answers.{PlacementSays}
-use Rattle.reply.specs.declared.PlacementAnswer.{PlacementAnswer}
+use Rattle.spread.specs.Answers.{PlacementResult, PlacementSays}
 use Rattle.commands.specs.Output.{status_of}
 
 -- the status of what was printed, or 2 where it could not be
@@ -11,6 +10,6 @@ PassedOn s r = (r ≡ s) ⊎ (r ≡ 2)
 
 -- for a placement the status of what is answered
 pub record PlacePassedOn (bs : List ℕ) (s v result : ℕ) : Type 0 where
-  pub answer : PlacementAnswer
+  pub answer : PlacementResult
   pub says : PlacementSays bs s v answer
-  pub passed : PassedOn (status_of (refusal_of answer.outcome)) result
+  pub passed : PassedOn (status_of (refusal_of answer)) result

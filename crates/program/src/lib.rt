@@ -3,60 +3,44 @@
 // commands, the words for a refusal from crate complaint; the functions here read, write and pass the status on.
 #![tactic(auto)]
 
-ghost use Rattle.std.specs.Prelude.{◌≡◌, false, ◌≤◌, ◌<◌, length, set};
+ghost use Rattle.std.specs.Prelude.{◌≡◌, ◌≤◌, ◌<◌, length, IfOk};
 ghost use Rattle.text.specs.Text.{or_else, text_refusal};
 ghost use Rattle.text.specs.Outcome.{refusal_of};
 ghost use Rattle.session.specs.Session.{Made, session_refusal};
 ghost use Rattle.session.specs.Value.{held_of};
 ghost use Rattle.spread.specs.Answers.{spread_refusal};
 ghost use Rattle.nabetsu.specs.Pages.{page_refusal};
-ghost use Rattle.commands.specs.Output.{status_of, trial_status};
+ghost use Rattle.commands.specs.Output.{status_number, status_after, status_of, trial_status};
 ghost use Rattle.program.specs.Status.{PassedOn, PlacePassedOn};
-ghost use Rattle.program.specs.Input.{IsPrefixLen, LineIn, IsNextLine};
+ghost use Rattle.program.specs.Input.{LineIn, IsNextLine};
 
 use commands::{
-    ANSWERED, Command, FAILED, NUMBERS, Number, put_page, put_place, put_spread, put_step,
-    put_table, put_total, put_trial, read_command, read_number,
+    Command, NUMBERS, Reply, Status, put_page, put_place, put_spread, put_step, put_table,
+    put_total, put_trial, read_command, read_number,
 };
-use complaint::{COMPLAINT_BYTES, complaint_before, no_step_before};
-use kinds::Reading;
-use lines::{LineEnd, is_word, line_end};
+use complaint::{complaint, no_step};
+use lines::{Line, is_word, line_from};
 use nabetsu::TABLE_BYTES;
-use replay::{Replay, awaits, is_no_step};
+use replay::{Replay, awaits};
 use std::env::{Env, FillError};
 use std::fs::File;
 use std::io::{Cursor, Error, Read, Write};
 use std::{io, str};
-use text::Outcome;
+use text::{MAX_BYTES, Refused};
 
 // One byte more than an accepted text has, so that a longer one is seen to be.
-const TEXT_BYTES: usize = Reading::MAX_BYTES + 1;
+const TEXT_BYTES: usize = MAX_BYTES + 1;
 
-// The system's numbers for no error, for an argument that is missing, for a name that is too long, and for bytes that are no text.
-const NO_ERROR: i32 = 0;
-
+// The system's numbers for an argument that is missing, for a name that is too long, and for bytes that are no text.
 const MISSING: i32 = 22;
 
 const TOO_LONG: i32 = 36;
 
 const NO_TEXT: i32 = 84;
 
-// Writes all the bytes; it stops at the first write that takes nothing or fails.
-fn write_all(to: &impl Print, bytes: &[u8]) -> io::Result<()> {
-    let mut done = 0;
-    while done < bytes.len() {
-        let taken = to.write_some(&bytes[done..])?;
-        if taken == 0 {
-            return Err(Error::from_raw_os_error(NO_ERROR));
-        }
-        done += taken;
-    }
-    Ok(())
-}
-
 // Says something on standard error; where that fails there is nowhere to say so.
 fn say(rt: &HostRuntime, bytes: &[u8]) {
-    let _ = write_all(&rt.stderr(), bytes);
+    let _ = rt.stderr().write_all(bytes);
 }
 
 // The bytes in front of the number that an error's text ends with.
@@ -77,51 +61,62 @@ const ERROR_BYTES: usize = 128;
 fn say_error(rt: &HostRuntime, error: Error) {
     let mut text = Cursor::new([0u8; ERROR_BYTES]);
     let _ = write!(text, "{error}");
-    let filled = text.position();
-    let room = text.into_inner();
-    let mut end = ERROR_BYTES;
-    if filled < ERROR_BYTES as u64 {
-        end = filled as usize;
-    }
-    say(rt, before_number(&room[..end]));
+    let end = text.position().min(ERROR_BYTES as u64) as usize;
+    say(rt, before_number(&text.into_inner()[..end]));
 }
 
+// A failure that was said on standard error.
+#[derive(Clone, Copy)]
+struct Said;
+
 // Says what failed, and why.
-fn fail(rt: &HostRuntime, what: &[u8], error: Error) -> u32
-    ensures { result ≡ 2 }
-{
+fn fail(rt: &HostRuntime, what: &[u8], error: Error) -> Said {
     say(rt, b"stacktable: ");
     say(rt, what);
     say(rt, b": ");
     say_error(rt, error);
     say(rt, b"\n");
-    FAILED
+    Said
 }
 
 // Says a refusal in words; nothing where there is none.
-fn say_refusal(rt: &HostRuntime, outcome: Outcome) {
-    let mut room = [0u8; COMPLAINT_BYTES];
-    let at = complaint_before(&mut room, outcome);
-    say(rt, &room[at..]);
+fn say_refusal(rt: &HostRuntime, outcome: Result<(), Refused>) {
+    if let Err(refused) = outcome {
+        say(rt, complaint(refused).as_slice());
+    }
 }
 
-// Prints what a status goes with, and then says in words what is refused.
-fn print(rt: &HostRuntime, bytes: &[u8], status: u32, outcome: Outcome) -> u32
-    ensures { PassedOn status result }
+// Prints what stands at the start of an output, and then says in words what is refused.
+fn print_reply(rt: &HostRuntime, output: &[u8], reply: Reply) -> Status
+    requires { reply.length ≤ length output.now }
+    ensures { PassedOn (status_number (status_after reply.outcome)) (status_number result) }
 {
-    match write_all(&rt.stdout(), bytes) {
+    match rt.stdout().write_all(&output[..reply.length]) {
         Ok(()) => {
-            say_refusal(rt, outcome);
-            status
+            say_refusal(rt, reply.outcome);
+            reply.status()
         }
-        Err(error) => fail(rt, b"standard output", error),
+        Err(error) => {
+            fail(rt, b"standard output", error);
+            Status::Failed
+        }
     }
+}
+
+// Prints a text that is no reply.
+fn print(rt: &HostRuntime, bytes: &[u8]) -> Status
+    ensures { PassedOn 0 (status_number result) }
+{
+    let reply = Reply {
+        length: bytes.len(),
+        outcome: Ok(()),
+    };
+    print_reply(rt, bytes, reply)
 }
 
 // How the program is used.
 fn print_usage(to: &impl Print) -> io::Result<()> {
-    write_all(
-        to,
+    to.write_all(
         b"usage: stacktable [-f FILE]
        stacktable [-f FILE] total N
        stacktable [-f FILE] place N TOTAL
@@ -136,11 +131,12 @@ fn print_usage(to: &impl Print) -> io::Result<()> {
 }
 
 // How the program is used, what it prints, and an example.
-fn print_help(rt: &HostRuntime) -> u32
-    ensures { PassedOn 0 result }
+fn print_help(rt: &HostRuntime) -> Status
+    ensures { PassedOn 0 (status_number result) }
 {
     if let Err(error) = print_usage(&rt.stdout()) {
-        return fail(rt, b"standard output", error);
+        fail(rt, b"standard output", error);
+        return Status::Failed;
     }
     print(
         rt,
@@ -165,91 +161,112 @@ It exits with 0 for an answer, 1 for a refusal, 2 where arguments are wrong, a l
 Example: two strips of 4 columns and two pairs, in a spread of 5
   printf 'STACK\\t1\\nPART\\t4\\nPART\\t4\\nNETS\\t0\\t2\\t2\\t4\\n' | stacktable spread 5
 ",
-        ANSWERED,
-        Outcome::Accepted,
     )
 }
 
 // The version is kept here.
-fn print_version(rt: &HostRuntime) -> u32
-    ensures { PassedOn 0 result }
+fn print_version(rt: &HostRuntime) -> Status
+    ensures { PassedOn 0 (status_number result) }
 {
-    print(rt, b"stacktable 1.7\n", ANSWERED, Outcome::Accepted)
+    print(rt, b"stacktable 1.7\n")
 }
 
 // Says what is wrong with the arguments, and how the program is used.
-fn print_wrong(rt: &HostRuntime, what: &[u8]) -> u32
-    ensures { result ≡ 2 }
+fn print_wrong(rt: &HostRuntime, what: &[u8]) -> Status
+    ensures { status_number result ≡ 2 }
 {
     say(rt, b"stacktable: ");
     say(rt, what);
     say(rt, b"\n");
     let _ = print_usage(&rt.stderr());
-    FAILED
+    Status::Failed
 }
 
-// How many bytes of a text were read, and whether that went well.
+// A line of the input: where it is among so many bytes, and whether it is ended, which fails at the end of the input and for a line that is too long.
 #[derive(Clone, Copy)]
-struct Input {
-    good: bool,
+struct NextLine {
+    at: usize,
+    end: usize,
+    ended: bool,
     length: usize,
 }
 
 // The line that begins at a place, among so many bytes.
-fn line_in(text: &[u8], from: usize, filled: usize) -> LineEnd
-    requires { (from ≤ filled) × (filled ≤ length text.now) }
-    ensures { LineIn from filled result }
+fn line_in(text: &[u8], at: usize, filled: usize) -> NextLine
+    requires { (at ≤ filled) × (filled ≤ length text.now) }
+    ensures { LineIn at filled result }
 {
-    line_end(&text[..filled], from)
+    let line = line_from(&text[..filled], at);
+    NextLine {
+        at,
+        end: at + line.bytes.len(),
+        ended: line.ended,
+        length: filled,
+    }
 }
 
-// Reads on behind so many bytes, to the end of the input, up to a line feed where a line is asked for, or until the space is full; where that fails, it says
-// why.
-fn read_on<S: Read>(
+// Reads on behind so many bytes, once; how many bytes are there then, as many as before at the end of the input.
+fn read_once<S: Read>(
+    rt: &HostRuntime,
+    source: &mut S,
+    name: &[u8],
+    text: &mut [u8],
+    filled: usize,
+) -> Result<usize, Said>
+    requires { filled ≤ length text.old }
+    ensures place { IfOk result (λ n. (filled ≤ n) × (n ≤ length text.new)) }
+    ensures same_length { length text.new ≡ length text.old }
+{
+    match source.read(&mut text[filled..]) {
+        Ok(more) => Ok(filled + more),
+        Err(error) => Err(fail(rt, name, error)),
+    }
+}
+
+// Reads to the end of the input, or until the space is full; how many bytes are there.
+fn read_from<S: Read>(
+    rt: &HostRuntime,
+    source: &mut S,
+    name: &[u8],
+    text: &mut [u8],
+) -> Result<usize, Said>
+    ensures { IfOk result (λ n. n ≤ length text.new) }
+{
+    let mut filled = 0;
+    // The place goes on by what each read gives, so that there is nothing to count.
+    while filled < text.len() {
+        let next = read_once(rt, source, name, text, filled)?;
+        if next == filled {
+            break;
+        }
+        filled = next;
+    }
+    Ok(filled)
+}
+
+// Reads on behind so many bytes up to a line feed, to the end of the input, or until the space is full; how many bytes are there.
+fn read_line<S: Read>(
     rt: &HostRuntime,
     source: &mut S,
     name: &[u8],
     text: &mut [u8],
     from: usize,
-    a_line: bool,
-) -> Input
+) -> Result<usize, Said>
     requires { from ≤ length text.old }
-    ensures { IsPrefixLen result.length text.new × (length text.new ≡ length text.old) }
+    ensures place { IfOk result (λ n. n ≤ length text.new) }
+    ensures same_length { length text.new ≡ length text.old }
 {
-    let mut length = from;
-    while length < text.len() {
-        match source.read(&mut text[length..]) {
-            Ok(0) => return Input { good: true, length },
-            Ok(more) => {
-                let next = length + more;
-                let line = line_in(text, length, next);
-                length = next;
-                if a_line && line.ended {
-                    return Input { good: true, length };
-                }
-            }
-            Err(error) => {
-                fail(rt, name, error);
-                return Input {
-                    good: false,
-                    length: 0,
-                };
-            }
+    let mut filled = from;
+    // By what each read gives, as in `read_from`.
+    while filled < text.len() {
+        let next = read_once(rt, source, name, text, filled)?;
+        let line = line_in(text, filled, next);
+        if next == filled || line.ended {
+            return Ok(next);
         }
+        filled = next;
     }
-    Input { good: true, length }
-}
-
-// Reads a text; where that fails, it says why.
-fn read_from<S: Read>(
-    rt: &HostRuntime,
-    source: &mut S,
-    name: &[u8],
-    text: &mut [u8; TEXT_BYTES],
-) -> Input
-    ensures { IsPrefixLen result.length text.new }
-{
-    read_on(rt, source, name, text, 0, false)
+    Ok(filled)
 }
 
 // The longest argument's bytes; a path has fewer.
@@ -257,20 +274,16 @@ const ARGUMENT_BYTES: usize = 4096;
 
 // Puts argument i at the start of the space; how many bytes it has, 0 where it is missing or too long.
 fn argument(rt: &HostRuntime, i: usize, space: &mut [u8]) -> usize
-    ensures { IsPrefixLen result space.new }
+    ensures { result ≤ length space.new }
 {
-    match rt.arg(i, space) {
-        Ok(n) => n,
-        Err(_) => 0,
-    }
+    rt.arg(i, space).unwrap_or(0)
 }
 
 // How many arguments there are, the program's name among them.
 fn argument_count(rt: &HostRuntime) -> usize {
     for i in 0..usize::MAX {
-        match rt.arg(i, &mut []) {
-            Err(FillError::NotPresent) => return i,
-            _ => {}
+        if let Err(FillError::NotPresent) = rt.arg(i, &mut []) {
+            return i;
         }
     }
     usize::MAX
@@ -284,13 +297,6 @@ fn open_named(rt: &HostRuntime, name: &[u8]) -> io::Result<File> {
     }
 }
 
-// A file that is open to be read, if it is, and how many bytes its name has.
-#[derive(Drop)]
-struct Opened {
-    file: Option<File>,
-    name: usize,
-}
-
 // What an argument that is not there, or is too long, is refused with.
 fn argument_error(why: FillError) -> Error {
     match why {
@@ -299,45 +305,26 @@ fn argument_error(why: FillError) -> Error {
     }
 }
 
-// Opens the file that the second argument names; where that fails, it says why.
-fn open_file(rt: &HostRuntime, path: &mut [u8]) -> Opened
-    ensures { IsPrefixLen result.name path.new }
+// Opens the file that the second argument names, and puts its name at the start of the space; the file, and how many bytes its name has.
+fn open_file(rt: &HostRuntime, path: &mut [u8]) -> Result<(File, usize), Said>
+    ensures { IfOk result (λ r. r.1 ≤ length path.new) }
 {
     match rt.arg(2, path) {
-        Ok(name) => match open_named(rt, &path[..name]) {
-            Ok(file) => Opened {
-                file: Some(file),
-                name,
-            },
-            Err(error) => {
-                fail(rt, &path[..name], error);
-                Opened { file: None, name }
-            }
+        Ok(n) => match open_named(rt, &path[..n]) {
+            Ok(file) => Ok((file, n)),
+            Err(error) => Err(fail(rt, &path[..n], error)),
         },
-        Err(why) => {
-            fail(rt, b"FILE", argument_error(why));
-            Opened {
-                file: None,
-                name: 0,
-            }
-        }
+        Err(why) => Err(fail(rt, b"FILE", argument_error(why))),
     }
 }
 
 // Reads the file that the second argument names.
-fn read_file(rt: &HostRuntime, text: &mut [u8; TEXT_BYTES]) -> Input
-    ensures { IsPrefixLen result.length text.new }
+fn read_file(rt: &HostRuntime, text: &mut [u8; TEXT_BYTES]) -> Result<usize, Said>
+    ensures { IfOk result (λ n. n ≤ 8193) }
 {
     let mut path = [0u8; ARGUMENT_BYTES];
-    let opened = open_file(rt, &mut path);
-    let n = opened.name;
-    match opened.file {
-        Some(mut file) => read_from(rt, &mut file, &path[..n], text),
-        None => Input {
-            good: false,
-            length: 0,
-        },
-    }
+    let (mut file, n) = open_file(rt, &mut path)?;
+    read_from(rt, &mut file, &path[..n], text)
 }
 
 // The place of an argument behind -f and a file.
@@ -357,8 +344,8 @@ fn command_place(rt: &HostRuntime) -> usize
 }
 
 // Reads the file behind -f, or else standard input.
-fn read_input(rt: &HostRuntime, place: usize, text: &mut [u8; TEXT_BYTES]) -> Input
-    ensures { IsPrefixLen result.length text.new }
+fn read_input(rt: &HostRuntime, place: usize, text: &mut [u8; TEXT_BYTES]) -> Result<usize, Said>
+    ensures { IfOk result (λ n. n ≤ 8193) }
 {
     if place == BEHIND_FILE {
         return read_file(rt, text);
@@ -366,206 +353,140 @@ fn read_input(rt: &HostRuntime, place: usize, text: &mut [u8; TEXT_BYTES]) -> In
     read_from(rt, &mut rt.stdin(), b"standard input", text)
 }
 
-// The number that is argument i; where it is none, it says so.
-fn number_argument(rt: &HostRuntime, i: usize) -> Number {
+// The number that is argument i.
+fn number_argument(rt: &HostRuntime, i: usize) -> Result<u32, Said> {
     let mut word = [0u8; ARGUMENT_BYTES];
     let n = argument(rt, i, &mut word);
-    let number = read_number(&word[..n]);
-    if !number.good {
-        say(
-            rt,
-            b"stacktable: not a number of 1 to 10 digits, at most 4294967295: ",
-        );
-        say(rt, &word[..n]);
-        say(rt, b"\n");
+    if let Some(number) = read_number(&word[..n]) {
+        return Ok(number);
     }
-    number
+    say(
+        rt,
+        b"stacktable: not a number of 1 to 10 digits, at most 4294967295: ",
+    );
+    say(rt, &word[..n]);
+    say(rt, b"\n");
+    Err(Said)
 }
 
-// The number in its place, where there is one.
-fn number_stored(mut values: [u32; NUMBERS], i: usize, x: u32) -> [u32; NUMBERS]
-    ensures { result ≡ set values i x }
-{
-    if i < NUMBERS {
-        values[i] = x;
-    }
-    values
-}
-
-// Whether the arguments are all numbers, and the first of them.
-#[derive(Clone, Copy)]
-struct Numbers {
-    good: bool,
-    values: [u32; NUMBERS],
-}
-
-// The numbers that are the arguments from a place on.
-fn read_numbers(rt: &HostRuntime, first: usize, end: usize) -> Numbers {
+// The numbers that are the arguments from a place on; those that no trial has room for are only looked at.
+fn read_numbers(rt: &HostRuntime, first: usize, end: usize) -> Result<[u32; NUMBERS], Said> {
     let mut values = [0u32; NUMBERS];
     for i in first..end {
-        let number = number_argument(rt, i);
-        if !number.good {
-            return Numbers {
-                good: false,
-                values,
-            };
+        let value = number_argument(rt, i)?;
+        if i - first < NUMBERS {
+            values[i - first] = value;
         }
-        let kept = number_stored(values, i - first, number.value);
-        values = kept;
     }
-    Numbers { good: true, values }
+    Ok(values)
 }
 
 // The table of the stack in a text.
-fn print_table(rt: &HostRuntime, text: &[u8]) -> u32
-    ensures { PassedOn (status_of (text_refusal text.now)) result }
+fn print_table(rt: &HostRuntime, text: &[u8]) -> Status
+    ensures { PassedOn (status_of (text_refusal text.now)) (status_number result) }
 {
-    let mut output = [0u8; TABLE_BYTES];
+    let mut output = [0; TABLE_BYTES];
     let reply = put_table(text, &mut output);
-    let length = reply.length;
-    let outcome = reply.outcome;
-    print(rt, &output[..length], reply.status, outcome)
+    print_reply(rt, &output, reply)
 }
 
 // The least total in one spread.
-fn print_total(rt: &HostRuntime, text: &[u8], spread: u32) -> u32
-    ensures { PassedOn (status_of (spread_refusal text.now spread)) result }
+fn print_total(rt: &HostRuntime, text: &[u8], spread: u32) -> Status
+    ensures { PassedOn (status_of (spread_refusal text.now spread)) (status_number result) }
 {
-    let mut output = [0u8; TABLE_BYTES];
+    let mut output = [0; TABLE_BYTES];
     let reply = put_total(text, spread, &mut output);
-    let length = reply.length;
-    let outcome = reply.outcome;
-    print(rt, &output[..length], reply.status, outcome)
+    print_reply(rt, &output, reply)
 }
 
 // The placement for a total in one spread.
-fn print_place(rt: &HostRuntime, text: &[u8], spread: u32, total: u32) -> u32
-    ensures { PlacePassedOn text.now spread total result }
+fn print_place(rt: &HostRuntime, text: &[u8], spread: u32, total: u32) -> Status
+    ensures { PlacePassedOn text.now spread total (status_number result) }
 {
-    let mut output = [0u8; TABLE_BYTES];
+    let mut output = [0; TABLE_BYTES];
     let reply = put_place(text, spread, total, &mut output);
-    let length = reply.length;
-    let outcome = reply.outcome;
-    print(rt, &output[..length], reply.status, outcome)
+    print_reply(rt, &output, reply)
 }
 
 // The answer for one spread.
-fn print_spread(rt: &HostRuntime, text: &[u8], spread: u32) -> u32
-    ensures { PassedOn (status_of (spread_refusal text.now spread)) result }
+fn print_spread(rt: &HostRuntime, text: &[u8], spread: u32) -> Status
+    ensures { PassedOn (status_of (spread_refusal text.now spread)) (status_number result) }
 {
-    let mut output = [0u8; TABLE_BYTES];
+    let mut output = [0; TABLE_BYTES];
     let reply = put_spread(text, spread, &mut output);
-    let length = reply.length;
-    let outcome = reply.outcome;
-    print(rt, &output[..length], reply.status, outcome)
+    print_reply(rt, &output, reply)
 }
 
 // The page of a channel in the answer for one spread.
-fn print_page(rt: &HostRuntime, text: &[u8], spread: u32, channel: u32) -> u32
-    ensures { PassedOn (status_of (page_refusal text.now spread channel)) result }
+fn print_page(rt: &HostRuntime, text: &[u8], spread: u32, channel: u32) -> Status
+    ensures { PassedOn (status_of (page_refusal text.now spread channel)) (status_number result) }
 {
-    let mut output = [0u8; TABLE_BYTES];
+    let mut output = [0; TABLE_BYTES];
     let reply = put_page(text, spread, channel, &mut output);
-    let length = reply.length;
-    let outcome = reply.outcome;
-    print(rt, &output[..length], reply.status, outcome)
+    print_reply(rt, &output, reply)
 }
 
 // The verdict on a trial of so many numbers.
-fn print_trial(rt: &HostRuntime, text: &[u8], count: usize, numbers: [u32; NUMBERS]) -> u32
-    ensures { PassedOn (trial_status text.now count) result }
+fn print_trial(rt: &HostRuntime, text: &[u8], count: usize, numbers: &[u32; NUMBERS]) -> Status
+    ensures { PassedOn (trial_status text.now count) (status_number result) }
 {
-    let mut output = [0u8; TABLE_BYTES];
-    let reply = put_trial(text, count, numbers, &mut output);
-    if reply.status == FAILED {
-        return print_wrong(rt, b"trial: a stack of K channels takes 2K + 2 numbers");
+    let mut output = [0; TABLE_BYTES];
+    match put_trial(text, count, numbers, &mut output) {
+        Some(reply) => print_reply(rt, &output, reply),
+        None => print_wrong(rt, b"trial: a stack of K channels takes 2K + 2 numbers"),
     }
-    let length = reply.length;
-    let outcome = reply.outcome;
-    print(rt, &output[..length], reply.status, outcome)
 }
 
 // Reads the text, and prints its table.
-fn run_table(rt: &HostRuntime, place: usize) -> u32
-    ensures { result ≤ 2 }
-{
+fn run_table(rt: &HostRuntime, place: usize) -> Result<Status, Said> {
     let mut text = [0u8; TEXT_BYTES];
-    let input = read_input(rt, place, &mut text);
-    if !input.good {
-        return FAILED;
-    }
-    let length = input.length;
-    print_table(rt, &text[..length])
+    let length = read_input(rt, place, &mut text)?;
+    Ok(print_table(rt, &text[..length]))
 }
 
-// Reads the spread and the text, and prints the least total alone, or the answer.
-fn run_spread(rt: &HostRuntime, place: usize, alone: bool) -> u32
+// Reads the spread and the text, and prints the least total.
+fn run_total(rt: &HostRuntime, place: usize) -> Result<Status, Said>
     requires { place ≤ 3 }
-    ensures { result ≤ 2 }
 {
-    let number = number_argument(rt, place + 1);
-    if !number.good {
-        return FAILED;
-    }
+    let spread = number_argument(rt, place + 1)?;
     let mut text = [0u8; TEXT_BYTES];
-    let input = read_input(rt, place, &mut text);
-    if !input.good {
-        return FAILED;
-    }
-    let length = input.length;
-    if alone {
-        return print_total(rt, &text[..length], number.value);
-    }
-    print_spread(rt, &text[..length], number.value)
+    let length = read_input(rt, place, &mut text)?;
+    Ok(print_total(rt, &text[..length], spread))
 }
 
-// Reads the spread, a channel or a total, and the text, and prints the channel's page, or the placement for the total.
-fn run_placed(rt: &HostRuntime, place: usize, page: bool) -> u32
+// Reads the spread, a total and the text, and prints the placement for the total.
+fn run_place(rt: &HostRuntime, place: usize) -> Result<Status, Said>
     requires { place ≤ 3 }
-    ensures { result ≤ 2 }
 {
-    let spread = number_argument(rt, place + 1);
-    if !spread.good {
-        return FAILED;
-    }
-    let second = number_argument(rt, place + 2);
-    if !second.good {
-        return FAILED;
-    }
+    let spread = number_argument(rt, place + 1)?;
+    let total = number_argument(rt, place + 2)?;
     let mut text = [0u8; TEXT_BYTES];
-    let input = read_input(rt, place, &mut text);
-    if !input.good {
-        return FAILED;
-    }
-    let length = input.length;
-    if page {
-        return print_page(rt, &text[..length], spread.value, second.value);
-    }
-    print_place(rt, &text[..length], spread.value, second.value)
+    let length = read_input(rt, place, &mut text)?;
+    Ok(print_place(rt, &text[..length], spread, total))
 }
 
-// Moves the bytes from a place on to the front; how many they are.
-fn shift(text: &mut [u8], from: usize, end: usize) -> usize
-    requires { (from ≤ end) × (end ≤ length text.old) }
-    ensures { (result ≤ length text.new) × (length text.new ≡ length text.old) }
+// Reads the spread and the text, and prints the answer.
+fn run_spread(rt: &HostRuntime, place: usize) -> Result<Status, Said>
+    requires { place ≤ 3 }
 {
-    for i in from..end {
-        text[i - from] = text[i];
-    }
-    end - from
+    let spread = number_argument(rt, place + 1)?;
+    let mut text = [0u8; TEXT_BYTES];
+    let length = read_input(rt, place, &mut text)?;
+    Ok(print_spread(rt, &text[..length], spread))
 }
 
-// The next line of the input: where it is among so many bytes, and whether it is ended, which fails at the end of the input and for a line that is too long.
-#[derive(Clone, Copy)]
-struct NextLine {
-    good: bool,
-    at: usize,
-    end: usize,
-    ended: bool,
-    length: usize,
+// Reads the spread, a channel and the text, and prints the channel's page.
+fn run_page(rt: &HostRuntime, place: usize) -> Result<Status, Said>
+    requires { place ≤ 3 }
+{
+    let spread = number_argument(rt, place + 1)?;
+    let channel = number_argument(rt, place + 2)?;
+    let mut text = [0u8; TEXT_BYTES];
+    let length = read_input(rt, place, &mut text)?;
+    Ok(print_page(rt, &text[..length], spread, channel))
 }
 
-// The line that begins at a place, of which more is read where it is not whole; where that fails, it says why.
+// The line that begins at a place, of which more is read where it is not whole: then it is moved to the front.
 fn next_line<S: Read>(
     rt: &HostRuntime,
     source: &mut S,
@@ -573,210 +494,157 @@ fn next_line<S: Read>(
     text: &mut [u8],
     at: usize,
     filled: usize,
-) -> NextLine
+) -> Result<NextLine, Said>
     requires { (at ≤ filled) × (filled ≤ length text.old) }
-    ensures { IsNextLine (length text.old) result × (length text.new ≡ length text.old) }
+    ensures next { IfOk result (λ line. IsNextLine (length text.old) line) }
+    ensures same_length { length text.new ≡ length text.old }
 {
     let found = line_in(text, at, filled);
     if found.ended {
-        return NextLine {
-            good: true,
-            at,
-            end: found.end,
-            ended: true,
-            length: filled,
-        };
+        return Ok(found);
     }
-    let kept = shift(text, at, filled);
-    let input = read_on(rt, source, name, text, kept, true);
-    let there = input.length;
-    let line = line_in(text, 0, there);
-    NextLine {
-        good: input.good,
-        at: 0,
-        end: line.end,
-        ended: line.ended,
-        length: there,
-    }
+    text.copy_within(at..filled, 0);
+    let length = read_line(rt, source, name, text, filled - at)?;
+    Ok(line_in(text, 0, length))
 }
 
 // Says that a line of the input is no step.
-fn say_no_step(rt: &HostRuntime, n: u32) -> u32
-    ensures { result ≡ 2 }
+fn say_no_step(rt: &HostRuntime, n: u32) -> Status
+    ensures { status_number result ≡ 2 }
 {
-    let mut room = [0u8; COMPLAINT_BYTES];
-    let at = no_step_before(&mut room, n);
-    say(rt, &room[at..]);
-    FAILED
+    say(rt, no_step(n).as_slice());
+    Status::Failed
 }
 
 // What a step has come to: the row of the session in one spread, or a refusal.
-fn print_step(rt: &HostRuntime, replay: Replay, spread: u32) -> u32
-    requires { Made (held_of replay.session) }
-    ensures { PassedOn (status_of (or_else (refusal_of replay.outcome) (session_refusal (held_of replay.session) spread))) result }
+fn print_step(rt: &HostRuntime, replay: &Replay, spread: u32) -> Status
+    requires { Made (held_of replay.now.session) }
+    ensures { PassedOn (status_of (or_else (refusal_of replay.now.outcome) (session_refusal (held_of replay.now.session) spread))) (status_number result) }
 {
-    let outcome = replay.outcome;
-    let session = replay.session;
-    let mut output = [0u8; TABLE_BYTES];
-    let reply = put_step(outcome, session, spread, &mut output);
-    let length = reply.length;
-    let told = reply.outcome;
-    print(rt, &output[..length], reply.status, told)
+    let mut output = [0; TABLE_BYTES];
+    let reply = put_step(replay.outcome, &replay.session, spread, &mut output);
+    print_reply(rt, &output, reply)
 }
 
-// A session behind a line, the status of that line, and whether its output could be written.
+// A session behind a line, and the status of that line.
 #[derive(Clone, Copy)]
 struct LineRun {
     replay: Replay,
-    status: u32,
-    written: bool,
+    status: Status,
 }
 
-// Line n: prints the row behind a step, and says where there is none.
-fn run_line(rt: &HostRuntime, replay: Replay, n: u32, bytes: &[u8], spread: u32) -> LineRun
+// Line n: prints the row behind a step, and says where there is none. It fails where the output cannot be written.
+fn run_line(
+    rt: &HostRuntime,
+    replay: Replay,
+    n: u32,
+    bytes: &[u8],
+    spread: u32,
+) -> Result<LineRun, Said>
     requires { (length bytes.now ≤ 8192) × Made (held_of replay.session) }
-    ensures { Made (held_of result.replay.session) × (result.status ≤ 2) }
+    ensures { IfOk result (λ run. Made (held_of run.replay.session)) }
 {
-    let next = replay.take_line(n, bytes, true);
-    let line = next.line;
-    if is_no_step(line) {
-        let status = say_no_step(rt, n);
-        return LineRun {
-            replay: next,
-            status,
-            written: true,
-        };
-    }
-    if awaits(line) {
-        return LineRun {
-            replay: next,
-            status: ANSWERED,
-            written: true,
-        };
-    }
-    let status = print_step(rt, next, spread);
-    LineRun {
+    let next = replay.take_line(n, Line { bytes, ended: true });
+    let status = if next.line.is_none() {
+        say_no_step(rt, n)
+    } else if awaits(next.line) {
+        Status::Answered
+    } else {
+        let printed = print_step(rt, &next, spread);
+        if printed == Status::Failed {
+            return Err(Said);
+        }
+        printed
+    };
+    Ok(LineRun {
         replay: next,
         status,
-        written: status != FAILED,
-    }
+    })
 }
 
 // The end of the input at line n, of which so many bytes are there: what is begun of a line or of a step is no step.
-fn run_end(rt: &HostRuntime, replay: Replay, n: u32, bytes: usize, status: u32) -> u32
-    requires { status ≤ 2 }
-    ensures { result ≤ 2 }
-{
-    let line = replay.line;
-    if awaits(line) {
-        return say_no_step(rt, n);
-    }
-    if 0 < bytes {
+fn run_end(rt: &HostRuntime, replay: &Replay, n: u32, bytes: usize, status: Status) -> Status {
+    if awaits(replay.line) || 0 < bytes {
         return say_no_step(rt, n);
     }
     status
 }
 
-// The greater of two statuses.
-fn worse(a: u32, b: u32) -> u32
-    requires { (a ≤ 2) × (b ≤ 2) }
-    ensures { result ≤ 2 }
-{
-    if a < b {
-        return b;
-    }
-    a
-}
-
-// The lines are numbered, so there are fewer than this.
-const MAX_LINES: u32 = 4294967295;
-
-// Reads steps line by line to the end of the input, and prints what each has come to in one spread.
-fn run_steps<S: Read>(rt: &HostRuntime, source: &mut S, name: &[u8], spread: u32) -> u32
-    ensures { result ≤ 2 }
-{
+// Reads steps line by line to the end of the input, and prints what each has come to in one spread. Lines are numbered up to the greatest u32.
+fn run_steps<S: Read>(
+    rt: &HostRuntime,
+    source: &mut S,
+    name: &[u8],
+    spread: u32,
+) -> Result<Status, Said> {
     let mut text = [0u8; TEXT_BYTES];
     let mut replay = Replay::start();
     let mut at = 0;
     let mut length = 0;
-    let mut status = ANSWERED;
-    let mut n: u32 = 1;
-    while n < MAX_LINES {
-        let line = next_line(rt, source, name, &mut text, at, length);
-        if !line.good {
-            return FAILED;
-        }
+    let mut status = Status::Answered;
+    for n in 1..u32::MAX {
+        let line = next_line(rt, source, name, &mut text, at, length)?;
         if !line.ended {
-            return run_end(rt, replay, n, line.length, status);
+            return Ok(run_end(rt, &replay, n, line.length, status));
         }
-        let from = line.at;
-        let end = line.end;
-        let run = run_line(rt, replay, n, &text[from..end], spread);
-        if !run.written {
-            return FAILED;
-        }
+        let run = run_line(rt, replay, n, &text[line.at..line.end], spread)?;
         replay = run.replay;
-        status = worse(status, run.status);
-        at = end + 1;
+        status = status.max(run.status);
+        at = line.end + 1;
         length = line.length;
-        n += 1;
     }
-    say_no_step(rt, n)
+    Ok(say_no_step(rt, u32::MAX))
 }
 
 // Reads the steps in the file that the second argument names.
-fn run_file(rt: &HostRuntime, spread: u32) -> u32
-    ensures { result ≤ 2 }
-{
+fn run_file(rt: &HostRuntime, spread: u32) -> Result<Status, Said> {
     let mut path = [0u8; ARGUMENT_BYTES];
-    let opened = open_file(rt, &mut path);
-    let n = opened.name;
-    match opened.file {
-        Some(mut file) => run_steps(rt, &mut file, &path[..n], spread),
-        None => FAILED,
-    }
+    let (mut file, n) = open_file(rt, &mut path)?;
+    run_steps(rt, &mut file, &path[..n], spread)
 }
 
 // Reads the spread and the steps.
-fn run_session(rt: &HostRuntime, place: usize) -> u32
+fn run_session(rt: &HostRuntime, place: usize) -> Result<Status, Said>
     requires { place ≤ 3 }
-    ensures { result ≤ 2 }
 {
-    let number = number_argument(rt, place + 1);
-    if !number.good {
-        return FAILED;
-    }
+    let spread = number_argument(rt, place + 1)?;
     if place == BEHIND_FILE {
-        return run_file(rt, number.value);
+        return run_file(rt, spread);
     }
-    run_steps(rt, &mut rt.stdin(), b"standard input", number.value)
+    run_steps(rt, &mut rt.stdin(), b"standard input", spread)
 }
 
 // Reads the numbers and the text, and prints the verdict.
-fn run_trial(rt: &HostRuntime, place: usize, end: usize) -> u32
-    requires { place < end }
-    ensures { result ≤ 2 }
+fn run_trial(rt: &HostRuntime, place: usize, end: usize) -> Result<Status, Said>
+    requires { place ≤ 3 }
 {
     let first = place + 1;
-    let numbers = read_numbers(rt, first, end);
-    if !numbers.good {
-        return FAILED;
-    }
+    let numbers = read_numbers(rt, first, end)?;
     let mut text = [0u8; TEXT_BYTES];
-    let input = read_input(rt, place, &mut text);
-    if !input.good {
-        return FAILED;
+    let length = read_input(rt, place, &mut text)?;
+    Ok(print_trial(rt, &text[..length], end.saturating_sub(first), &numbers))
+}
+
+// Runs a command whose arguments are behind a place.
+fn run_command(rt: &HostRuntime, command: Command, place: usize, end: usize) -> Result<Status, Said>
+    requires { place ≤ 3 }
+{
+    match command {
+        Command::Table => run_table(rt, place),
+        Command::Total => run_total(rt, place),
+        Command::Place => run_place(rt, place),
+        Command::Spread => run_spread(rt, place),
+        Command::Page => run_page(rt, place),
+        Command::Trial => run_trial(rt, place, end),
+        Command::Session => run_session(rt, place),
+        Command::Help => Ok(print_help(rt)),
+        Command::Version => Ok(print_version(rt)),
     }
-    let length = input.length;
-    let values = numbers.values;
-    print_trial(rt, &text[..length], end - first, values)
 }
 
 // Runs the program on its arguments, and answers its exit status: 0 where an answer was printed, 1 where a refusal was, 2 where arguments are wrong or reading or
 // writing fails.
-pub fn run(rt: &HostRuntime) -> u32
-    ensures { result ≤ 2 }
-{
+pub fn run(rt: &HostRuntime) -> Status {
     let place = command_place(rt);
     let end = argument_count(rt);
     if end < place {
@@ -785,15 +653,7 @@ pub fn run(rt: &HostRuntime) -> u32
     let mut word = [0u8; ARGUMENT_BYTES];
     let n = argument(rt, place, &mut word);
     match read_command(&word[..n], end - place) {
-        Command::Table => run_table(rt, place),
-        Command::Total => run_spread(rt, place, true),
-        Command::Place => run_placed(rt, place, false),
-        Command::Spread => run_spread(rt, place, false),
-        Command::Page => run_placed(rt, place, true),
-        Command::Trial => run_trial(rt, place, end),
-        Command::Session => run_session(rt, place),
-        Command::Help => print_help(rt),
-        Command::Version => print_version(rt),
-        Command::Wrong => print_wrong(rt, b"wrong arguments"),
+        Some(command) => run_command(rt, command, place, end).unwrap_or(Status::Failed),
+        None => print_wrong(rt, b"wrong arguments"),
     }
 }

@@ -1,39 +1,20 @@
 -- The loops over the lines of a kind: start, step, refusal and end, whatever the kind. What is refused of all the lines is what is refused from the present line
--- on. Then what a stage hands on to the next. Assumes nothing.
+-- on. Assumes nothing.
 use mathlib.Core.Path.{◌≡◌, sym, ◌∙◌}
-use mathlib.Core.Bool.{true, false}
 use mathlib.Core.List.{List}
 use Prim.Native.Nat.{ℕ, suc, ◌+◌, ◌-◌, ◌≤◌, ◌<◌}
 use native.Mathlib.Nat.{add-zero, sub-zero}
 use native.Mathlib.Numerals.{add-one}
 use native.Mathlib.Omega.{arith}
+use Rattle.std.specs.Prelude.{Ok, Err, ⊤}
 use Rattle.numbers.specs.Lists.{tabulate}
 use Rattle.stack.specs.Stack.{Stack}
-use Rattle.text.specs.Text.{Refusal, refusal, fine, or_else, Check, in_turn}
-use Rattle.text.specs.Outcome.{is_accepted}
+use Rattle.text.specs.Text.{or_else, Check, in_turn}
 use Rattle.text.specs.Kinds.{line_refusal}
+use Rattle.text.specs.declared.Refused.{Refused}
 use Rattle.reading.specs.Driver.{Going, ReadTo, ReadingLines}
 use Rattle.reading.specs.declared.Progress.{Progress}
-use Rattle.text.proofs.Refusals.{or_else_refused, or_else_next, refused_number, accepted_fine}
-
--- A STAGE hands on what is refused, and else adds what it refuses itself
-module _ (bs : List ℕ) (f : Refusal) (i : ℕ) (k : Stack) (p : Progress) (t : ReadTo bs f i k p) where
-  pub stays_refused : (g : Refusal) (j : ℕ) (l : Stack) → is_accepted p.outcome ≡ false → ReadTo bs (or_else f g) j l p
-  stays_refused g j l a =
-      let none = refused_number p.outcome a in
-      let says = or_else_refused f g (rw t.outcome at none) in
-      record { outcome = t.outcome ∙ sym says; going = λ z. absurd (none (rw (t.outcome, ← says) z)) }
-
-  module _ (a : is_accepted p.outcome ≡ true) where
-    nothing_refused : f ≡ fine
-    nothing_refused = sym t.outcome ∙ accepted_fine p.outcome a
-
-    pub goes_on : Going bs i k p
-    unfolding fine refusal
-    goes_on = t.going (rw nothing_refused)
-
-    pub then_read : (g : Refusal) (j : ℕ) (l : Stack) (r : Progress) → ReadTo bs g j l r → ReadTo bs (or_else f g) j l r
-    then_read g j l r u = rw (or_else_next f g nothing_refused) u
+use Rattle.text.proofs.Refusals.{or_else_refused, or_else_next, word_not_fine}
 
 -- THE LINES OF A KIND
 module _ (bs : List ℕ) (kind : ℕ → Check) (i n : ℕ) where
@@ -48,23 +29,24 @@ module _ (bs : List ℕ) (kind : ℕ → Check) (i n : ℕ) where
         let e : n - j ≡ suc (n - (j + 1)) = omega arith in
         m.rest ∙ rw (e, add-one j)
 
-    module _ (less : j < n) (l : Stack) (r : Progress) (t : ReadTo bs (line_refusal (kind j)) (suc (i + j)) l r) where
-      pub lines_step : is_accepted r.outcome ≡ true → ReadingLines bs kind i n (j + 1) l r
-      lines_step a =
+    module _ {A : Type 0} (less : j < n) (l : Stack) (q : Progress) where
+      pub lines_step : (x : A) → ReadTo bs (line_refusal (kind j)) (suc (i + j)) l (Ok x) q → ReadingLines bs kind i n (j + 1) l q
+      lines_step x t =
           let next : i + (j + 1) ≡ suc (i + j) = omega arith in
-          let none : line_refusal (kind j) ≡ fine = sym t.outcome ∙ accepted_fine r.outcome a in
           record {
             below = omega arith;
-            going = rw next (goes_on bs (line_refusal (kind j)) (suc (i + j)) l r t a);
-            rest = from_line less ∙ or_else_next (line_refusal (kind j)) _ none;
+            going = rw next t.going;
+            rest = from_line less ∙ or_else_next (line_refusal (kind j)) _ (sym t.outcome);
           }
 
-      pub lines_refuse : (h : ℕ) (q : Stack) → is_accepted r.outcome ≡ false → ReadTo bs (in_turn (tabulate n 0 kind)) h q r
-      lines_refuse h q a = rw (from_line less) (stays_refused bs (line_refusal (kind j)) (suc (i + j)) l r t _ h q a)
+      pub lines_refuse : (x : Refused) → ReadTo {A = A} bs (line_refusal (kind j)) (suc (i + j)) l (Err x) q → (h : ℕ) (s : Stack) → ReadTo {A = ⊤} bs (in_turn (tabulate n 0 kind)) h s (Err x) q
+      lines_refuse x t h s =
+          let none = or_else_refused (line_refusal (kind j)) (in_turn (tabulate (n - (j + 1)) (j + 1) kind)) (rw t.outcome at (word_not_fine x)) in
+          record { outcome = t.outcome ∙ sym (from_line less ∙ none); going = tt }
 
-    pub lines_end : n ≤ j → ReadTo bs (in_turn (tabulate n 0 kind)) (i + n) k p
+    pub lines_end : n ≤ j → ReadTo bs (in_turn (tabulate n 0 kind)) (i + n) k (Ok (tt {0})) p
     unfolding in_turn tabulate
     lines_end past =
         let e : j ≡ n = omega (arith, m.below) in
         let none : n - n ≡ 0 = omega arith in
-        record { outcome = m.going.accepted ∙ sym (m.rest ∙ rw (e, none)); going = λ z. rw e at m.going }
+        record { outcome = sym (m.rest ∙ rw (e, none)); going = rw e at m.going }

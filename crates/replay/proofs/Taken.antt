@@ -1,15 +1,19 @@
 -- A line taken: the struct that each kind of line makes stands for the state that the line tells. Assumes nothing.
-use mathlib.Core.Path.{◌≡◌, ◌∙◌}
+use mathlib.Core.Path.{◌≡◌, ap, sym, ◌∙◌}
+use mathlib.Core.Logic.{◌⊎◌, inl, inr}
+use mathlib.Core.Bool.{Bool, true, false, cond}
 use mathlib.Core.List.{List}
 use Prim.Native.Nat.{ℕ}
+use lib.ListN.{length}
+use Rattle.std.specs.Prelude.{Ok, Option, None, Some}
 use Rattle.lines.specs.Lines.{Line, numbers_of}
 use Rattle.lines.proofs.Fields.{getD_in_places}
-use Rattle.text.specs.Text.{fine}
 use Rattle.text.specs.Outcome.{refusal_of}
+use Rattle.steps.specs.Steps.{step_line}
 use Rattle.steps.specs.Parts.{IsStepLineRead}
+use Rattle.steps.proofs.Answers.{word_kept}
 use Rattle.steps.specs.declared.StepLine.{StepLine}
-use Rattle.steps.specs.declared.StepLine.TheVariants.{Add}
-use Rattle.steps.specs.declared.StepLineRead.{StepLineRead}
+use Rattle.steps.specs.declared.StepLine.TheVariants.{BeginPart, AddPart, AddNets, Begin, Add, Off}
 use Rattle.session.specs.Session.{Step}
 use Rattle.session.specs.Value.{held_of, Stepped, Given}
 use Rattle.session.specs.declared.SessionStep.{SessionStep}
@@ -17,25 +21,46 @@ use Rattle.replay.specs.Replay.{state, stepped, told, line_taken}
 use Rattle.replay.specs.Value.{state_of}
 use Rattle.replay.specs.declared.Replay.{Replay}
 
-module _ (n : ℕ) (r : Replay) (l : Line) (read : StepLineRead) (vs : List ℕ) (m : IsStepLineRead r.line l read vs)
-    (x : StepLine) (e : read.line ≡ x) (a : Replay) where
+module _ (n : ℕ) (r : Replay) (l : Line) (read : Option StepLine) (vs : List ℕ) (m : IsStepLineRead r.line l read vs)
+    (x : Option StepLine) (e : read ≡ x) (a : Replay) where
   -- a line of any kind
   pub as_told : state_of a ≡ told n (held_of r.session) x (numbers_of l) → state_of a ≡ line_taken n (state_of r) l
   unfolding line_taken state_of state
-  as_told s = rw (← m.line_is, e) s
-
-  -- a line behind which another is awaited
-  pub awaiting_told : told n (held_of r.session) x (numbers_of l) ≡ state (held_of r.session) fine x → state_of a ≡ state (held_of r.session) fine read.line →
-      state_of a ≡ line_taken n (state_of r) l
-  awaiting_told t s = as_told (s ∙ rw (e, t))
+  as_told s = s ∙ rw (← m.line_is, e)
 
   -- a line that makes a step whole
-  pub step_told : (b : Step) (p : SessionStep) → told n (held_of r.session) x (numbers_of l) ≡ stepped (held_of r.session) b x → Stepped (held_of r.session) b p →
-      state_of a ≡ state (held_of p.session) (refusal_of p.outcome) x → state_of a ≡ line_taken n (state_of r) l
+  pub step_told : (b : Step) (y : StepLine) (p : SessionStep) → told n (held_of r.session) x (numbers_of l) ≡ stepped (held_of r.session) b y →
+      Stepped (held_of r.session) b p → state_of a ≡ state (held_of p.session) (refusal_of p.outcome) (Some y) → state_of a ≡ line_taken n (state_of r) l
   unfolding stepped
-  step_told b p t g s = as_told (s ∙ rw (t, g.session, g.outcome))
+  step_told b y p t g s = as_told (s ∙ rw (t, g.session, g.outcome))
+
+-- a line behind which another is awaited
+module _ (n : ℕ) (r : Replay) (l : Line) (read : Option StepLine) (vs : List ℕ) (m : IsStepLineRead r.line l read vs) (y : StepLine) (e : read ≡ Some y) where
+  abbrev left_as_it_was : StepLine → Replay
+  left_as_it_was x = record { session = r.session; outcome = Ok tt; line = Some x }
+
+  pub awaiting_told : (y ≡ BeginPart) ⊎ ((y ≡ AddPart) ⊎ ((x : ℕ) × (y ≡ AddNets x))) → state_of (left_as_it_was y) ≡ line_taken n (state_of r) l
+  unfolding told state_of
+  awaiting_told (inl h) = as_told n r l read vs m (Some BeginPart) (e ∙ ap Some h) (left_as_it_was y) (rw h)
+  awaiting_told (inr (inl h)) = as_told n r l read vs m (Some AddPart) (e ∙ ap Some h) (left_as_it_was y) (rw h)
+  awaiting_told (inr (inr (x, h))) = as_told n r l read vs m (Some (AddNets x)) (e ∙ ap Some h) (left_as_it_was y) (rw h)
 
 -- the terminals of ADD, as they stand in places
-pub terminals_given : (before : StepLine) (l : Line) (read : StepLineRead) (vs : List ℕ) (n : ℕ) → IsStepLineRead before l read vs → read.line ≡ Add n →
-    Given (numbers_of l) vs read.count
-terminals_given before l read vs n m e = record { count_is = m.count n e; in_place = λ i h k. rw (m.kept n e) (getD_in_places 64 i (numbers_of l) h) }
+word_or : (v : Bool) (x : StepLine) (n c : ℕ) (m : ℕ) → cond v (Some x) None ≡ Some (Add n c) → (x ≡ Add n c → c ≡ m) → c ≡ m
+word_or true x n c m e f = f cc
+word_or false x n c m e f = cc
+
+add_counted : (before : Option StepLine) (l : Line) (n c : ℕ) → step_line before l ≡ Some (Add n c) → c ≡ length (numbers_of l)
+unfolding step_line
+add_counted None l n c e = absurd (word_kept l n c e)
+add_counted (Some BeginPart) l n c e = word_or _ _ n c _ e (λ h. cc)
+add_counted (Some AddPart) l n c e = word_or _ _ n c _ e (λ h. cc)
+add_counted (Some (AddNets k)) l n c e = word_or _ _ n c _ e (λ h. cc)
+add_counted (Some (Begin k)) l n c e = absurd (word_kept l n c e)
+add_counted (Some (Add k d)) l n c e = absurd (word_kept l n c e)
+add_counted (Some Off) l n c e = absurd (word_kept l n c e)
+
+pub terminals_given : (before : Option StepLine) (l : Line) (read : Option StepLine) (vs : List ℕ) (n c : ℕ) → IsStepLineRead before l read vs →
+    read ≡ Some (Add n c) → Given (numbers_of l) vs c
+terminals_given before l read vs n c m e =
+    record { count_is = add_counted before l n c (sym m.line_is ∙ e); in_place = λ i h k. rw (m.kept n c e) (getD_in_places 64 i (numbers_of l) h) }

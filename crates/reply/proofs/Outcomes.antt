@@ -1,33 +1,25 @@
 -- The refusals of a spread and of a channel in their order, and what may be asked where there is none. Assumes nothing.
-use mathlib.Core.Path.{◌≡◌, sym, ◌∙◌}
-use mathlib.Core.Bool.{true, false, ◌&&◌}
+use mathlib.Core.Path.{◌≡◌, refl}
+use mathlib.Core.Bool.{Bool, true, false, ◌&&◌, cond}
 use Prim.Native.Nat.{ℕ, ◌≤◌, ◌<◌}
-use native.Mathlib.Omega.{arith}
 use lib.Dec.{leb, ltb}
 use lib.ListN.{length}
 use borrow.Author.Tests.{le-leb, lt-leb, lt-ltb, le-ltb, leb-true, ltb-false}
 use Rattle.numbers.proofs.Bools.{and_left, and_right}
 use Rattle.stack.specs.Stack.{Stack, first_spread}
-use Rattle.text.specs.Text.{refusal, fine, or_else}
-use Rattle.text.specs.Outcome.{refusal_of, is_accepted, refused}
-use Rattle.text.specs.declared.Outcome.{Outcome}
-use Rattle.text.specs.declared.Refusal.TheVariants.{Narrow}
-use Rattle.text.proofs.Refusals.{or_else_fine, or_else_refused, or_else_next, when_fine, only_fine, refused_number, accepted_fine}
+use Rattle.text.specs.Text.{Refusal, refusal, fine, or_else}
+use Rattle.text.proofs.Refusals.{or_else_fine, or_else_then, when_fine, only_fine}
 use Rattle.reply.specs.Refusals.{narrow_refusal, channel_refusal, broad_refusal, asked_refusal}
 
--- A SPREAD behind the outcome of a text
-module _ (o : Outcome) (k : Stack) (s : ℕ) where
-  pub outcome_first : is_accepted o ≡ false → refusal_of o ≡ or_else (refusal_of o) (narrow_refusal k s)
-  outcome_first h = sym (or_else_refused (refusal_of o) (narrow_refusal k s) (refused_number o h))
+-- A SPREAD
+module _ (k : Stack) (s : ℕ) where
+  pub narrow_told : s < first_spread k.strips → refusal 7 0 0 ≡ narrow_refusal k s
+  unfolding narrow_refusal
+  narrow_told h = rw (lt-ltb s (first_spread k.strips) h)
 
-  module _ (a : is_accepted o ≡ true) where
-    pub outcome_narrow : (u : Outcome) → s < first_spread k.strips → u ≡ refused Narrow 0 0 → refusal_of u ≡ or_else (refusal_of o) (narrow_refusal k s)
-    unfolding narrow_refusal
-    outcome_narrow u h e = rw e (sym (or_else_next (refusal_of o) (narrow_refusal k s) (accepted_fine o a) ∙ rw (lt-ltb s (first_spread k.strips) h)))
-
-    pub outcome_wide : first_spread k.strips ≤ s → refusal_of o ≡ or_else (refusal_of o) (narrow_refusal k s)
-    unfolding narrow_refusal
-    outcome_wide h = accepted_fine o a ∙ sym (or_else_next (refusal_of o) (narrow_refusal k s) (accepted_fine o a) ∙ rw (le-ltb s (first_spread k.strips) h))
+  pub wide_told : first_spread k.strips ≤ s → fine ≡ narrow_refusal k s
+  unfolding narrow_refusal
+  wide_told h = rw (le-ltb s (first_spread k.strips) h)
 
 -- WHAT MAY BE ASKED: a channel from 1 to k, and a spread from the first one to 63
 pub record Asked (k : Stack) (s n : ℕ) : Type 0 where
@@ -57,17 +49,26 @@ module _ (k : Stack) (s n : ℕ) where
 
   pub asked_past : length k.channels < n → refusal 3 0 0 ≡ asked_refusal k s n
   unfolding asked_refusal channel_refusal or_else refusal
-  asked_past h = rw (le-leb 1 n (omega arith), lt-leb n (length k.channels) h)
+  asked_past h = go (leb 1 n) refl
+    where
+      go : (v : Bool) → leb 1 n ≡ v → refusal 3 0 0 ≡ or_else (cond (v && leb n (length k.channels)) fine (refusal 3 0 0)) (or_else (narrow_refusal k s) (broad_refusal s))
+      go true e = rw (lt-leb n (length k.channels) h)
+      go false e = refl
 
   module _ (some : 1 ≤ n) (within : n ≤ length k.channels) where
-    pub asked_narrow : s < first_spread k.strips → refusal 7 0 0 ≡ asked_refusal k s n
-    unfolding asked_refusal channel_refusal narrow_refusal or_else refusal fine
-    asked_narrow h = rw (le-leb 1 n some, le-leb n (length k.channels) within, lt-ltb s (first_spread k.strips) h)
+    channel_there : fine ≡ channel_refusal k n
+    unfolding channel_refusal
+    channel_there = rw (le-leb 1 n some, le-leb n (length k.channels) within)
 
-    pub asked_broad : first_spread k.strips ≤ s → 63 < s → refusal 9 0 0 ≡ asked_refusal k s n
-    unfolding asked_refusal channel_refusal narrow_refusal broad_refusal or_else refusal fine
-    asked_broad h l = rw (le-leb 1 n some, le-leb n (length k.channels) within, le-ltb s (first_spread k.strips) h, lt-ltb 63 s l)
+    pub asked_next : (f : Refusal) → f ≡ or_else (narrow_refusal k s) (broad_refusal s) → f ≡ asked_refusal k s n
+    unfolding asked_refusal
+    asked_next f e = or_else_then (channel_refusal k n) (or_else (narrow_refusal k s) (broad_refusal s)) f channel_there e
 
-    pub asked_all : first_spread k.strips ≤ s → s ≤ 63 → fine ≡ asked_refusal k s n
-    unfolding asked_refusal channel_refusal narrow_refusal broad_refusal or_else refusal fine
-    asked_all h l = rw (le-leb 1 n some, le-leb n (length k.channels) within, le-ltb s (first_spread k.strips) h, le-ltb 63 s l)
+    module _ (wide : fine ≡ narrow_refusal k s) where
+      pub asked_broad : 63 < s → refusal 9 0 0 ≡ asked_refusal k s n
+      unfolding broad_refusal
+      asked_broad l = asked_next _ (or_else_then (narrow_refusal k s) (broad_refusal s) _ wide (rw (lt-ltb 63 s l)))
+
+      pub asked_all : s ≤ 63 → fine ≡ asked_refusal k s n
+      unfolding broad_refusal
+      asked_all l = asked_next _ (or_else_then (narrow_refusal k s) (broad_refusal s) _ wide (rw (le-ltb 63 s l)))

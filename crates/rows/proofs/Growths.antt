@@ -13,7 +13,8 @@ use Rattle.stack.specs.Limits.{within_limits}
 use Rattle.stack.specs.Value.{strip_at, stack_of}
 use Rattle.stack.specs.declared.Stack.{Stack as StackStruct}
 use Rattle.stack.proofs.Within.{stack_strip, strips_count}
-use Rattle.arrays.specs.Arrays.{bias, entry, Given, window_of, taken}
+use Rattle.arrays.specs.Arrays.{bias, entry, window_of, taken}
+use Rattle.arrays.specs.declared.Given.{Given}
 use Rattle.answer.specs.Solve.{window_span, window_growth, growth}
 use Rattle.answer.specs.Arrays.{strip_in, WindowsIn, BelowGrowths}
 use Rattle.answer.proofs.Standing.{next_place}

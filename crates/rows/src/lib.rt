@@ -5,67 +5,63 @@ ghost use Rattle.std.specs.Prelude.{◌≡◌, true, suc, length};
 ghost use Rattle.stack.specs.Sizes.{strips_held};
 ghost use Rattle.stack.specs.Limits.{within_limits};
 ghost use Rattle.stack.specs.Value.{stack_of};
-ghost use Rattle.answer.specs.Arrays.{AnswerIs};
+ghost use Rattle.answer.specs.Arrays.{with_windows, AnswerIs};
 ghost use Rattle.rows.specs.Growths.{GrowthsIn};
 ghost use Rattle.rows.specs.Evaluate.{EvaluateAsks, Evaluated, PlaceRowAsks};
 
 use answer::{fill_windows, growing_end};
-use arrays::{Plan, SpanTable, StackLimits, WindowGrowths, Windows};
+use arrays::{Given, SpanTable, WindowGrowths};
 use growth::growth_jump;
 use scan::{Scan, scan_totals};
 use solver::{Placement, place_in};
 use stack::Stack;
 
 // The growing ends of the strips' windows in a spread.
-fn fill_growths(stack: Stack, spread: u32, growths: &mut WindowGrowths)
-    requires { (within_limits (stack_of stack) ≡ true) × (length growths.old ≡ strips_held) }
-    ensures { GrowthsIn (stack_of stack) (suc stack.count) spread growths.new }
+#[tactic(auto, using(stack::proofs::Within::few_channels))]
+fn fill_growths(stack: &Stack, spread: u32, growths: &mut WindowGrowths)
+    requires { within_limits (stack_of stack.now) ≡ true }
+    ensures { GrowthsIn (stack_of stack.now) (suc stack.now.count) spread growths.new }
 {
     let strips = stack.count + 1;
     for i in 0..strips {
-        let end = growing_end(stack.strips[i], spread);
-        growths[i] = end;
+        growths[i] = growing_end(&stack.strips[i], spread);
     }
 }
 
 // The windows of a spread, and the first total up to cap that can be had in it. Where every window's end grows with the spread the scan's own jump is right.
 pub fn evaluate(
-    stack: Stack,
+    stack: &Stack,
     spread: u32,
     cap: usize,
-    limits: &StackLimits,
-    plan: &Plan,
-    windows: &mut Windows,
+    given: &mut Given,
     table: &mut SpanTable,
 ) -> Scan
-    requires { EvaluateAsks stack spread cap limits.now plan.now windows.old table.old }
-    ensures { Evaluated stack spread cap limits.now plan.now windows.new table.new result }
+    requires { EvaluateAsks stack.now spread cap given.old table.old }
+    ensures kept { given.new ≡ with_windows given.old given.new.windows }
+    ensures evaluated { Evaluated stack.now spread cap given.new table.new result }
 {
-    let k = stack.count;
-    let least = fill_windows(stack, spread, windows);
-    let scan = scan_totals(limits, plan, windows, k, cap, table);
+    let least = fill_windows(stack, spread, &mut given.windows);
+    let scan = scan_totals(given, cap, table);
     if 0 < least {
         return scan;
     }
     let mut growths = [0u64; Stack::STRIPS];
     fill_growths(stack, spread, &mut growths);
     let total = scan.total;
-    let jump = growth_jump(limits, plan, windows, &growths, k, total, table);
+    let jump = growth_jump(given, &growths, total, table);
     Scan { total, jump }
 }
 
 // The answer for a spread whose total was found.
 pub fn place_row(
-    stack: Stack,
+    stack: &Stack,
     spread: u32,
     scan: Scan,
-    limits: &StackLimits,
-    plan: &Plan,
-    windows: &Windows,
+    given: &Given,
     table: &SpanTable,
 ) -> Placement
-    requires { PlaceRowAsks stack spread limits.now plan.now windows.now table.now scan }
-    ensures { AnswerIs (stack_of stack) spread result }
+    requires { PlaceRowAsks stack.now spread given.now table.now scan }
+    ensures { AnswerIs (stack_of stack.now) spread result }
 {
-    place_in(limits, plan, windows, stack.count, scan.total, table)
+    place_in(given, scan.total, table)
 }

@@ -1,5 +1,4 @@
 -- The laws of the scan: cells, strips, totals.
 pub mod Tables
 pub mod Scanning
-pub mod Clearing
 pub mod Scans

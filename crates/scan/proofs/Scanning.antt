@@ -1,33 +1,24 @@
 -- The laws of the scan for the least total: of the loop over separations, of one cell, of the loop over strips and of the loop over totals. Assumes nothing.
 use mathlib.Core.Path.{◌≡◌, refl, sym, ap, ap₂, ◌∙◌}
 use mathlib.Core.Bool.{Bool, true, false}
-use mathlib.Core.Logic.{◌⊎◌, inl, inr}
 use mathlib.Core.List.{List}
 use Prim.Native.Nat.{ℕ, zero, suc, ◌+◌, ◌-◌, ◌*◌, ◌≤◌, ◌<◌, min, max}
 use native.Mathlib.Nat.{add-zero}
 use native.Mathlib.Numerals.{add-one}
 use native.Mathlib.Omega.{arith}
-use lib.Dec.{ltb}
-use borrow.Author.Tests.{lt-ltb, le-ltb}
-use Rattle.numbers.proofs.Orders.{lt_or_eq}
-use Rattle.spans.specs.Spans.{Span, span, nonempty}
+use borrow.Author.Tests.{le-ltb}
+use Rattle.spans.specs.Spans.{span, nonempty}
+use Rattle.spans.specs.declared.Span.{Span}
 use Rattle.spans.specs.Solver.{start, stop, cell}
 use Rattle.spans.specs.Jump.{min_if, max_if, nearest, furthest, between, shortfall, near_of, reach_of, cell_short}
-use Rattle.arrays.specs.Arrays.{bias, sides, low_in, high_in, span_at, span_in}
-use Rattle.scan.specs.Scan.{put_span, EndsAsk, EndsAre, EndsServe, Stretching, window_in, StripAsks, StripDone, none_in, EmptyOn}
+use Rattle.arrays.specs.Arrays.{bias, low_in, high_in, span_at, span_in, spans_of}
+use Rattle.arrays.specs.declared.ChannelLimits.{ChannelLimits}
+use Rattle.arrays.specs.declared.StripSpans.{StripSpans}
+use Rattle.scan.specs.Scan.{put_span, EndsAre, EndsServe, Stretching, StripAsks, StripDone, none_in}
 use Rattle.scan.specs.declared.Cell.{Cell}
 use Rattle.scan.specs.declared.Ends.{Ends}
 use Rattle.arrays.proofs.Searches.{one_left, none_left}
 use Rattle.spans.proofs.Jump.{cell_ends}
-
--- one span taken in, or left out
-module _ (b near reach from upto low high : ℕ) where
-  pub stretched : (x y : ℕ) → from < upto → x ≡ min near (from + 2 * b - high) → y ≡ max reach (upto + 2 * b - low) →
-      (x ≡ min_if (ltb from upto) (from + 2 * b - high) near) × (y ≡ max_if (ltb from upto) (upto + 2 * b - low) reach)
-  stretched x y h p q = rw (lt-ltb from upto h) (p, q)
-
-  pub not_stretched : upto ≤ from → (near ≡ min_if (ltb from upto) (from + 2 * b - high) near) × (reach ≡ max_if (ltb from upto) (upto + 2 * b - low) reach)
-  not_stretched h = rw (le-ltb from upto h) (refl, refl)
 
 -- a start that is not raised
 lowered : (b : ℕ) (v : Bool) (from high near x : ℕ) → x ≡ min_if v (from + 2 * b - high) near → x - b ≡ min_if v (from + b - high) (near - b)
@@ -36,9 +27,6 @@ lowered b false from high near x e = omega arith
 
 -- the loop over separations
 module _ (b : ℕ) (low high : ℕ → ℕ) (f : ℕ → Span) (stop q : ℕ) where
-  pub stretching_starts : (near reach : ℕ) → near ≤ b → Stretching b low high f stop q near reach (nearest b high f q (stop - q) near) (furthest b low f q (stop - q) reach)
-  stretching_starts near reach h = record { starts_left = refl; ends_left = refl; near_small = h }
-
   module _ (near reach n r : ℕ) (s : Stretching b low high f stop q near reach n r) where
     pub stretching_steps : (x y : ℕ) → q < stop → x ≡ min_if (nonempty (f q)) ((f q).from + b - high q) near → y ≡ max_if (nonempty (f q)) ((f q).upto + 2 * b - low q) reach →
         Stretching b low high f stop (q + 1) x y n r
@@ -142,20 +130,8 @@ covered b w near reach h k =
     let s : min (w.upto + b) reach ≡ w.upto + b = omega arith in
     (ap₂ span n r, ap₂ (λ (x y : ℕ). x + 1 + b - y) m s)
 
-pub ends_fewer : (limits spans : List (List ℕ)) (v start stop q : ℕ) → q + 1 ≡ stop → EndsAsk limits spans v start stop → EndsAsk limits spans v start q
-ends_fewer limits spans v start stop q e a =
-    record {
-      total = a.total;
-      listed = omega (arith, a.listed);
-      within = omega (arith, a.within);
-      lows_small = λ p h. a.lows_small p (omega arith);
-      highs_small = λ p h. a.highs_small p (omega arith);
-      starts = a.starts;
-      ends = a.ends;
-    }
-
 -- ends from the last separation q on
-module _ (limits spans : List (List ℕ)) (v start stop q : ℕ) (w : Span) (e : Ends) (last : q + 1 ≡ stop) (inside : start ≤ q)
+module _ (limits : ChannelLimits) (spans : StripSpans) (v start stop q : ℕ) (w : Span) (e : Ends) (last : q + 1 ≡ stop) (inside : start ≤ q)
     (n : e.near ≡ min_if (nonempty (span_at spans (v - q))) ((span_at spans (v - q)).from + 2 * bias - high_in limits q) (2 * bias))
     (r : e.reach ≡ max_if (nonempty (span_at spans (v - q))) ((span_at spans (v - q)).upto + 2 * bias - low_in limits q) 0) where
   abbrev f : ℕ → Span
@@ -215,7 +191,7 @@ left_of : (first v q : ℕ) → first ≤ q → q ≤ v → v - q + first ≤ v
 left_of first v q h k = omega arith
 
 -- THE SEPARATIONS TRIED: those left out leave totals whose spans in the strip above are empty
-module _ (limits : List (List ℕ)) (c : Cell) (t : List (List (List ℕ))) (first end : ℕ) (a : StripAsks limits c t)
+module _ (limits : ChannelLimits) (c : Cell) (t : List StripSpans) (first end : ℕ) (a : StripAsks limits c t)
     (d : first ≡ max c.least (c.v - c.above)) (e : end ≡ min (c.last + 1) (c.v + 1 - c.empty)) where
   s : first ≡ start c.least c.last c.above c.v
   s = omega (arith, a.of_use)
@@ -227,20 +203,7 @@ module _ (limits : List (List ℕ)) (c : Cell) (t : List (List (List ℕ))) (fir
   above_spans = span_in t (c.i + 1)
 
   abbrev w : Span
-  w = window_in c
-
-  -- what a cell asks of the loop over separations
-  pub strip_ends_ask : EndsAsk limits (sides t (c.i + 1)) c.v first end
-  strip_ends_ask =
-      record {
-        total = a.total;
-        listed = omega (arith, a.listed);
-        within = omega arith;
-        lows_small = λ q h. a.lows_small q (omega arith);
-        highs_small = λ q h. a.highs_small q (omega arith);
-        starts = λ u h. a.starts u (omega arith) (left_over u h);
-        ends = λ u h. a.ends u (omega arith) (left_over u h);
-      }
+  w = c.window
 
   pub left_empty : (q : ℕ) → first + (end - first) ≤ q → q < first + (stop c.last c.v - first) → nonempty (above_spans (c.v - q)) ≡ false
   left_empty q h k =
@@ -254,8 +217,8 @@ module _ (limits : List (List ℕ)) (c : Cell) (t : List (List (List ℕ))) (fir
   reach_tried = rw (← s) (furthest_cut bias (low_in limits) (λ q. above_spans (c.v - q)) first (end - first) (stop c.last c.v - first) 0 (rw e (tried_less c.last c.v c.empty first)) left_empty)
 
   -- one cell, from ends whose span and shortfall are those of the separations tried
-  pub strip_done : (r : Ends) (x y z : ℕ) → EndsServe limits (sides t (c.i + 1)) c.v first end w r →
-      x ≡ max c.from (min c.upto (r.near - bias)) → y ≡ min c.upto (r.reach - bias) → z ≡ max c.from (r.near - bias) + 1 + bias - min (c.upto + bias) r.reach →
+  pub strip_done : (r : Ends) (x y z : ℕ) → EndsServe limits (spans_of t (c.i + 1)) c.v first end w r →
+      x ≡ max c.window.from (min c.window.upto (r.near - bias)) → y ≡ min c.window.upto (r.reach - bias) → z ≡ max c.window.from (r.near - bias) + 1 + bias - min (c.window.upto + bias) r.reach →
       StripDone limits c t (put_span t c.i c.v (span x y)) z
   unfolding cell_short
   strip_done r x y z f p q g =
@@ -286,7 +249,7 @@ module _ (limits : List (List ℕ)) (c : Cell) (t : List (List (List ℕ))) (fir
         sym (x ∙ ap₂ (shortfall bias w) n r),
       )
 
-  pub strip_none : (x : ℕ) → end ≤ first → x ≡ max c.from c.upto → StripDone limits c t (put_span t c.i c.v (span x 0)) (2 * bias + 1)
+  pub strip_none : (x : ℕ) → end ≤ first → x ≡ max c.window.from c.window.upto → StripDone limits c t (put_span t c.i c.v (span x 0)) (2 * bias + 1)
   strip_none x h p =
       let b = cell_none h in
       record { put_is = ap (put_span t c.i c.v) (ap₂ span p refl ∙ sym b.0); short_is = sym b.1 }
@@ -312,14 +275,3 @@ unfolding cell_short
 short_empty low high least last above f w v l h =
     rw (cell_ends bias bias low high least last above f w v l)
     (short_between bias w (near_of bias bias high least last above f v) (reach_of bias low least last above f v) h)
-
--- the count of first totals with an empty span, after total v
-pub empty_same : (n v short : ℕ) → EmptyOn n v short n
-empty_same n v short = record { known = λ u h. inl h; at_most = λ h. omega arith }
-
-pub empty_more : (n v short : ℕ) → (short ≡ 0 → ⊥) → v ≤ n → EmptyOn n v short (v + 1)
-empty_more n v short s h = record { known = λ u l. go u (lt_or_eq u v (omega arith)); at_most = λ l. omega arith }
-  where
-    go : (u : ℕ) → (u < v) ⊎ (u ≡ v) → (u < n) ⊎ ((u ≡ v) × (0 < short))
-    go u (inl l) = inl (omega arith)
-    go u (inr e) = inr (e, omega (arith, s))

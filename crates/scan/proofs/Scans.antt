@@ -12,12 +12,15 @@ use lib.Seq.{get_or-set_same, get_or-set_other}
 use borrow.Author.Tests.{eqb-true, eqb-false}
 use Rattle.numbers.proofs.Orders.{lt_or_eq, eq_or_not, le_or_lt}
 use Rattle.stack.specs.Sizes.{strips_held, totals_held}
-use Rattle.spans.specs.Spans.{Span, nonempty}
+use Rattle.spans.specs.Spans.{nonempty}
+use Rattle.spans.specs.declared.Span.{Span}
 use Rattle.spans.specs.Solver.{opens, first_open, most, start, stop, cell, back, first_total}
 use Rattle.spans.specs.Jump.{nearest, furthest, shortfall, cell_short}
-use Rattle.arrays.specs.Arrays.{bias, entry, sides, leasts_in, sums_in, Given, low_of, high_of, last_of, window_of, levels, Sized, span_in, StackAsks, Filled}
+use Rattle.arrays.specs.Arrays.{bias, entry, low_of, high_of, last_of, window_of, levels, Sized, span_in, StackAsks, Filled, limits_of}
+use Rattle.arrays.specs.declared.StripSpans.{StripSpans}
+use Rattle.arrays.specs.declared.Given.{Given}
 use Rattle.scan.specs.declared.Cell.{Cell}
-use Rattle.scan.specs.Scan.{put_span, StripAsks, StripDone, jump_if, short_of, EmptyOn, none_in, Cleared, OnlyAt, EmptiesAre, Scanning, TotalAsks, ScanAsks, ScanIs}
+use Rattle.scan.specs.Scan.{put_span, cell_of, StripAsks, StripDone, jump_if, short_of, EmptyOn, none_in, Cleared, OnlyAt, EmptiesAre, Scanning, TotalAsks, ScanAsks, ScanIs}
 use Rattle.arrays.specs.Search.{Searching}
 use Rattle.arrays.proofs.Searches.{searching_hit, searching_miss, searching_end, ends_full, ends_empty}
 use Rattle.scan.proofs.Tables.{put_same, put_apart, sized_put}
@@ -64,29 +67,29 @@ module _ (g : Given) (i n v : ℕ) (f : ℕ → Span) where
       in_use : (j : ℕ) → start o last above v ≤ j → j < start o last above v + (stop last v - start o last above v) → (j ≤ last) × (j ≤ v) × (v - j ≤ above)
       in_use j k m = use_within o last above v j h k m
 
-pub none_yet : (g : Given) (k cap : ℕ) (table₀ table : List (List (List ℕ))) → ScanAsks g k cap table₀ → Cleared g.windows k 0 cap table → ScanAsks g k 0 table
-none_yet g k cap table₀ table a c =
+pub none_yet : (g : Given) (cap : ℕ) (table₀ table : List StripSpans) → ScanAsks g cap table₀ → Cleared g.windows g.channels 0 cap table → ScanAsks g 0 table
+none_yet g cap table₀ table a c =
     record { stack = a.stack; total = omega arith; of_use = omega arith; sized = c.sized }
 
 -- THE TABLE before the first total: the top strip's window
-module _ (g : Given) (k : ℕ) (table : List (List (List ℕ))) (a : ScanAsks g k 0 table) where
-  abbrev top_table : List (List (List ℕ))
-  top_table = put_span table k 0 (window_of g k)
+module _ (g : Given) (table : List StripSpans) (a : ScanAsks g 0 table) where
+  abbrev top_table : List StripSpans
+  top_table = put_span table g.channels 0 (window_of g g.channels)
 
-  pub scanning_start : Scanning g k 0 k top_table bias
+  pub scanning_start : Scanning g 0 g.channels top_table bias
   unfolding most levels back
   scanning_start =
       record {
-        sized = sized_put table a.sized k 0 (window_of g k) (omega (arith, a.stack.channels));
+        sized = sized_put table a.sized g.channels 0 (window_of g g.channels) (omega (arith, a.stack.channels));
         earlier = λ j n u e h m. absurd (omega arith);
-        here = λ j n h e m. let z : n ≡ 0 = omega arith in let p : j ≡ k = omega arith in rw (z, p) (put_same table a.sized k 0 (window_of g k) (omega (arith, a.stack.channels)) (omega arith));
+        here = λ j n h e m. let z : n ≡ 0 = omega arith in let p : j ≡ g.channels = omega arith in rw (z, p) (put_same table a.sized g.channels 0 (window_of g g.channels) (omega (arith, a.stack.channels)) (omega arith));
         jump_some = omega arith;
         jump_small = omega arith;
         earlier_jump = λ j n u e h m t. absurd (omega arith);
         here_jump = λ j n h e m t. absurd (omega arith);
       }
 
-  pub empties_start : EmptiesAre k 0 k top_table (replicate strips_held 0)
+  pub empties_start : EmptiesAre g.channels 0 g.channels top_table (replicate strips_held 0)
   empties_start =
       record {
         size = refl;
@@ -95,15 +98,15 @@ module _ (g : Given) (k : ℕ) (table : List (List (List ℕ))) (a : ScanAsks g 
         here = λ j h. omega (arith, none j h);
       }
     where
-      none : (j : ℕ) → j ≤ k → entry (replicate strips_held 0) j ≡ 0
+      none : (j : ℕ) → j ≤ g.channels → entry (replicate strips_held 0) j ≡ 0
       none j h = get_or-replicate strips_held j 0 0 (omega (arith, a.stack.channels))
 
-  pub cleared_start : (cap : ℕ) → Cleared g.windows k 0 cap table → Cleared g.windows k 0 cap top_table
+  pub cleared_start : (cap : ℕ) → Cleared g.windows g.channels 0 cap table → Cleared g.windows g.channels 0 cap top_table
   cleared_start cap c =
       record {
-        sized = sized_put table a.sized k 0 (window_of g k) (omega (arith, a.stack.channels));
+        sized = sized_put table a.sized g.channels 0 (window_of g g.channels) (omega (arith, a.stack.channels));
         cleared = λ j u h m l.
-            put_apart table a.sized k 0 (window_of g k) (omega (arith, a.stack.channels)) j u (λ p q. omega arith) ∙ c.cleared j u h m l;
+            put_apart table a.sized g.channels 0 (window_of g g.channels) (omega (arith, a.stack.channels)) j u (λ p q. omega arith) ∙ c.cleared j u h m l;
       }
 
 positive : {j : ℕ} (n : ℕ) → (n ≡ 0 → ⊥) → 0 < j → 0 < min j n
@@ -113,27 +116,20 @@ positive (suc n) h l = omega arith
 pub nothing_tried : (least last above empty u : ℕ) → u < least + empty → min (last + 1) (u + 1 - empty) ≤ max least (u - above)
 nothing_tried least last above empty u h = let k : u + 1 - empty ≤ least = omega arith in omega arith
 
-empties_below : (k v i j : ℕ) (table : List (List (List ℕ))) (es : List ℕ) → j ≤ i → EmptiesAre k v i table es → EmptiesAre k v j table es
+empties_below : (k v i j : ℕ) (table : List StripSpans) (es : List ℕ) → j ≤ i → EmptiesAre k v i table es → EmptiesAre k v j table es
 empties_below k v i j table es h m = record { size = m.size; empty = m.empty; earlier = λ p l. m.earlier p (omega arith); here = m.here }
 
--- tables before a total, and as strips are written
-pub only_start : (v i : ℕ) (table : List (List (List ℕ))) → OnlyAt v i table table
-only_start v i table = record { kept = λ j u n. refl }
-
-pub only_below : (v i j : ℕ) (table₀ table : List (List (List ℕ))) → j ≤ i → OnlyAt v i table₀ table → OnlyAt v j table₀ table
+-- what differs from strip i on differs from a strip below on
+pub only_below : (v i j : ℕ) (table₀ table : List StripSpans) → j ≤ i → OnlyAt v i table₀ table → OnlyAt v j table₀ table
 only_below v i j table₀ table h o = record { kept = λ p u n. o.kept p u (λ l e. n (omega arith) e) }
 
--- strip j at the total v
-abbrev pub cell_of : Given → (j v least above empty : ℕ) → Cell
-cell_of g j v least above empty = record { i = j; v = v; least = least; last = last_of g j; above = above; empty = empty; from = (window_of g j).from; upto = (window_of g j).upto }
-
 -- one strip more, strip j under strip i
-module _ (g : Given) (k v i j : ℕ) (table : List (List (List ℕ))) (jump : ℕ) (a : StackAsks g k) (s : Scanning g k v i table jump) (below : j + 1 ≡ i) (h : i ≤ k) where
+module _ (g : Given) (v i j : ℕ) (table : List StripSpans) (jump : ℕ) (a : StackAsks g) (s : Scanning g v i table jump) (below : j + 1 ≡ i) (h : i ≤ g.channels) where
   -- how many channels lie above strip i
   abbrev n : ℕ
-  n = k - i
+  n = g.channels - i
 
-  counted : j + suc n ≡ k
+  counted : j + suc n ≡ g.channels
   counted = omega arith
 
   most_here : most (levels g j (suc n)) ≡ last_of g j + most (levels g (suc j) n)
@@ -164,7 +160,7 @@ module _ (g : Given) (k v i j : ℕ) (table : List (List (List ℕ))) (jump : �
 
     -- the strip above has an empty span for totals below empty
     module _ (empty : ℕ) (none : (u : ℕ) → u < empty → u ≤ above → (span_in table (j + 1) u).upto ≤ (span_in table (j + 1) u).from) (t : v < totals_held) where
-      asks_at : (u : ℕ) → u ≤ v → u ≤ last_of g j + above → StripAsks (sides g.limits j) (cell_of g j u least above empty) table
+      asks_at : (u : ℕ) → u ≤ v → u ≤ last_of g j + above → StripAsks (limits_of g.limits j) (cell_of g j u least above empty) table
       asks_at u l o =
           record {
             channel = omega (arith, a.channels);
@@ -184,7 +180,7 @@ module _ (g : Given) (k v i j : ℕ) (table : List (List (List ℕ))) (jump : �
           (cell bias (low_of g j) (high_of g j) least (last_of g j) above f (window_of g j) u ≡ none_in (window_of g j))
           × (cell_short bias bias (low_of g j) (high_of g j) least (last_of g j) above f (window_of g j) u ≡ 2 * bias + 1)
       none_at u l o b =
-          cell_none (sides g.limits j) (cell_of g j u least above empty) table (max least (u - above)) (min (last_of g j + 1) (u + 1 - empty)) (asks_at u l o) refl refl
+          cell_none (limits_of g.limits j) (cell_of g j u least above empty) table (max least (u - above)) (min (last_of g j + 1) (u + 1 - empty)) (asks_at u l o) refl refl
           (nothing_tried least (last_of g j) above empty u b)
 
       -- a total below which the strip above leaves nothing
@@ -193,7 +189,7 @@ module _ (g : Given) (k v i j : ℕ) (table : List (List (List ℕ))) (jump : �
 
       -- the strip is passed over
       module _ (beyond : v < least + empty) (clear : span_in table j v ≡ none_in (window_of g j)) where
-        pub scanning_none : Scanning g k v j table jump
+        pub scanning_none : Scanning g v j table jump
         scanning_none =
             record {
               sized = s.sized;
@@ -205,13 +201,13 @@ module _ (g : Given) (k v i j : ℕ) (table : List (List (List ℕ))) (jump : �
               here_jump = λ p m l e u x. jumps p m e u x (lt_or_eq j p l);
             }
           where
-            go : (p m : ℕ) → p + m ≡ k → v ≤ most (levels g p m) → (j < p) ⊎ (j ≡ p) → span_in table p v ≡ back bias (window_of g p) (levels g p m) v
+            go : (p m : ℕ) → p + m ≡ g.channels → v ≤ most (levels g p m) → (j < p) ⊎ (j ≡ p) → span_in table p v ≡ back bias (window_of g p) (levels g p m) v
             go p m e u (inl l) = s.here p m (omega arith) e u
             go p m e u (inr l) =
                 let z : m ≡ suc n = omega arith in
                 rw (← l, z) (clear ∙ sym (back_none v (omega arith) (omega (arith, most_here, rw (← l, z) at u)) beyond))
 
-            jumps : (p m : ℕ) → p + suc m ≡ k → v ≤ most (levels g p (suc m)) → 0 < short_of g p m v → (j < p) ⊎ (j ≡ p) → jump ≤ short_of g p m v
+            jumps : (p m : ℕ) → p + suc m ≡ g.channels → v ≤ most (levels g p (suc m)) → 0 < short_of g p m v → (j < p) ⊎ (j ≡ p) → jump ≤ short_of g p m v
             jumps p m e u x (inl l) = s.here_jump p m (omega arith) e u x
             jumps p m e u x (inr l) =
                 let z : m ≡ n = omega arith in
@@ -229,11 +225,11 @@ module _ (g : Given) (k v i j : ℕ) (table : List (List (List ℕ))) (jump : �
             go (inr o) = rw o clear
 
     module _ (used : v ≤ last_of g j + above) where
-      pub strip_asks : (es : List ℕ) → EmptiesAre k v i table es → v < totals_held →
-          StripAsks (sides g.limits j) (cell_of g j v least above (entry es (j + 1))) table
+      pub strip_asks : (es : List ℕ) → EmptiesAre g.channels v i table es → v < totals_held →
+          StripAsks (limits_of g.limits j) (cell_of g j v least above (entry es (j + 1))) table
       strip_asks es m t = asks_at (entry es (j + 1)) (λ u l o. m.empty (j + 1) u (omega arith) l) t v (omega arith) used
 
-      module _ (empty : ℕ) (table' : List (List (List ℕ))) (short : ℕ) (d : StripDone (sides g.limits j) (cell_of g j v least above empty) table table' short) (t : v < totals_held) where
+      module _ (empty : ℕ) (table' : List StripSpans) (short : ℕ) (d : StripDone (limits_of g.limits j) (cell_of g j v least above empty) table table' short) (t : v < totals_held) where
         abbrev written_span : Span
         written_span = cell bias (low_of g j) (high_of g j) least (last_of g j) above f (window_of g j) v
 
@@ -259,7 +255,7 @@ module _ (g : Given) (k v i j : ℕ) (table : List (List (List ℕ))) (jump : �
         jump_short true e l = absurd (omega (arith, eqb-true short 0 e))
         jump_short false e l = omega arith
 
-        pub scanning_strip : Scanning g k v j table' (jump_if (eqb short 0) jump short)
+        pub scanning_strip : Scanning g v j table' (jump_if (eqb short 0) jump short)
         scanning_strip =
             record {
               sized = rw d.put_is (sized_put table s.sized j v written_span (omega (arith, a.channels)));
@@ -271,7 +267,7 @@ module _ (g : Given) (k v i j : ℕ) (table : List (List (List ℕ))) (jump : �
               here_jump = λ p m l e o x. jumps p m e o x (lt_or_eq j p l);
             }
           where
-            go : (p m : ℕ) → p + m ≡ k → v ≤ most (levels g p m) → (j < p) ⊎ (j ≡ p) → span_in table' p v ≡ back bias (window_of g p) (levels g p m) v
+            go : (p m : ℕ) → p + m ≡ g.channels → v ≤ most (levels g p m) → (j < p) ⊎ (j ≡ p) → span_in table' p v ≡ back bias (window_of g p) (levels g p m) v
             go p m e o (inl l) = kept p v (λ q r. omega arith) ∙ s.here p m (omega arith) e o
             go p m e o (inr l) = let z : m ≡ suc n = omega arith in rw (← l, z) here_written
 
@@ -279,14 +275,14 @@ module _ (g : Given) (k v i j : ℕ) (table : List (List (List ℕ))) (jump : �
             some true e = s.jump_some
             some false e = positive short (eqb-false short 0 e) s.jump_some
 
-            jumps : (p m : ℕ) → p + suc m ≡ k → v ≤ most (levels g p (suc m)) → 0 < short_of g p m v → (j < p) ⊎ (j ≡ p) → jump_if (eqb short 0) jump short ≤ short_of g p m v
+            jumps : (p m : ℕ) → p + suc m ≡ g.channels → v ≤ most (levels g p (suc m)) → 0 < short_of g p m v → (j < p) ⊎ (j ≡ p) → jump_if (eqb short 0) jump short ≤ short_of g p m v
             jumps p m e o x (inl l) = omega (arith, jump_less (eqb short 0), s.here_jump p m (omega arith) e o x)
             jumps p m e o x (inr l) =
                 let z : m ≡ n = omega arith in
                 let y : 0 < short = omega (arith, short_is, rw (← l, z) at x) in
                 rw (← l, z) (omega (arith, short_is, jump_short (eqb short 0) refl y))
 
-        pub only_strip : (table₀ : List (List (List ℕ))) → OnlyAt v i table₀ table → OnlyAt v j table₀ table'
+        pub only_strip : (table₀ : List StripSpans) → OnlyAt v i table₀ table → OnlyAt v j table₀ table'
         only_strip table₀ o = record { kept = λ p u m. kept p u (λ e q. m (omega arith) q) ∙ o.kept p u (λ l q. m (omega arith) q) }
 
         short_here : 0 < short → (span_in table' j v).upto ≤ (span_in table' j v).from
@@ -294,8 +290,8 @@ module _ (g : Given) (k v i j : ℕ) (table : List (List (List ℕ))) (jump : �
             let e = short_empty (low_of g j) (high_of g j) least (last_of g j) above f (window_of g j) v (omega (arith, a.ends j (omega arith))) (rw d.short_is at x) in
             omega (arith, e, ap (λ (x : Span). x.from) cell_written, ap (λ (x : Span). x.upto) cell_written)
 
-        pub empties_strip : (es : List ℕ) (x : ℕ) → EmptiesAre k v i table es → least + entry es (j + 1) ≤ v → EmptyOn (max (entry es j) (least + entry es (j + 1))) v short x →
-            EmptiesAre k v j table' (set es j x)
+        pub empties_strip : (es : List ℕ) (x : ℕ) → EmptiesAre g.channels v i table es → least + entry es (j + 1) ≤ v → EmptyOn (max (entry es j) (least + entry es (j + 1))) v short x →
+            EmptiesAre g.channels v j table' (set es j x)
         empties_strip es x m b o =
             record {
               size = length-set es j x ∙ m.size;
@@ -308,7 +304,7 @@ module _ (g : Given) (k v i j : ℕ) (table : List (List (List ℕ))) (jump : �
             written = get_or-set_same es j x 0 (omega (arith, m.size, a.channels))
 
             -- a cell that was empty and is not the one written
-            still : (p u : ℕ) → p ≤ k → u < entry es p → (p ≡ j → u ≡ v → ⊥) → (span_in table' p u).upto ≤ (span_in table' p u).from
+            still : (p u : ℕ) → p ≤ g.channels → u < entry es p → (p ≡ j → u ≡ v → ⊥) → (span_in table' p u).upto ≤ (span_in table' p u).from
             still p u l q n =
                 let e = kept p u n in
                 omega (arith, ap (λ (t : Span). t.from) e, ap (λ (t : Span). t.upto) e, m.empty p u l q)
@@ -328,16 +324,16 @@ module _ (g : Given) (k v i j : ℕ) (table : List (List (List ℕ))) (jump : �
             own u (inl q) = known u (le_or_lt (entry es j) u) q
             own u (inr q) = rw q.0 (short_here q.1)
 
-            go : (p u : ℕ) → p ≤ k → u < entry (set es j x) p → (p ≡ j) ⊎ (p ≡ j → ⊥) → (span_in table' p u).upto ≤ (span_in table' p u).from
+            go : (p u : ℕ) → p ≤ g.channels → u < entry (set es j x) p → (p ≡ j) ⊎ (p ≡ j → ⊥) → (span_in table' p u).upto ≤ (span_in table' p u).from
             go p u l q (inl e) = rw e (own u (o.known u (rw (e, written) at q)))
             go p u l q (inr n) = still p u l (rw (get_or-set_other es j p x 0 n) at q) (λ y z. n y)
 
-            bound : (p : ℕ) → p ≤ k → (p ≡ j) ⊎ (p ≡ j → ⊥) → entry (set es j x) p ≤ suc v
+            bound : (p : ℕ) → p ≤ g.channels → (p ≡ j) ⊎ (p ≡ j → ⊥) → entry (set es j x) p ≤ suc v
             bound p l (inl e) = rw (e, written) (o.at_most (omega (arith, m.earlier j (omega arith))))
             bound p l (inr n) = rw (get_or-set_other es j p x 0 n) (m.here p l)
 
   -- a strip for which the total is beyond use
-  pub scanning_skip : most (levels g j (suc n)) < v → Scanning g k v j table jump
+  pub scanning_skip : most (levels g j (suc n)) < v → Scanning g v j table jump
   scanning_skip o =
       record {
         sized = s.sized;
@@ -349,58 +345,58 @@ module _ (g : Given) (k v i j : ℕ) (table : List (List (List ℕ))) (jump : �
         here_jump = λ p m l e u x. jumps p m e u x (lt_or_eq j p l);
       }
     where
-      go : (p m : ℕ) → p + m ≡ k → v ≤ most (levels g p m) → (j < p) ⊎ (j ≡ p) → span_in table p v ≡ back bias (window_of g p) (levels g p m) v
+      go : (p m : ℕ) → p + m ≡ g.channels → v ≤ most (levels g p m) → (j < p) ⊎ (j ≡ p) → span_in table p v ≡ back bias (window_of g p) (levels g p m) v
       go p m e u (inl l) = s.here p m (omega arith) e u
       go p m e u (inr l) = let z : m ≡ suc n = omega arith in absurd (omega (arith, rw (← l, z) at u))
 
-      jumps : (p m : ℕ) → p + suc m ≡ k → v ≤ most (levels g p (suc m)) → 0 < short_of g p m v → (j < p) ⊎ (j ≡ p) → jump ≤ short_of g p m v
+      jumps : (p m : ℕ) → p + suc m ≡ g.channels → v ≤ most (levels g p (suc m)) → 0 < short_of g p m v → (j < p) ⊎ (j ≡ p) → jump ≤ short_of g p m v
       jumps p m e u x (inl l) = s.here_jump p m (omega arith) e u x
       jumps p m e u x (inr l) = let z : m ≡ n = omega arith in absurd (omega (arith, rw (← l, z) at u))
 
 -- the strips below strip i, if that has an empty span for every total so far
-pub scanning_bottom : (g : Given) (k v i : ℕ) (table : List (List (List ℕ))) (jump : ℕ) → StackAsks g k → v < totals_held → i ≤ k → Scanning g k v i table jump →
+pub scanning_bottom : (g : Given) (v i : ℕ) (table : List StripSpans) (jump : ℕ) → StackAsks g → v < totals_held → i ≤ g.channels → Scanning g v i table jump →
     ((j : ℕ) → j < i → span_in table j v ≡ none_in (window_of g j)) →
-    ((u : ℕ) → u < suc v → u ≤ most (levels g i (k - i)) → (span_in table i u).upto ≤ (span_in table i u).from) → Scanning g k v 0 table jump
-scanning_bottom g k v zero table jump a t h s c e = s
-scanning_bottom g k v (suc j) table jump a t h s c e =
-    scanning_bottom g k v j table jump a t (omega arith) scanned (λ p l. c p (omega arith)) (λ u l m. empties u l (rw (← counted) at m))
+    ((u : ℕ) → u < suc v → u ≤ most (levels g i (g.channels - i)) → (span_in table i u).upto ≤ (span_in table i u).from) → Scanning g v 0 table jump
+scanning_bottom g v zero table jump a t h s c e = s
+scanning_bottom g v (suc j) table jump a t h s c e =
+    scanning_bottom g v j table jump a t (omega arith) scanned (λ p l. c p (omega arith)) (λ u l m. empties u l (rw (← counted) at m))
   where
-    counted : suc (k - suc j) ≡ k - j
+    counted : suc (g.channels - suc j) ≡ g.channels - j
     counted = omega arith
 
     least : ℕ
     least = first_open (low_of g j) (high_of g j) (last_of g j)
 
-    scanned : Scanning g k v j table jump
+    scanned : Scanning g v j table jump
     scanned =
-        scanning_none g k v (suc j) j table jump a s (omega arith) h least (most (levels g (suc j) (k - suc j))) refl refl (suc v)
+        scanning_none g v (suc j) j table jump a s (omega arith) h least (most (levels g (suc j) (g.channels - suc j))) refl refl (suc v)
         (λ u l m. rw (add-one j) (e u l m)) t (omega arith) (c j (omega arith))
 
-    empties : (u : ℕ) → u < suc v → u ≤ most (levels g j (suc (k - suc j))) → (span_in table j u).upto ≤ (span_in table j u).from
+    empties : (u : ℕ) → u < suc v → u ≤ most (levels g j (suc (g.channels - suc j))) → (span_in table j u).upto ≤ (span_in table j u).from
     empties =
-        none_here g k v (suc j) j table jump a s (omega arith) h least (most (levels g (suc j) (k - suc j))) refl refl (suc v)
+        none_here g v (suc j) j table jump a s (omega arith) h least (most (levels g (suc j) (g.channels - suc j))) refl refl (suc v)
         (λ u l m. rw (add-one j) (e u l m)) t (omega arith) (c j (omega arith))
 
 -- THE LOOP OVER TOTALS
-pub empties_next : (k v : ℕ) (table : List (List (List ℕ))) (es : List ℕ) → EmptiesAre k v 0 table es → EmptiesAre k (v + 1) k table es
+pub empties_next : (k v : ℕ) (table : List StripSpans) (es : List ℕ) → EmptiesAre k v 0 table es → EmptiesAre k (v + 1) k table es
 empties_next k v table es m =
     record { size = m.size; empty = m.empty; earlier = λ j l. omega (arith, m.here j (omega arith)); here = λ j l. omega (arith, m.here j l) }
 
-pub cleared_here : (windows : List (List ℕ)) (k v cap : ℕ) (table : List (List (List ℕ))) → v ≤ cap → Cleared windows k v cap table → Cleared windows k v v table
+pub cleared_here : (windows : List Span) (k v cap : ℕ) (table : List StripSpans) → v ≤ cap → Cleared windows k v cap table → Cleared windows k v v table
 cleared_here windows k v cap table h c =
     record { sized = c.sized; cleared = λ j u l m o. c.cleared j u l m (omega arith) }
 
-pub cleared_next : (windows : List (List ℕ)) (k v cap : ℕ) (table table' : List (List (List ℕ))) → Sized table' → OnlyAt v 0 table table' →
+pub cleared_next : (windows : List Span) (k v cap : ℕ) (table table' : List StripSpans) → Sized table' → OnlyAt v 0 table table' →
     Cleared windows k v cap table → Cleared windows k (v + 1) cap table'
 cleared_next windows k v cap table table' s o c =
     record { sized = s; cleared = λ j u l m n. o.kept j u (λ p q. omega arith) ∙ c.cleared j u l (omega arith) n }
 
-module _ (g : Given) (k cap : ℕ) where
+module _ (g : Given) (cap : ℕ) where
   abbrev bottom_span : ℕ → Span
-  bottom_span v = back bias (window_of g 0) (levels g 0 k) v
+  bottom_span v = back bias (window_of g 0) (levels g 0 g.channels) v
 
-  module _ (v jump : ℕ) (table : List (List (List ℕ))) (s : Scanning g k v 0 table jump) where
-    pub scanning_next : Scanning g k (v + 1) k table jump
+  module _ (v jump : ℕ) (table : List StripSpans) (s : Scanning g v 0 table jump) where
+    pub scanning_next : Scanning g (v + 1) g.channels table jump
     unfolding most levels
     scanning_next =
         record {
@@ -413,30 +409,30 @@ module _ (g : Given) (k cap : ℕ) where
           here_jump = λ j n h e m x. absurd (omega arith);
         }
       where
-        before : (j n u : ℕ) → j + n ≡ k → u ≤ most (levels g j n) → (u < v) ⊎ (u ≡ v) → span_in table j u ≡ back bias (window_of g j) (levels g j n) u
+        before : (j n u : ℕ) → j + n ≡ g.channels → u ≤ most (levels g j n) → (u < v) ⊎ (u ≡ v) → span_in table j u ≡ back bias (window_of g j) (levels g j n) u
         before j n u e m (inl l) = s.earlier j n u e l m
         before j n u e m (inr l) = rw l (s.here j n (omega arith) e (rw l at m))
 
-        jumps : (j n u : ℕ) → j + suc n ≡ k → u ≤ most (levels g j (suc n)) → 0 < short_of g j n u → (u < v) ⊎ (u ≡ v) → jump ≤ short_of g j n u
+        jumps : (j n u : ℕ) → j + suc n ≡ g.channels → u ≤ most (levels g j (suc n)) → 0 < short_of g j n u → (u < v) ⊎ (u ≡ v) → jump ≤ short_of g j n u
         jumps j n u e m x (inl l) = s.earlier_jump j n u e l m x
         jumps j n u e m x (inr l) = rw l (s.here_jump j n (omega arith) e (rw l at m) (rw l at x))
 
     -- the bottom strip's span, from the tables
-    bottom_is : v ≤ most (levels g 0 k) → span_in table 0 v ≡ bottom_span v
-    bottom_is m = s.here 0 k (omega arith) (omega arith) m
+    bottom_is : v ≤ most (levels g 0 g.channels) → span_in table 0 v ≡ bottom_span v
+    bottom_is m = s.here 0 g.channels (omega arith) (omega arith) m
 
-    table_to : Filled g k v 0 table
+    table_to : Filled g v 0 table
     table_to =
         record {
           sized = s.sized;
           filled = λ j n u h e c m. go j n u e m (lt_or_eq u v c);
         }
       where
-        go : (j n u : ℕ) → j + n ≡ k → u ≤ most (levels g j n) → (u < v) ⊎ (u ≡ v) → span_in table j u ≡ back bias (window_of g j) (levels g j n) u
+        go : (j n u : ℕ) → j + n ≡ g.channels → u ≤ most (levels g j n) → (u < v) ⊎ (u ≡ v) → span_in table j u ≡ back bias (window_of g j) (levels g j n) u
         go j n u e m (inl l) = s.earlier j n u e l m
         go j n u e m (inr l) = rw l (s.here j n (omega arith) e (rw l at m))
 
-    module _ (of_use : cap ≤ most (levels g 0 k)) (h : v ≤ cap) (found : ℕ) (q : Searching (λ u. nonempty (bottom_span u)) (suc cap) v found) where
+    module _ (of_use : cap ≤ most (levels g 0 g.channels)) (h : v ≤ cap) (found : ℕ) (q : Searching (λ u. nonempty (bottom_span u)) (suc cap) v found) where
       pub totals_miss : (span_in table 0 v).upto ≤ (span_in table 0 v).from → Searching (λ u. nonempty (bottom_span u)) (suc cap) (v + 1) found
       totals_miss e =
           searching_miss (λ u. nonempty (bottom_span u)) (suc cap) v found q (omega arith) (ends_empty (span_in table 0 v).from (span_in table 0 v).upto (bottom_span v) (bottom_is (omega arith)) e)
@@ -445,14 +441,14 @@ module _ (g : Given) (k cap : ℕ) where
       totals_hit e =
           searching_hit (λ u. nonempty (bottom_span u)) (suc cap) v found q (omega arith) (ends_full (span_in table 0 v).from (span_in table 0 v).upto (bottom_span v) (bottom_is (omega arith)) e)
 
-      pub scan_found : (before : ℕ) (table₀ : List (List (List ℕ))) → Scanning g k v k table₀ before → found ≡ first_total bottom_span cap →
-          (span_in table 0 v).from < (span_in table 0 v).upto → ScanIs g k cap table (record { total = v; jump = before })
+      pub scan_found : (before : ℕ) (table₀ : List StripSpans) → Scanning g v g.channels table₀ before → found ≡ first_total bottom_span cap →
+          (span_in table 0 v).from < (span_in table 0 v).upto → ScanIs g cap table (record { total = v; jump = before })
       scan_found before table₀ p t e =
           let m : min v cap ≡ v = omega arith in
           record { table = rw m table_to; total_is = totals_hit e ∙ t; jump_some = p.jump_some; jump_is = λ j n u i l o x. p.earlier_jump j n u i l o x }
 
-  pub scan_none : (v jump : ℕ) (table : List (List (List ℕ))) → cap < v → v ≤ cap + 1 → Scanning g k v k table jump →
-      Searching (λ u. nonempty (bottom_span u)) (suc cap) v (first_total bottom_span cap) → ScanIs g k cap table (record { total = v; jump = jump })
+  pub scan_none : (v jump : ℕ) (table : List StripSpans) → cap < v → v ≤ cap + 1 → Scanning g v g.channels table jump →
+      Searching (λ u. nonempty (bottom_span u)) (suc cap) v (first_total bottom_span cap) → ScanIs g cap table (record { total = v; jump = jump })
   scan_none v jump table h i s q =
       let m : min v cap ≡ cap = omega arith in
       record {
@@ -463,16 +459,16 @@ module _ (g : Given) (k cap : ℕ) where
       }
 
 -- THE LOOP OVER STRIPS, as the code goes: from strip i to strip i - 1
-module _ (g : Given) (k v : ℕ) (es₀ : List ℕ) (table₀ : List (List (List ℕ))) (before : ℕ) (t : TotalAsks g k v es₀ table₀ before)
-    (i : ℕ) (table : List (List (List ℕ))) (jump : ℕ) (es : List ℕ) (some : 0 < i) (inside : i ≤ k) (s : Scanning g k v i table jump) (m : EmptiesAre k v i table es) (o : OnlyAt v i table₀ table) where
+module _ (g : Given) (v : ℕ) (es₀ : List ℕ) (table₀ : List StripSpans) (before : ℕ) (t : TotalAsks g v es₀ table₀ before)
+    (i : ℕ) (table : List StripSpans) (jump : ℕ) (es : List ℕ) (some : 0 < i) (inside : i ≤ g.channels) (s : Scanning g v i table jump) (m : EmptiesAre g.channels v i table es) (o : OnlyAt v i table₀ table) where
   abbrev j : ℕ
   j = i - 1
 
   abbrev least_here : ℕ
-  least_here = entry (leasts_in g.plan) j
+  least_here = entry g.plan.leasts j
 
   abbrev above_here : ℕ
-  above_here = entry (sums_in g.plan) (j + 1)
+  above_here = entry g.plan.above (j + 1)
 
   -- what strip j at this total is asked
   abbrev here : Cell
@@ -481,21 +477,21 @@ module _ (g : Given) (k v : ℕ) (es₀ : List ℕ) (table₀ : List (List (List
   strip_below : j + 1 ≡ i
   strip_below = omega arith
 
-  most_of : entry (sums_in g.plan) j ≡ most (levels g j (suc (k - i)))
-  most_of = above_at g k t.stack.planned j (suc (k - i)) (omega arith)
+  most_of : entry g.plan.above j ≡ most (levels g j (suc (g.channels - i)))
+  most_of = above_at g t.stack.planned j (suc (g.channels - i)) (omega arith)
 
-  above_of : above_here ≡ most (levels g (suc j) (k - i))
-  above_of = rw (add-one j) (above_at g k t.stack.planned (suc j) (k - i) (omega arith))
+  above_of : above_here ≡ most (levels g (suc j) (g.channels - i))
+  above_of = rw (add-one j) (above_at g t.stack.planned (suc j) (g.channels - i) (omega arith))
 
   least_of : least_here ≡ first_open (low_of g j) (high_of g j) (last_of g j)
-  least_of = least_at g k t.stack.planned j (omega arith)
+  least_of = least_at g t.stack.planned j (omega arith)
 
-  used_of : v ≤ entry (sums_in g.plan) j → v ≤ last_of g j + above_here
-  used_of h = omega (arith, most_of, above_of, most_here g k v i j table jump t.stack s strip_below inside)
+  used_of : v ≤ entry g.plan.above j → v ≤ last_of g j + above_here
+  used_of h = omega (arith, most_of, above_of, most_here g v i j table jump t.stack s strip_below inside)
 
-  pub total_strip_asks : v ≤ entry (sums_in g.plan) j → StripAsks (sides g.limits j) here table
+  pub total_strip_asks : v ≤ entry g.plan.above j → StripAsks (limits_of g.limits j) here table
   total_strip_asks h =
-      strip_asks g k v i j table jump t.stack s strip_below inside least_here above_here least_of above_of (used_of h) es m t.total
+      strip_asks g v i j table jump t.stack s strip_below inside least_here above_here least_of above_of (used_of h) es m t.total
 
   -- the first total that the strip above leaves something for
   abbrev bound : ℕ
@@ -506,35 +502,35 @@ module _ (g : Given) (k v : ℕ) (es₀ : List ℕ) (table₀ : List (List (List
   bound_room =
       omega (arith, t.total, least_of, first_upto (opens (low_of g j) (high_of g j)) 0 (suc (last_of g j)), t.stack.listed j (omega arith), m.here (j + 1) (omega arith))
 
-  pub total_strip : v ≤ entry (sums_in g.plan) j → bound ≤ v → (table' : List (List (List ℕ))) (short next empty : ℕ) →
-      StripDone (sides g.limits j) here table table' short →
+  pub total_strip : v ≤ entry g.plan.above j → bound ≤ v → (table' : List StripSpans) (short next empty : ℕ) →
+      StripDone (limits_of g.limits j) here table table' short →
       EmptyOn (max (entry es j) bound) v short empty → next ≡ jump_if (eqb short 0) jump short →
-      Scanning g k v j table' next × EmptiesAre k v j table' (set es j empty) × OnlyAt v j table₀ table'
+      Scanning g v j table' next × EmptiesAre g.channels v j table' (set es j empty) × OnlyAt v j table₀ table'
   total_strip h b table' short next empty d x e = (
     rw e
-        (scanning_strip g k v i j table jump t.stack s strip_below inside least_here above_here least_of above_of (used_of h) (entry es (j + 1)) table' short d t.total),
-    empties_strip g k v i j table jump t.stack s strip_below inside least_here above_here least_of above_of (used_of h) (entry es (j + 1)) table' short d t.total es empty m b x,
-    only_strip g k v i j table jump t.stack s strip_below inside least_here above_here least_of above_of (used_of h) (entry es (j + 1)) table' short d t.total table₀ o,
+        (scanning_strip g v i j table jump t.stack s strip_below inside least_here above_here least_of above_of (used_of h) (entry es (j + 1)) table' short d t.total),
+    empties_strip g v i j table jump t.stack s strip_below inside least_here above_here least_of above_of (used_of h) (entry es (j + 1)) table' short d t.total es empty m b x,
+    only_strip g v i j table jump t.stack s strip_below inside least_here above_here least_of above_of (used_of h) (entry es (j + 1)) table' short d t.total table₀ o,
   )
 
-  pub total_skip : entry (sums_in g.plan) j < v → Scanning g k v j table jump × EmptiesAre k v j table es × OnlyAt v j table₀ table
+  pub total_skip : entry g.plan.above j < v → Scanning g v j table jump × EmptiesAre g.channels v j table es × OnlyAt v j table₀ table
   total_skip h = (
-    scanning_skip g k v i j table jump t.stack s strip_below inside (omega (arith, most_of)),
-    empties_below k v i j table es (omega arith) m,
+    scanning_skip g v i j table jump t.stack s strip_below inside (omega (arith, most_of)),
+    empties_below g.channels v i j table es (omega arith) m,
     only_below v i j table₀ table (omega arith) o,
   )
 
   -- nothing is left for this strip, nor for those below
-  pub total_none : v < bound → Scanning g k v 0 table jump × EmptiesAre k v 0 table es × OnlyAt v 0 table₀ table
+  pub total_none : v < bound → Scanning g v 0 table jump × EmptiesAre g.channels v 0 table es × OnlyAt v 0 table₀ table
   total_none b =
-      let z : suc (k - i) ≡ k - j = omega arith in (
-        scanning_bottom g k v j table jump t.stack t.total (omega arith)
-            (scanning_none g k v i j table jump t.stack s strip_below inside least_here above_here least_of above_of (entry es (j + 1)) above_empty t.total b (clear_of j (omega arith)))
+      let z : suc (g.channels - i) ≡ g.channels - j = omega arith in (
+        scanning_bottom g v j table jump t.stack t.total (omega arith)
+            (scanning_none g v i j table jump t.stack s strip_below inside least_here above_here least_of above_of (entry es (j + 1)) above_empty t.total b (clear_of j (omega arith)))
             (λ p l. clear_of p (omega arith))
             (λ u l q.
-            none_here g k v i j table jump t.stack s strip_below inside least_here above_here least_of above_of (entry es (j + 1)) above_empty t.total b (clear_of j (omega arith)) u l
+            none_here g v i j table jump t.stack s strip_below inside least_here above_here least_of above_of (entry es (j + 1)) above_empty t.total b (clear_of j (omega arith)) u l
             (rw (← z) at q)),
-        empties_below k v i 0 table es (omega arith) m,
+        empties_below g.channels v i 0 table es (omega arith) m,
         only_below v i 0 table₀ table (omega arith) o,
       )
     where

@@ -1,18 +1,15 @@
 // The least total of a stack in a spread, from windows and limit lists: totals tried in rising order, with the jump to the next event.
 #![tactic(auto)]
 
-ghost use Rattle.std.specs.Prelude.{◌≡◌, ◌+◌, ◌-◌, ◌*◌, ◌≤◌, ◌<◌, min, max, ltb, eqb};
+ghost use Rattle.std.specs.Prelude.{◌≡◌, ◌+◌, ◌-◌, ◌*◌, ◌≤◌, ◌<◌, min, max, eqb};
 ghost use Rattle.stack.specs.Sizes.{channels_held, separations_held, totals_held};
-ghost use Rattle.spans.specs.Spans.{span};
+ghost use Rattle.spans.specs.Spans.{nonempty};
 ghost use Rattle.spans.specs.Jump.{min_if, max_if};
-ghost use Rattle.arrays.specs.Arrays.{bias, row, window_at, given, TwoRows, Sized};
-ghost use Rattle.scan.specs.Scan.{put_span, EndsAsk, EndsAre, EndsServe, window_in, StripAsks, StripDone, jump_if, EmptyOn, EmptiesAre, RowIs, EndsFit, Cleared, OnlyAt, TotalAsks, Scanning, ScanAsks, ScanIs};
+ghost use Rattle.arrays.specs.Arrays.{bias, greatest_end, window_at, TwoRows, Sized};
+ghost use Rattle.scan.specs.Scan.{put_span, EndsAsk, EndsAre, EndsServe, cell_in, cell_at, StripAsks, StripDone, jump_if, EmptyOn, EmptiesAre, none_in, RowIs, EndsFit, Cleared, OnlyAt, TotalAsks, Scanning, ScanAsks, ScanIs};
 
-use arrays::{
-    ABOVE, ChannelLimits, FROM, HIGH, LAST, LEAST, LOW, Plan, SpanTable, StackLimits, StripSpans,
-    UPTO, Windows,
-};
-use numbers::{difference, greater, lesser};
+use arrays::{ChannelLimits, Given, SpanTable, StripSpans};
+use spans::Span;
 use stack::Stack;
 
 // Of spans shifted back: the nearest start and the furthest end, each raised by the bias once more.
@@ -22,8 +19,8 @@ pub struct Ends {
     pub reach: u64,
 }
 
-// Strip i at total v: its window, the separations of its channel from the least open one to the last of use, what the channels above can use, and below
-// which total the strip above has empty spans.
+// Strip i at total v: the separations of its channel from the least open one to the last of use, what the channels above can use, below which total the strip
+// above has empty spans, and its window.
 #[derive(Clone, Copy)]
 pub struct Cell {
     pub i: usize,
@@ -32,16 +29,32 @@ pub struct Cell {
     pub last: usize,
     pub above: usize,
     pub empty: usize,
-    pub from: u64,
-    pub upto: u64,
+    pub window: Span,
 }
 
-// One total of a scan of k channels, and the jump before it.
-#[derive(Clone, Copy)]
-struct Turn {
-    k: usize,
-    v: usize,
-    jump: u64,
+impl Cell {
+    // Strip i at total v, where the strip above has empty spans below total empty.
+    pub fn of(given: &Given, i: usize, v: usize, empty: usize) -> Cell
+        requires { i < channels_held }
+        ensures { result ≡ cell_in given.now i v empty }
+    {
+        Cell {
+            i,
+            v,
+            least: given.plan.leasts[i],
+            last: given.plan.lasts[i],
+            above: given.plan.above[i + 1],
+            empty,
+            window: given.windows[i],
+        }
+    }
+
+    // The same strip at another total.
+    pub fn at(self, v: usize) -> Cell
+        ensures { result ≡ cell_at self v }
+    {
+        Cell { v, ..self }
+    }
 }
 
 // The first total that can be had, and how far the spread may grow before a smaller total can be had.
@@ -51,15 +64,19 @@ pub struct Scan {
     pub jump: u64,
 }
 
-// The ends stretched by the span (from, upto) shifted back by the limit (low, high), if that span is not empty.
-fn stretch(e: Ends, from: u64, upto: u64, low: u64, high: u64) -> Ends
-    requires { (from ≤ bias) × (upto ≤ bias) × (low ≤ 2 * bias) × (high ≤ 2 * bias) }
-    ensures { (result.near ≡ min_if (ltb from upto) (from + 2 * bias - high) e.near) × (result.reach ≡ max_if (ltb from upto) (upto + 2 * bias - low) e.reach) }
+// The ends stretched by a span shifted back by the limit (low, high), if that span is not empty.
+fn stretch(e: Ends, span: Span, low: u64, high: u64) -> Ends
+    requires start { span.from ≤ bias }
+    requires end { span.upto ≤ bias }
+    requires low { low ≤ 2 * bias }
+    requires high { high ≤ 2 * bias }
+    ensures near { result.near ≡ min_if (nonempty span) (span.from + 2 * bias - high) e.near }
+    ensures reach { result.reach ≡ max_if (nonempty span) (span.upto + 2 * bias - low) e.reach }
 {
-    if from < upto {
+    if span.from < span.upto {
         Ends {
-            near: lesser(e.near, from + 2 * Stack::BIAS - high),
-            reach: greater(e.reach, upto + 2 * Stack::BIAS - low),
+            near: e.near.min(span.from + 2 * Stack::BIAS - high),
+            reach: e.reach.max(span.upto + 2 * Stack::BIAS - low),
         }
     } else {
         e
@@ -75,22 +92,13 @@ pub fn reach_back(
     stop: usize,
     before: Ends,
 ) -> Ends
-    requires { EndsAsk limits.now spans.now v start stop × (before.near ≤ 2 * bias) }
+    requires ends { EndsAsk limits.now spans.now v start stop }
+    requires near { before.near ≤ 2 * bias }
     ensures { EndsAre limits.now spans.now v start stop before result }
 {
     let mut e = before;
-    let mut q = start;
-    while q < stop {
-        let u = v - q;
-        let wider = stretch(
-            e,
-            spans[FROM][u] as u64,
-            spans[UPTO][u] as u64,
-            limits[LOW][q],
-            limits[HIGH][q],
-        );
-        e = wider;
-        q += 1;
+    for q in start..stop {
+        e = stretch(e, spans.at(v - q), limits.low[q], limits.high[q]);
     }
     e
 }
@@ -103,44 +111,40 @@ fn ends_in(
     start: usize,
     stop: usize,
 ) -> Ends
-    requires { EndsAsk limits.now spans.now cell.v start stop × (start < stop) × (cell.from ≤ bias) × (cell.upto ≤ bias) }
-    ensures { EndsServe limits.now spans.now cell.v start stop (window_in cell) result }
+    requires ends { EndsAsk limits.now spans.now cell.v start stop }
+    requires some { start < stop }
+    requires from { cell.window.from ≤ bias }
+    requires upto { cell.window.upto ≤ bias }
+    ensures { EndsServe limits.now spans.now cell.v start stop cell.window result }
 {
     let none = Ends {
         near: 2 * Stack::BIAS,
         reach: 0,
     };
-    let v = cell.v;
     let q = stop - 1;
-    let u = v - q;
-    let e = stretch(
-        none,
-        spans[FROM][u] as u64,
-        spans[UPTO][u] as u64,
-        limits[LOW][q],
-        limits[HIGH][q],
-    );
-    if e.near <= cell.from + Stack::BIAS {
-        if cell.upto + Stack::BIAS <= e.reach {
-            return e;
-        }
+    let e = stretch(none, spans.at(cell.v - q), limits.low[q], limits.high[q]);
+    let from = cell.window.from + Stack::BIAS;
+    let upto = cell.window.upto + Stack::BIAS;
+    if e.near <= from && upto <= e.reach {
+        return e;
     }
-    reach_back(limits, spans, v, start, q, e)
+    reach_back(limits, spans, cell.v, start, q, e)
 }
 
 // The first separation of use in a channel at a total of use: an open one that leaves no more than the levels above can use.
 pub fn start_above(least: usize, above: usize, v: usize) -> usize
     ensures { result ≡ max least (v - above) }
 {
-    greater(least as u64, difference(v as u64, above as u64)) as usize
+    least.max(v.saturating_sub(above))
 }
 
 // One past the last separation of use that leaves a total of empty or more.
 pub fn stop_above(last: usize, v: usize, empty: usize) -> usize
-    requires { (last < separations_held) × (v < totals_held) }
+    requires last { last < separations_held }
+    requires total { v < totals_held }
     ensures { result ≡ min (last + 1) (v + 1 - empty) }
 {
-    lesser(last as u64 + 1, difference(v as u64 + 1, empty as u64)) as usize
+    (last + 1).min((v + 1).saturating_sub(empty))
 }
 
 // Writes the span of a cell, from the spans of the strip above, and answers by how much it is short.
@@ -148,33 +152,33 @@ pub fn scan_strip(limits: &ChannelLimits, cell: Cell, table: &mut SpanTable) -> 
     requires { StripAsks limits.now cell table.old }
     ensures { StripDone limits.now cell table.old table.new result }
 {
-    let i = cell.i;
-    let v = cell.v;
-    let first = start_above(cell.least, cell.above, v);
-    let end = stop_above(cell.last, v, cell.empty);
+    let window = cell.window;
+    let first = start_above(cell.least, cell.above, cell.v);
+    let end = stop_above(cell.last, cell.v, cell.empty);
     if end <= first {
-        table[i][FROM][v] = greater(cell.from, cell.upto) as u32;
-        table[i][UPTO][v] = 0;
+        let none = Span {
+            from: window.from.max(window.upto),
+            upto: 0,
+        };
+        table[cell.i].put(cell.v, none);
         return 2 * Stack::BIAS + 1;
     }
-    let e = ends_in(limits, &table[i + 1], cell, first, end);
-    let near = difference(e.near, Stack::BIAS);
-    table[i][FROM][v] = greater(cell.from, lesser(cell.upto, near)) as u32;
-    table[i][UPTO][v] = lesser(cell.upto, difference(e.reach, Stack::BIAS)) as u32;
-    difference(
-        greater(cell.from, near) + 1 + Stack::BIAS,
-        lesser(cell.upto + Stack::BIAS, e.reach),
-    )
+    let e = ends_in(limits, &table[cell.i + 1], cell, first, end);
+    let near = e.near.saturating_sub(Stack::BIAS);
+    let span = Span {
+        from: window.from.max(window.upto.min(near)),
+        upto: window.upto.min(e.reach.saturating_sub(Stack::BIAS)),
+    };
+    table[cell.i].put(cell.v, span);
+    let reached = (window.upto + Stack::BIAS).min(e.reach);
+    (window.from.max(near) + 1 + Stack::BIAS).saturating_sub(reached)
 }
 
 // The lesser of a jump and a shortfall, if there is a shortfall.
 fn shorter(jump: u64, short: u64) -> u64
     ensures { result ≡ jump_if (eqb short 0) jump short }
 {
-    if short == 0 {
-        return jump;
-    }
-    lesser(jump, short)
+    if short == 0 { jump } else { jump.min(short) }
 }
 
 // How many first totals are known to have an empty span: those below count and below bound are, and v is if its span is short.
@@ -182,50 +186,38 @@ pub fn count_empty(count: usize, bound: usize, v: usize, short: u64) -> usize
     requires { v < totals_held }
     ensures { EmptyOn (max count bound) v short result }
 {
-    let known = greater(count as u64, bound as u64) as usize;
-    if short == 0 {
-        return known;
+    let known = count.max(bound);
+    if short == 0 || known < v {
+        known
+    } else {
+        v + 1
     }
-    if known < v {
-        return known;
-    }
-    v + 1
 }
 
-// Writes the spans of strips k - 1 to 0 for total v, and answers the jump cut down to their shortfalls. Below its bound a strip has no span, for every
-// separation leaves the strip above an empty one; then the strips below have none either, and all of them are cleared already.
+// Writes the spans of all strips below the top one for total v, from the top down, and answers the jump cut down to their shortfalls. Below its bound a strip has
+// no span, for every separation leaves the strip above an empty one; then the strips below have none either, and all of them are cleared already.
 fn scan_total(
-    limits: &StackLimits,
-    plan: &Plan,
-    windows: &Windows,
-    turn: Turn,
+    given: &Given,
+    v: usize,
+    before: u64,
     empties: &mut [usize; Stack::STRIPS],
     table: &mut SpanTable,
 ) -> u64
-    requires { TotalAsks (given limits.now plan.now windows.now) turn.k turn.v empties.old table.old turn.jump }
-    ensures { Scanning (given limits.now plan.now windows.now) turn.k turn.v 0 table.new result × EmptiesAre turn.k turn.v 0 table.new empties.new × OnlyAt turn.v 0 table.old table.new }
+    requires { TotalAsks given.now v empties.old table.old before }
+    ensures scanned { Scanning given.now v 0 table.new result }
+    ensures empties { EmptiesAre given.now.channels v 0 table.new empties.new }
+    ensures others { OnlyAt v 0 table.old table.new }
 {
-    let v = turn.v;
-    let mut jump = turn.jump;
-    let mut i = turn.k;
-    while 0 < i {
-        i -= 1;
-        let bound = plan[LEAST][i] + empties[i + 1];
+    let mut jump = before;
+    for i in (0..given.channels).rev() {
+        let empty = empties[i + 1];
+        let bound = given.plan.leasts[i] + empty;
         if v < bound {
             return jump;
         }
-        if v <= plan[ABOVE][i] {
-            let cell = Cell {
-                i,
-                v,
-                least: plan[LEAST][i],
-                last: plan[LAST][i],
-                above: plan[ABOVE][i + 1],
-                empty: empties[i + 1],
-                from: windows[i][FROM],
-                upto: windows[i][UPTO],
-            };
-            let short = scan_strip(&limits[i], cell, table);
+        if v <= given.plan.above[i] {
+            let cell = Cell::of(given, i, v, empty);
+            let short = scan_strip(&given.limits[i], cell, table);
             empties[i] = count_empty(empties[i], bound, v, short);
             jump = shorter(jump, short);
         }
@@ -233,65 +225,66 @@ fn scan_total(
     jump
 }
 
-// Writes the span (from, 0) for the totals up to cap.
-fn clear_row(spans: &mut StripSpans, from: u32, cap: usize)
-    requires { (cap < totals_held) × TwoRows spans.old }
-    ensures { RowIs (span from 0) (cap + 1) spans.new }
+// Writes a span for the totals up to cap.
+fn clear_row(spans: &mut StripSpans, none: Span, cap: usize)
+    requires total { cap < totals_held }
+    requires sized { TwoRows spans.old }
+    requires start { none.from ≤ greatest_end }
+    requires end { none.upto ≤ greatest_end }
+    ensures { RowIs none (cap + 1) spans.new }
 {
     for u in 0..cap + 1 {
-        spans[FROM][u] = from;
-        spans[UPTO][u] = 0;
+        spans.put(u, none);
     }
 }
 
-// Gives each strip below strip k an empty span for the totals up to cap.
-fn clear(windows: &Windows, k: usize, cap: usize, table: &mut SpanTable)
-    requires { (k ≤ channels_held) × (cap < totals_held) × Sized table.old × EndsFit windows.now k }
-    ensures { Cleared windows.now k 0 cap table.new }
+// Gives each strip below the top one an empty span for the totals up to cap.
+fn clear(given: &Given, cap: usize, table: &mut SpanTable)
+    requires channels { given.now.channels ≤ channels_held }
+    requires total { cap < totals_held }
+    requires sized { Sized table.old }
+    requires windows { EndsFit given.now.windows given.now.channels }
+    ensures { Cleared given.now.windows given.now.channels 0 cap table.new }
 {
-    for i in 0..k {
-        clear_row(
-            &mut table[i],
-            greater(windows[i][FROM], windows[i][UPTO]) as u32,
-            cap,
-        );
+    for i in 0..given.channels {
+        let window = given.windows[i];
+        let none = Span {
+            from: window.from.max(window.upto),
+            upto: 0,
+        };
+        clear_row(&mut table[i], none, cap);
     }
 }
 
-// Gives strip k, on top of all channels, its window for total 0.
-pub fn put_window(windows: &Windows, k: usize, table: &mut SpanTable)
-    requires { (k ≤ channels_held) × Sized table.old × EndsFit windows.now (k + 1) }
-    ensures { table.new ≡ put_span table.old k 0 (window_at (row windows.now k)) }
+// Gives the top strip its window for total 0.
+pub fn put_window(given: &Given, table: &mut SpanTable)
+    requires channels { given.now.channels ≤ channels_held }
+    requires sized { Sized table.old }
+    requires windows { EndsFit given.now.windows (given.now.channels + 1) }
+    ensures { table.new ≡ put_span table.old given.now.channels 0 (window_at given.now.windows given.now.channels) }
 {
-    table[k][FROM][0] = windows[k][FROM] as u32;
-    table[k][UPTO][0] = windows[k][UPTO] as u32;
+    let k = given.channels;
+    table[k].put(0, given.windows[k]);
 }
 
 // The first total up to cap that can be had, or one more than cap, with the table of spans for the totals up to it.
-pub fn scan_totals(
-    limits: &StackLimits,
-    plan: &Plan,
-    windows: &Windows,
-    k: usize,
-    cap: usize,
-    table: &mut SpanTable,
-) -> Scan
-    requires { ScanAsks (given limits.now plan.now windows.now) k cap table.old }
-    ensures { ScanIs (given limits.now plan.now windows.now) k cap table.new result }
+pub fn scan_totals(given: &Given, cap: usize, table: &mut SpanTable) -> Scan
+    requires { ScanAsks given.now cap table.old }
+    ensures { ScanIs given.now cap table.new result }
 {
-    clear(windows, k, cap, table);
-    put_window(windows, k, table);
+    clear(given, cap, table);
+    put_window(given, table);
     let mut empties = [0usize; Stack::STRIPS];
     let mut jump = Stack::BIAS;
-    let mut v = 0;
-    while v <= cap {
-        let turn = Turn { k, v, jump };
-        let next = scan_total(limits, plan, windows, turn, &mut empties, table);
-        if table[0][FROM][v] < table[0][UPTO][v] {
+    for v in 0..cap + 1 {
+        let next = scan_total(given, v, jump, &mut empties, table);
+        if table[0].from[v] < table[0].upto[v] {
             return Scan { total: v, jump };
         }
         jump = next;
-        v += 1;
     }
-    Scan { total: v, jump }
+    Scan {
+        total: cap + 1,
+        jump,
+    }
 }

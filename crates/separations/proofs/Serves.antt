@@ -2,7 +2,8 @@
 use mathlib.Core.Path.{◌≡◌, refl}
 use mathlib.Core.Bool.{true, false}
 use Prim.Native.Nat.{ℕ, ◌-◌, ◌≤◌, ◌<◌, min}
-use Rattle.spans.specs.Spans.{Span, span, cut, shift_on}
+use Rattle.spans.specs.Spans.{span, cut, shift_on}
+use Rattle.spans.specs.declared.Span.{Span}
 use Rattle.spans.specs.Solver.{stop, serves, first_serving}
 use Rattle.arrays.specs.Search.{Searching}
 use Rattle.arrays.proofs.Searches.{ends_full, ends_empty}

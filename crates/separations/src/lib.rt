@@ -4,16 +4,13 @@
 ghost use Rattle.std.specs.Prelude.{◌≡◌, ◌*◌, ◌≤◌, ◌<◌, min, replicate};
 ghost use Rattle.stack.specs.Value.{tracks_of};
 ghost use Rattle.stack.specs.Sizes.{channels_held, strips_held, separations_held};
-ghost use Rattle.spans.specs.Spans.{span, cut, shift_on};
+ghost use Rattle.spans.specs.Spans.{cut, shift_on};
 ghost use Rattle.spans.specs.Solver.{stop, first_serving, separations};
-ghost use Rattle.arrays.specs.Arrays.{bias, low_in, high_in, span_at, window_at, given, window_of, levels, store};
+ghost use Rattle.arrays.specs.Arrays.{bias, low_in, high_in, span_at, window_of, levels, store};
 ghost use Rattle.separations.specs.Separations.{ServeAsks, SeparateAsks};
 
-use arrays::{
-    ABOVE, ChannelLimits, FROM, HIGH, LAST, LEAST, LOW, Plan, Span, SpanTable, StackLimits,
-    StripSpans, UPTO, Window, Windows,
-};
-use numbers::{difference, greater, lesser};
+use arrays::{ChannelLimits, Given, SpanTable, StripSpans};
+use spans::Span;
 use stack::{Stack, Tracks};
 
 // One past the last separation of use.
@@ -21,28 +18,25 @@ fn stop(last: usize, v: usize) -> usize
     requires { last < separations_held }
     ensures { result ≡ stop last v }
 {
-    lesser(v as u64, last as u64) as usize + 1
+    v.min(last) + 1
 }
 
-// The positions in the window (from, upto) that are within the limit (low, high) of some position in s.
-fn forward(s: Span, low: u64, high: u64, from: u64, upto: u64) -> Span
-    requires { (s.from ≤ strips_held * bias) × (s.upto ≤ bias) × (low ≤ 2 * bias) × (high ≤ 2 * bias) }
-    ensures { span result.from result.upto ≡ cut (span from upto) (shift_on bias low high (span s.from s.upto)) }
+// The positions in a window that are within the limit (low, high) of some position in s.
+fn forward(s: Span, low: u64, high: u64, window: Span) -> Span
+    requires starts { s.from ≤ strips_held * bias }
+    requires ends { s.upto ≤ bias }
+    requires low { low ≤ 2 * bias }
+    requires high { high ≤ 2 * bias }
+    ensures { result ≡ cut window (shift_on bias low high s) }
 {
     Span {
-        from: greater(from, difference(s.from + low, Stack::BIAS)),
-        upto: lesser(upto, difference(s.upto + high, Stack::BIAS)),
+        from: window.from.max((s.from + low).saturating_sub(Stack::BIAS)),
+        upto: window.upto.min((s.upto + high).saturating_sub(Stack::BIAS)),
     }
 }
 
-// A number of the table of spans: that it fits 32 bits is known of an argument, and not of an array's element.
-fn wide(x: u32) -> u64
-    ensures { result ≡ x }
-{
-    x as u64
-}
-
-// The least separation of a channel, from least on, that serves with total v, for the strip below in s; one past the last of use if none does.
+// The least separation of a channel, from least on, that serves with total v, for the strip below in s; if none does, one past the last of use, or least if
+// that is greater.
 fn serving(
     limits: &ChannelLimits,
     spans: &StripSpans,
@@ -52,68 +46,52 @@ fn serving(
     s: Span,
     v: usize,
 ) -> usize
-    requires { ServeAsks limits.now last above s.from s.upto }
-    ensures { result ≡ first_serving bias (low_in limits.now) (high_in limits.now) least last above (span_at spans.now) (span s.from s.upto) v }
+    requires { ServeAsks limits.now last above s }
+    ensures { result ≡ first_serving bias (low_in limits.now) (high_in limits.now) least last above (span_at spans.now) s v }
 {
     let end = stop(last, v);
-    let mut q = least;
-    while q < end {
-        let u = lesser((v - q) as u64, above as u64) as usize;
-        let from = wide(spans[FROM][u]);
-        let upto = wide(spans[UPTO][u]);
-        let t = forward(s, limits[LOW][q], limits[HIGH][q], from, upto);
+    for q in least..end {
+        let span = spans.at((v - q).min(above));
+        let t = forward(s, limits.low[q], limits.high[q], span);
         if t.from < t.upto {
             return q;
         }
-        q += 1;
     }
-    q
+    least.max(end)
 }
 
 // The positions in the window of the strip above, for the strip below in s and separation q.
-fn pass_on(limits: &ChannelLimits, last: usize, q: usize, s: Span, window: &Window) -> Span
-    requires { ServeAsks limits.now last 0 s.from s.upto }
-    ensures { span result.from result.upto ≡ cut (window_at window.now) (shift_on bias (low_in limits.now (min q last)) (high_in limits.now (min q last)) (span s.from s.upto)) }
+fn pass_on(limits: &ChannelLimits, last: usize, q: usize, s: Span, window: Span) -> Span
+    requires { ServeAsks limits.now last 0 s }
+    ensures { result ≡ cut window (shift_on bias (low_in limits.now (min q last)) (high_in limits.now (min q last)) s) }
 {
-    let p = lesser(q as u64, last as u64) as usize;
-    forward(
-        s,
-        limits[LOW][p],
-        limits[HIGH][p],
-        window[FROM],
-        window[UPTO],
-    )
+    let p = q.min(last);
+    forward(s, limits.low[p], limits.high[p], window)
 }
 
 // The separations for a total, channel 1 first, from the table of spans; zeros in unused places.
 pub fn separations_for(
-    limits: &StackLimits,
-    plan: &Plan,
-    windows: &Windows,
-    k: usize,
+    given: &Given,
     total: usize,
     table: &SpanTable,
 ) -> [Tracks; Stack::MAX_CHANNELS]
-    requires { SeparateAsks (given limits.now plan.now windows.now) k total table.now }
-    ensures { tracks_of result ≡ store (replicate channels_held 0) 0 (separations bias (window_of (given limits.now plan.now windows.now) 0) (levels (given limits.now plan.now windows.now) 0 k) total) }
+    requires { SeparateAsks given.now total table.now }
+    ensures { tracks_of result ≡ store (replicate channels_held 0) 0 (separations bias (window_of given.now 0) (levels given.now 0 given.now.channels) total) }
 {
+    let k = given.channels;
     let mut ts = [Tracks(0); Stack::MAX_CHANNELS];
-    let mut s = Span {
-        from: windows[0][FROM],
-        upto: windows[0][UPTO],
-    };
+    let mut s = given.windows[0];
     let mut v = total;
-    let mut i = 0;
-    while i + 1 < k {
-        let last = plan[LAST][i];
-        let above = plan[ABOVE][i + 1];
-        let q = serving(&limits[i], &table[i + 1], plan[LEAST][i], last, above, s, v);
+    for i in 0..k - 1 {
+        let limits = &given.limits[i];
+        let least = given.plan.leasts[i];
+        let last = given.plan.lasts[i];
+        let above = given.plan.above[i + 1];
+        let q = serving(limits, &table[i + 1], least, last, above, s, v);
         ts[i] = Tracks(q as u32);
-        let t = pass_on(&limits[i], last, q, s, &windows[i + 1]);
-        s = t;
-        v = difference(v as u64, q as u64) as usize;
-        i += 1;
+        s = pass_on(limits, last, q, s, given.windows[i + 1]);
+        v = v.saturating_sub(q);
     }
-    ts[i] = Tracks(v as u32);
+    ts[k - 1] = Tracks(v as u32);
     ts
 }

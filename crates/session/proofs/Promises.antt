@@ -14,11 +14,9 @@ use Rattle.stack.specs.Stack.{stack}
 use Rattle.text.specs.Text.{refusal, fine, or_else}
 use Rattle.stack_text.specs.StackText.{StackTextRead}
 use Rattle.stack_text.proofs.StackBack.{stack_text_read}
-use Rattle.spread.specs.Answers.{total_told, Totalled, placed_is, PlacedFor, placed, unmet, Placed, spread_refusal, TotalSays, PlacementSays}
+use Rattle.spread.specs.Answers.{TotalResult, PlacementResult, total_told, Totalled, placed_is, PlacedFor, placed, unmet, Placed, spread_refusal, TotalSays, PlacementSays}
 use Rattle.spread.specs.Single.{one_strip}
 use Rattle.spread.proofs.Single.{only_zero, placement_zero, wide_told}
-use Rattle.spread.specs.declared.TotalAnswer.{TotalAnswer}
-use Rattle.reply.specs.declared.PlacementAnswer.{PlacementAnswer}
 use Rattle.answer.proofs.Alone.{placement_alone, placement_met}
 use Rattle.session.specs.Session.{session_refusal, SessionTotalSays, SessionPlacementSays}
 use Rattle.session.specs.Promise.{MadeHeld, GivenThere, SessionAsText, SessionSingle}
@@ -54,23 +52,23 @@ module _ (l s : ℕ) (fits : l ≤ s) where
   unfolding session_refusal stack
   not_refused = sym (wide_told l s fits)
 
-  single_total : (r : TotalAnswer) → SessionTotalSays (one_strip l) s r → total_told fine 0 r
+  single_total : (r : TotalResult) → SessionTotalSays (one_strip l) s r → total_told fine 0 r
   unfolding SessionTotalSays Totalled fine refusal
   single_total r t =
       let u : Totalled 0 fine (one_strip l) s r = rw not_refused at t in
       rw (only_zero l s u.0 u.1.met) at u.2
 
-  placed_zero : (r : PlacementAnswer) → PlacedFor (one_strip l) s 0 r → placed_is fine 0 [] (0 ∷ []) r
+  placed_zero : (r : PlacementResult) → PlacedFor (one_strip l) s 0 r → placed_is fine 0 [] (0 ∷ []) r
   placed_zero r (placed ts xs a p) =
       let same = placement_alone (one_strip l) s 0 ts xs [] (0 ∷ []) a (placement_zero l s fits) in
       rw (same.0, same.1) at p
   placed_zero r (unmet n p) = absurd (n (placement_met (one_strip l) s 0 [] (0 ∷ []) (placement_zero l s fits)))
 
-  placed_other : (v : ℕ) (r : PlacementAnswer) → (v ≡ 0 → ⊥) → PlacedFor (one_strip l) s v r → placed_is (refusal 10 0 0) 0 [] [] r
+  placed_other : (v : ℕ) (r : PlacementResult) → (v ≡ 0 → ⊥) → PlacedFor (one_strip l) s v r → placed_is (refusal 10 0 0) 0 [] [] r
   placed_other v r h (placed ts xs a p) = absurd (h (only_zero l s v (placement_met (one_strip l) s v ts xs a)))
   placed_other v r h (unmet n p) = p
 
-  placed_there : (v : ℕ) (r : PlacementAnswer) → SessionPlacementSays (one_strip l) s v r → PlacedFor (one_strip l) s v r
+  placed_there : (v : ℕ) (r : PlacementResult) → SessionPlacementSays (one_strip l) s v r → PlacedFor (one_strip l) s v r
   unfolding SessionPlacementSays Placed fine refusal
   placed_there v r p =
       let u : Placed 0 fine (one_strip l) s v r = rw not_refused at p in u

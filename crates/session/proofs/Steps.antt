@@ -1,53 +1,42 @@
 -- The laws of the steps: what each is refused for, and the session after it. Assumes nothing.
-use mathlib.Core.Path.{◌≡◌, refl, ap, sym, ◌∙◌}
+use mathlib.Core.Path.{◌≡◌, refl, ap, ◌∙◌}
 use mathlib.Core.Bool.{Bool, true, false, cond}
 use mathlib.Core.List.{List, [], ◌∷◌}
 use Prim.Native.Nat.{ℕ, ◌+◌}
 use lib.Dec.{eqb}
 use lib.ListN.{length}
 use borrow.Author.Tests.{eqb-true, ne_eqb}
-use Rattle.stack.specs.Stack.{free, Strip, strip, Stack, stack}
+use Rattle.std.specs.Prelude.{Result, Ok, Err}
+use Rattle.stack.specs.Stack.{free, Strip, strip, Stack}
 use Rattle.stack.specs.Value.{channel_of}
 use Rattle.stack.specs.declared.Strip.{Strip as StripStruct}
-use Rattle.text.specs.Text.{Refusal, refusal, fine, or_else, entry, in_pairs, misplaced, nets_content, pairs_of, window_in, strip_in}
-use Rattle.text.specs.Outcome.{refusal_of, is_accepted}
-use Rattle.text.specs.declared.Outcome.{Outcome}
-use Rattle.text.proofs.Refusals.{or_else_fine, not_fine, or_else_same, accepted_fine, refused_number}
+use Rattle.stack.specs.declared.Terminals.{Terminals}
+use Rattle.text.specs.Text.{Refusal, refusal, fine, or_else, in_pairs, misplaced, window_in, strip_in}
+use Rattle.text.specs.Outcome.{number_of}
+use Rattle.text.specs.declared.Refused.{Refused}
+use Rattle.text.proofs.Refusals.{not_fine, word_not_fine, fine_number, first_refused, or_else_then}
 use Rattle.kinds.specs.Readers.{PartContent, NetsContent, NetsSupplied}
-use Rattle.kinds.specs.declared.PartRead.{PartRead}
-use Rattle.kinds.specs.declared.NetsRead.{NetsRead}
 use Rattle.kinds.proofs.Nets.{pairs_even}
-use Rattle.session.specs.Session.{nothing, Step, begin, add, off, room_refusal, top_length, length_refusal, nets_refusal, step_refusal, taken, left, after}
-use Rattle.session.specs.Value.{held_of, Stepped, Given, Added}
-use Rattle.session.specs.Parts.{Chosen, PairsRead, TerminalsRead, TopIs, Topped}
+use Rattle.session.specs.Session.{Step, begin, room_refusal, top_length, length_refusal, nets_refusal, step_refusal, taken, left, after}
+use Rattle.session.specs.Value.{held_of, Stepped, Given}
+use Rattle.session.specs.Parts.{Chosen, LengthRead, PairsRead, TerminalsRead, StepMade, AddMade, topped}
 use Rattle.session.specs.declared.Session.{Session}
 use Rattle.session.specs.declared.SessionStep.{SessionStep}
 
 -- A STEP: what is made where nothing is refused, else what is left
-pub stepped : (k : Stack) (a : Step) (o : Outcome) (t u : Session) (r : SessionStep) → Chosen o t u r → refusal_of o ≡ step_refusal k a →
-    ((step_refusal k a).number ≡ 0 → held_of t ≡ taken k a) → held_of u ≡ left k a → Stepped k a r
-unfolding after fine refusal
-stepped k a o t u r c e f g = record { outcome = ap refusal_of c.outcome_is ∙ e; session = go (is_accepted o) refl c.session_is }
-  where
-    number : (refusal_of o).number ≡ (step_refusal k a).number
-    number = ap (λ (x : Refusal). x.number) e
+pub stepped : (k : Stack) (a : Step) (m : Result Session Refused) (u : Session) (r : SessionStep) → StepMade k a m → held_of u ≡ left k a → Chosen m u r → Stepped k a r
+unfolding after
+stepped k a (Ok t) u r s g c =
+    let z : (step_refusal k a).number ≡ 0 = fine_number (step_refusal k a) s.refused in
+    record { outcome = rw c.0 s.refused; session = rw (c.1, z) s.made }
+stepped k a (Err e) u r s g c =
+    record { outcome = rw c.0 s.refused; session = rw (c.1, ne_eqb (step_refusal k a).number 0 (λ z. word_not_fine e (rw (← s.refused) at z))) g }
 
-    go : (v : Bool) → is_accepted o ≡ v → r.session ≡ cond v t u → held_of r.session ≡ cond (eqb (step_refusal k a).number 0) (taken k a) (left k a)
-    go true h s =
-        let zero_there : (step_refusal k a).number ≡ 0 = sym number ∙ ap (λ (x : Refusal). x.number) (accepted_fine o h) in
-        rw (s, zero_there) (f zero_there)
-    go false h s = rw (s, ne_eqb (step_refusal k a).number 0 (λ z. refused_number o h (number ∙ z))) g
-
-pub begun : (k : Stack) (l : ℕ) (p : PartRead) (t u : Session) (r : SessionStep) → PartContent 0 (l ∷ []) p → held_of t ≡ stack (strip p.strip.length.0 free ∷ []) [] →
-    held_of u ≡ nothing → Chosen p.outcome t u r → Stepped k (begin l) r
-unfolding step_refusal length_refusal taken left strip_in window_in
-begun k l p t u r c e g s =
-    stepped k (begin l) p.outcome t u r s c.outcome (λ z. e ∙ ap (λ (x : Strip). stack (strip x.length free ∷ []) []) (c.strip (ap (λ (x : Refusal). x.number) c.outcome ∙ z))) g
-
-pub taken_off : (k : Stack) (o : Outcome) (t u : Session) (r : SessionStep) → refusal_of o ≡ step_refusal k off → held_of t ≡ taken k off → held_of u ≡ k → Chosen o t u r →
-    Stepped k off r
-unfolding left
-taken_off k o t u r e f g s = stepped k off o t u r s e (λ z. f) g
+-- A LENGTH
+pub length_read : (l : ℕ) (r : Result StripStruct Refused) → PartContent 0 (l ∷ []) r → LengthRead l r
+unfolding length_refusal strip_in window_in
+length_read l (Ok x) c = record { refused = c.outcome; length = ap (λ (y : Strip). y.length) c.strip }
+length_read l (Err e) c = record { refused = c.outcome; length = tt }
 
 -- TERMINALS
 even_there : (n : ℕ) → (misplaced 11 0 0 (in_pairs n)).number ≡ 0 → in_pairs n ≡ 0
@@ -58,56 +47,58 @@ even_there n h = go (eqb (in_pairs n) 0) refl h
     go true e h = eqb-true (in_pairs n) 0 e
     go false e h = absurd (not_fine 10 0 (0 + in_pairs n) (refusal 11 0 (0 + in_pairs n)) refl h)
 
-pub terminals_read : (lo hi : ℕ) (vs : List ℕ) (c : ℕ) (odd o : Outcome) (q : NetsRead) → refusal_of odd ≡ misplaced 11 0 0 (in_pairs c) → NetsSupplied lo hi 0 vs c q →
-    refusal_of o ≡ or_else (refusal_of odd) (refusal_of q.outcome) → TerminalsRead lo hi vs c (record { outcome = o; terminals = q.terminals })
-unfolding nets_refusal
-terminals_read lo hi vs c odd o q d n e ns g =
-    let first : refusal_of odd ≡ misplaced 11 0 0 (in_pairs (length ns)) = d ∙ rw g.count_is in
-    let whole : refusal_of o ≡ or_else (misplaced 11 0 0 (in_pairs (length ns))) (refusal_of q.outcome) = rw first at e in
-    record {
-      outcome = whole ∙ or_else_same (misplaced 11 0 0 (in_pairs (length ns))) (refusal_of q.outcome) (nets_content lo hi (entry 0 0 ns)) (λ z. (supplied z).outcome);
-      pairs = λ z. (let both = or_else_fine (misplaced 11 0 0 (in_pairs (length ns))) (refusal_of q.outcome) (ap (λ (x : Refusal). x.number) (sym whole) ∙ z) in (supplied both.0).pairs both.1);
-    }
-  where
-    supplied : (misplaced 11 0 0 (in_pairs (length ns))).number ≡ 0 → NetsContent lo hi 0 ns q
-    supplied z = n ns (record { in_place = g.in_place; count_is = g.count_is; even = pairs_even (length ns) (even_there (length ns) z) })
+module _ (lo hi : ℕ) (vs : List ℕ) (c : ℕ) where
+  of_list : (f : Refusal) (ns : List ℕ) → Given ns vs c → f ≡ misplaced 11 0 0 (in_pairs c) → f ≡ misplaced 11 0 0 (in_pairs (length ns))
+  of_list f ns g e = e ∙ rw g.count_is
 
--- ADD
-module _ (k : Stack) (l : ℕ) (vs : List ℕ) (c : ℕ) (room : Outcome) (p : PartRead) (top : StripStruct) (q : NetsRead) (fits o : Outcome) (t u : Session) (r : SessionStep)
-    (roomy : refusal_of room ≡ room_refusal k) (part : PartContent 0 (l ∷ []) p) (upper : TopIs k top.length.0) (nets : TerminalsRead top.length.0 p.strip.length.0 vs c q)
-    (e : refusal_of fits ≡ or_else (refusal_of room) (refusal_of p.outcome)) (f : refusal_of o ≡ or_else (refusal_of fits) (refusal_of q.outcome))
-    (topped : Topped k (strip p.strip.length.0 free) (channel_of q.terminals) t) (kept : held_of u ≡ k) (s : Chosen o t u r) where
-  fits_is : refusal_of fits ≡ or_else (room_refusal k) (length_refusal l)
-  unfolding length_refusal
-  fits_is = rw (roomy, part.outcome) at e
+  pub odd_refused : (e : Refused) → refusal (number_of e.why) e.line e.field ≡ misplaced 11 0 0 (in_pairs c) → TerminalsRead lo hi vs c (Err e)
+  unfolding nets_refusal
+  odd_refused e q ns g = record { refused = first_refused e _ _ (of_list _ ns g q); pairs = tt }
 
-  -- where there is room and the length is good
-  module _ (z : (or_else (room_refusal k) (length_refusal l)).number ≡ 0) where
-    room_good : (room_refusal k).number ≡ 0
-    room_good = (or_else_fine (room_refusal k) (length_refusal l) z).0
+  module _ (q : fine ≡ misplaced 11 0 0 (in_pairs c)) (n : Result Terminals Refused) (s : NetsSupplied lo hi 0 vs c n) where
+    supplied : (ns : List ℕ) → Given ns vs c → NetsContent lo hi 0 ns n
+    supplied ns g =
+        s ns (record { in_place = g.in_place; count_is = g.count_is; even = pairs_even (length ns) (even_there (length ns) (fine_number _ (of_list fine ns g q))) })
 
-    length_is : p.strip.length.0 ≡ l
-    unfolding length_refusal strip_in window_in
-    length_is =
-        ap (λ (x : Strip). x.length) (part.strip (ap (λ (x : Refusal). x.number) part.outcome ∙ (or_else_fine (room_refusal k) (length_refusal l) z).1))
+    pub nets_read : TerminalsRead lo hi vs c n
+    unfolding nets_refusal
+    nets_read ns g = record { refused = or_else_then _ _ _ (of_list fine ns g q) (supplied ns g).outcome; pairs = (supplied ns g).pairs }
 
-    pairs_read : (ns : List ℕ) → Given ns vs c → PairsRead (top_length k) l ns q
-    pairs_read ns g =
-        let read : PairsRead top.length.0 p.strip.length.0 ns q = nets ns g in
-        rw (upper room_good, length_is) at read
+-- BEGIN
+pub begin_refused : (k : Stack) (l : ℕ) (e : Refused) → LengthRead l (Err e) → StepMade k (begin l) (Err e)
+unfolding step_refusal
+begin_refused k l e r = record { refused = r.refused; made = tt }
 
-  pub added : Added k l vs c r
-  unfolding left taken step_refusal
-  added ns g = stepped k (add l ns) o t u r s whole (λ z. grown z) kept
-    where
-      whole : refusal_of o ≡ step_refusal k (add l ns)
-      whole =
-          (rw fits_is at f)
-          ∙ or_else_same (or_else (room_refusal k) (length_refusal l)) (refusal_of q.outcome) (nets_refusal (top_length k) l ns) (λ z. (pairs_read z ns g).outcome)
+pub begin_made : (k : Stack) (l : ℕ) (x : StripStruct) (s : Session) → LengthRead l (Ok x) → held_of s ≡ taken k (begin x.length.0) → StepMade k (begin l) (Ok s)
+unfolding step_refusal taken
+begin_made k l x s r h = record { refused = r.refused; made = rw r.length at h }
 
-      grown : (step_refusal k (add l ns)).number ≡ 0 → held_of t ≡ taken k (add l ns)
-      grown z =
-          let both = or_else_fine (or_else (room_refusal k) (length_refusal l)) (nets_refusal (top_length k) l ns) z in
-          let read = pairs_read both.0 ns g in
-          let pairs : channel_of q.terminals ≡ pairs_of ns = read.pairs (ap (λ (x : Refusal). x.number) read.outcome ∙ both.1) in
-          topped (room_good both.0) ∙ rw (length_is both.0, pairs)
+-- ADD: the refusals in their order
+module _ (k : Stack) (l : ℕ) (vs : List ℕ) (c : ℕ) where
+  pub no_room : (e : Refused) → refusal (number_of e.why) e.line e.field ≡ room_refusal k → AddMade k l vs c (Err e)
+  unfolding step_refusal
+  no_room e q ns g = record { refused = first_refused e _ _ (first_refused e _ _ q); made = tt }
+
+  module _ (roomy : fine ≡ room_refusal k) where
+    pub no_length : (e : Refused) → LengthRead l (Err e) → AddMade k l vs c (Err e)
+    unfolding step_refusal
+    no_length e r ns g = record { refused = first_refused e _ _ (or_else_then _ _ _ roomy r.refused); made = tt }
+
+    module _ (x : StripStruct) (r : LengthRead l (Ok x)) (top : ℕ) (t : top ≡ top_length k) (q : Result Terminals Refused) (n : TerminalsRead top x.length.0 vs c q) where
+      sized : fine ≡ or_else (room_refusal k) (length_refusal l)
+      sized = or_else_then _ _ _ roomy r.refused
+
+      pairs_read : (ns : List ℕ) → Given ns vs c → PairsRead (top_length k) l ns q
+      pairs_read ns g = rw (t, r.length) at (n ns g)
+
+      pub no_pairs : (e : Refused) → q ≡ Err e → AddMade k l vs c (Err e)
+      unfolding step_refusal
+      no_pairs e h ns g =
+          let m : PairsRead (top_length k) l ns (Err e) = rw h at (pairs_read ns g) in
+          record { refused = or_else_then _ _ _ sized m.refused; made = tt }
+
+      pub taller_made : (ts : Terminals) (s : Session) → q ≡ Ok ts → held_of s ≡ topped k (strip x.length.0 free) (channel_of ts) → AddMade k l vs c (Ok s)
+      unfolding step_refusal taken
+      taller_made ts s h e ns g =
+          let m : PairsRead (top_length k) l ns (Ok ts) = rw h at (pairs_read ns g) in
+          record { refused = or_else_then _ _ _ sized m.refused; made = e ∙ rw (r.length, m.pairs) }

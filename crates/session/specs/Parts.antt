@@ -1,38 +1,48 @@
--- What the parts of a step and of a spread answer. Assumes nothing: these are definitions.
-use Rattle.std.specs.Prelude.{◌≡◌, cond, List, [], ◌∷◌, ◌++◌, map, ℕ}
+-- What the parts of a step answer. Assumes nothing: these are definitions.
+use Rattle.std.specs.Prelude.{◌≡◌, List, [], ◌∷◌, ◌++◌, map, ℕ, Result, Ok, Err, IfOk}
 use Rattle.stack.specs.Stack.{Pair, channel, Strip, Stack, stack}
 use Rattle.stack.specs.Value.{free_strip, channel_of}
 use Rattle.stack.specs.declared.Columns.{Columns}
 use Rattle.stack.specs.declared.Strip.{Strip as StripStruct}
+use Rattle.stack.specs.declared.Terminals.{Terminals}
 use Rattle.text.specs.Text.{pairs_of}
-use Rattle.text.specs.Outcome.{refusal_of, is_accepted}
-use Rattle.text.specs.declared.Outcome.{Outcome}
-use Rattle.kinds.specs.declared.NetsRead.{NetsRead}
-use Rattle.session.specs.Session.{room_refusal, top_length, nets_refusal}
+use Rattle.text.specs.Outcome.{refusal_of}
+use Rattle.text.specs.declared.Refused.{Refused}
+use Rattle.session.specs.Session.{Step, add, length_refusal, nets_refusal, step_refusal, taken}
 use Rattle.session.specs.Value.{held_of, Given}
 use Rattle.session.specs.declared.Session.{Session}
 use Rattle.session.specs.declared.SessionStep.{SessionStep}
 
--- the session that a step makes where nothing is refused, else the one that it leaves
-pub record Chosen (o : Outcome) (taken left : Session) (r : SessionStep) : Type 0 where
-  pub outcome_is : r.outcome ≡ o
-  pub session_is : r.session ≡ cond (is_accepted o) taken left
+-- the session that a step makes, or its refusal and the session that it leaves
+abbrev pub Chosen : (made : Result Session Refused) → (left : Session) → SessionStep → Type 0
+Chosen (Ok s) left r = (r.outcome ≡ Ok tt) × (r.session ≡ s)
+Chosen (Err e) left r = (r.outcome ≡ Err e) × (r.session ≡ left)
+
+-- a strip of the length that is given, or its refusal
+pub record LengthRead (l : ℕ) (r : Result StripStruct Refused) : Type 0 where
+  pub refused : refusal_of r ≡ length_refusal l
+  pub length : IfOk r (λ s. s.length.0 ≡ l)
 
 -- the pairs of the terminals that are given, or their refusal
-pub record PairsRead (lower upper : ℕ) (ns : List ℕ) (r : NetsRead) : Type 0 where
-  pub outcome : refusal_of r.outcome ≡ nets_refusal lower upper ns
-  pub pairs : (refusal_of r.outcome).number ≡ 0 → channel_of r.terminals ≡ pairs_of ns
+pub record PairsRead (lower upper : ℕ) (ns : List ℕ) (r : Result Terminals Refused) : Type 0 where
+  pub refused : refusal_of r ≡ nets_refusal lower upper ns
+  pub pairs : IfOk r (λ t. channel_of t ≡ pairs_of ns)
 
-abbrev pub TerminalsRead : (lower upper : ℕ) → (values : List ℕ) → (count : ℕ) → NetsRead → Type 0
+abbrev pub TerminalsRead : (lower upper : ℕ) → (values : List ℕ) → (count : ℕ) → Result Terminals Refused → Type 0
 TerminalsRead lo hi vs c r = (ns : List ℕ) → Given ns vs c → PairsRead lo hi ns r
+
+-- what is held after a step, or its refusal
+pub record StepMade (k : Stack) (a : Step) (r : Result Session Refused) : Type 0 where
+  pub refused : refusal_of r ≡ step_refusal k a
+  pub made : IfOk r (λ s. held_of s ≡ taken k a)
+
+abbrev pub AddMade : Stack → (length : ℕ) → (values : List ℕ) → (count : ℕ) → Result Session Refused → Type 0
+AddMade k l vs c r = (ns : List ℕ) → Given ns vs c → StepMade k (add l ns) r
 
 -- the free strips of these lengths
 abbrev pub free_strips : List Columns → List StripStruct
 free_strips ls = map (λ (l : Columns). free_strip l.0) ls
 
--- where there is room for one strip more: the top strip's length, and the session with one strip on it
-abbrev pub TopIs : Stack → (length : ℕ) → Type 0
-TopIs k l = (room_refusal k).number ≡ 0 → l ≡ top_length k
-
-abbrev pub Topped : Stack → Strip → List Pair → Session → Type 0
-Topped k l ps r = (room_refusal k).number ≡ 0 → held_of r ≡ stack (k.strips ++ (l ∷ [])) (k.channels ++ (channel ps 0 ∷ []))
+-- one strip more, and the channel below it
+abbrev pub topped : Stack → Strip → List Pair → Stack
+topped k l ps = stack (k.strips ++ (l ∷ [])) (k.channels ++ (channel ps 0 ∷ []))

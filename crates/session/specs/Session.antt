@@ -4,9 +4,7 @@ use Rattle.std.specs.Prelude.{cond, List, [], ◌∷◌, ◌++◌, ℕ, ◌-◌,
 use Rattle.stack.specs.Stack.{Stack, stack, channel, free, strip, no_strip}
 use Rattle.text.specs.Text.{Refusal, refusal, fine, or_else, entry, in_pairs, misplaced, part_content, nets_content, pairs_of}
 use Rattle.reply.specs.Refusals.{narrow_refusal}
-use Rattle.reply.specs.declared.PlacementAnswer.{PlacementAnswer}
-use Rattle.spread.specs.Answers.{TotalOr, PlacementOr}
-use Rattle.spread.specs.declared.TotalAnswer.{TotalAnswer}
+use Rattle.spread.specs.Answers.{TotalResult, PlacementResult, TotalOr, PlacementOr}
 
 -- what a session HOLDS is a stack; where it is empty, one without strips
 unfoldable pub nothing : Stack
@@ -62,8 +60,8 @@ pub data Made : Stack → Type 0 where
 unfoldable pub session_refusal : Stack → (s : ℕ) → Refusal
 session_refusal k s = cond (eqb (length k.strips) 0) (refusal 13 0 0) (narrow_refusal k s)
 
-unfoldable pub SessionTotalSays : Stack → (s : ℕ) → TotalAnswer → Type 0
+unfoldable pub SessionTotalSays : Stack → (s : ℕ) → TotalResult → Type 0
 SessionTotalSays k s r = TotalOr (session_refusal k s) k s r
 
-unfoldable pub SessionPlacementSays : Stack → (s v : ℕ) → PlacementAnswer → Type 0
+unfoldable pub SessionPlacementSays : Stack → (s v : ℕ) → PlacementResult → Type 0
 SessionPlacementSays k s v r = PlacementOr (session_refusal k s) k s v r

@@ -2,21 +2,21 @@
 // the same stack.
 #![tactic(auto)]
 
-ghost use Rattle.std.specs.Prelude.{◌≡◌, [], ◌∷◌, ◌≤◌};
+ghost use Rattle.std.specs.Prelude.{◌≡◌, [], ◌∷◌, ◌≤◌, ◌<◌};
 ghost use Rattle.stack.specs.Stack.{free, strip, stack};
 ghost use Rattle.stack.specs.Value.{free_strip, channel_of, stack_of};
 ghost use Rattle.text.specs.Outcome.{refusal_of};
 ghost use Rattle.spread.specs.Best.{BestTotal, BestPlacement};
-ghost use Rattle.session.specs.Session.{begin, off, nothing, room_refusal, step_refusal, taken, Made, session_refusal, SessionTotalSays, SessionPlacementSays};
+ghost use Rattle.session.specs.Session.{begin, off, nothing, room_refusal, top_length, Made, session_refusal, SessionTotalSays, SessionPlacementSays};
 ghost use Rattle.session.specs.Value.{held_of, Stepped, Added};
-ghost use Rattle.session.specs.Parts.{Chosen, TerminalsRead, free_strips, TopIs, Topped};
+ghost use Rattle.session.specs.Parts.{Chosen, TerminalsRead, StepMade, AddMade, topped};
 
-use kinds::{NetsRead, nets_content, part_content};
+use kinds::{nets_content, part_content};
 use lines::KEPT;
-use reply::{PlacementAnswer, refused_placement};
-use spread::{TotalAnswer, placement_of, single_placement, single_total, total_of};
-use stack::{Columns, Stack, Strip, Terminals, Tracks, columns_stored, terminals_stored};
-use text::{Counts, Outcome, Refusal, count_outcome};
+use solver::Placement;
+use spread::{placement_of, single_placement, single_total, total_of};
+use stack::{Columns, Stack, Strip, Terminals, Tracks};
+use text::{Counts, Refusal, Refused, test_count};
 
 // One to nine free strips, strip 0 at the bottom, as their lengths, and the channels between them, or none. Places past them are unused.
 #[derive(Clone, Copy)]
@@ -26,41 +26,42 @@ pub struct Session {
     pub channels: [Terminals; Stack::MAX_CHANNELS],
 }
 
-// What a step is refused for, and the session after it.
+// What a step is refused for, if it is, and the session after it.
 #[derive(Clone, Copy)]
 pub struct SessionStep {
-    pub outcome: Outcome,
+    pub outcome: Result<(), Refused>,
     pub session: Session,
 }
 
 impl SessionStep {
-    // The session that a step makes where nothing is refused, else the one that it leaves.
-    fn new(outcome: Outcome, taken: Session, left: Session) -> SessionStep
-        ensures { Chosen outcome taken left result }
+    // The session that a step makes, or why not, and then the session that it leaves.
+    fn new(made: Result<Session, Refused>, left: Session) -> SessionStep
+        ensures { Chosen made left result }
     {
-        if outcome.is_accepted() {
-            return SessionStep {
-                outcome,
-                session: taken,
-            };
-        }
-        SessionStep {
-            outcome,
-            session: left,
+        match made {
+            Ok(session) => SessionStep {
+                outcome: Ok(()),
+                session,
+            },
+            Err(why) => SessionStep {
+                outcome: Err(why),
+                session: left,
+            },
         }
     }
 }
 
-// The terminals between two strips, or why not: an odd list, then as in a NETS line.
-fn read_terminals(values: &[u32; KEPT], count: u16, lower: Strip, upper: Strip) -> NetsRead
-    ensures { TerminalsRead lower.length.0 upper.length.0 values.now count result }
+// The terminals between two strips of these lengths, or why not: an odd list, then as in a NETS line.
+fn read_terminals(
+    values: &[u32; KEPT],
+    count: u16,
+    lower: Columns,
+    upper: Columns,
+) -> Result<Terminals, Refused>
+    ensures { TerminalsRead lower.0 upper.0 values.now count result }
 {
-    let odd = count_outcome(Counts::InPairs, count, 0);
-    let nets = nets_content(values, count as usize, 0, lower, upper);
-    let found = nets.outcome;
-    let terminals = nets.terminals;
-    let outcome = odd.or_else(found);
-    NetsRead { outcome, terminals }
+    test_count(Counts::InPairs, count, 0)?;
+    nets_content(values, count as usize, 0, lower, upper)
 }
 
 // The free strip of a length.
@@ -69,21 +70,8 @@ fn free(length: Columns) -> Strip
 {
     Strip {
         length,
-        held: false,
-        least: Columns(0),
-        greatest: Columns(0),
+        window: None,
     }
-}
-
-// The free strips of these lengths.
-fn free_strips(lengths: [Columns; Stack::STRIPS]) -> [Strip; Stack::STRIPS]
-    ensures { result ≡ free_strips lengths }
-{
-    let mut strips = [free(Columns(0)); Stack::STRIPS];
-    for i in 0..Stack::STRIPS {
-        strips[i] = free(lengths[i]);
-    }
-    strips
 }
 
 impl Session {
@@ -97,173 +85,130 @@ impl Session {
         }
     }
 
-    // A single strip.
-    fn single(length: Columns) -> Session
-        ensures { held_of result ≡ stack (strip length.0 free ∷ []) [] }
+    // A single strip, or why not.
+    fn single(length: u32) -> Result<Session, Refused>
+        ensures { StepMade nothing (begin length) result }
     {
-        Session {
+        let strip = part_content(length, 0)?;
+        Ok(Session {
             count: 1,
-            lengths: [length; Stack::STRIPS],
+            lengths: [strip.length; Stack::STRIPS],
             channels: [Terminals::none(); Stack::MAX_CHANNELS],
-        }
+        })
     }
 
     // Begin with one strip, whatever is held; where it is refused, the session is empty.
     pub fn begin(self, length: u32) -> SessionStep
         ensures { Stepped (held_of self) (begin length) result }
     {
-        let part = part_content(length, 0);
-        let outcome = part.outcome;
-        let strip = part.strip;
-        let begun = Session::single(strip.length);
         let none = Session::empty();
-        SessionStep::new(outcome, begun, none)
+        SessionStep::new(Session::single(length), none)
     }
 
     // Whether there is room for one strip more.
-    fn room(self) -> Outcome
-        ensures { refusal_of result ≡ room_refusal (held_of self) }
+    fn room(&self) -> Result<(), Refused>
+        ensures { refusal_of result ≡ room_refusal (held_of self.now) }
     {
         if self.count == 0 {
-            return Outcome::refused(Refusal::Empty, 0, 0);
+            return Err(Refused::new(Refusal::Empty, 0, 0));
         }
         if Stack::STRIPS <= self.count {
-            return Outcome::refused(Refusal::Crowd, 0, 0);
+            return Err(Refused::new(Refusal::Crowd, 0, 0));
         }
-        Outcome::Accepted
+        Ok(())
     }
 
-    // The top strip's length where there is room for one more, else any.
-    fn top(self) -> Columns
-        ensures { TopIs (held_of self) result.0 }
+    // The top strip's length.
+    fn top(&self) -> Columns
+        requires { (1 ≤ self.now.count) × (self.now.count ≤ 9) }
+        ensures { result.0 ≡ top_length (held_of self.now) }
     {
-        let n = self.count;
-        if n < 1 {
-            return self.lengths[0];
-        }
-        if Stack::STRIPS < n {
-            return self.lengths[0];
-        }
-        self.lengths[n - 1]
+        self.lengths[self.count - 1]
     }
 
-    // The session with one strip more, where there is room for it.
-    fn with_top(self, length: Columns, terminals: Terminals) -> Session
-        ensures { Topped (held_of self) (strip length.0 free) (channel_of terminals) result }
+    // The session with one strip more.
+    fn with_top(mut self, length: Columns, terminals: Terminals) -> Session
+        requires { (1 ≤ self.count) × (self.count < 9) }
+        ensures { held_of result ≡ topped (held_of self) (strip length.0 free) (channel_of terminals) }
     {
         let n = self.count;
-        if n < 1 {
-            return self;
-        }
-        if Stack::STRIPS <= n {
-            return self;
-        }
-        let old_lengths = self.lengths;
-        let old_channels = self.channels;
-        let lengths = columns_stored(old_lengths, n, length);
-        let channels = terminals_stored(old_channels, n - 1, terminals);
-        Session {
-            count: n + 1,
-            lengths,
-            channels,
-        }
+        self.lengths[n] = length;
+        self.channels[n - 1] = terminals;
+        self.count = n + 1;
+        self
+    }
+
+    // The session with one strip more, or why not.
+    fn taller(self, length: u32, terminals: &[u32; KEPT], count: u16) -> Result<Session, Refused>
+        ensures { AddMade (held_of self) length terminals.now count result }
+    {
+        self.room()?;
+        let strip = part_content(length, 0)?;
+        let pairs = read_terminals(terminals, count, self.top(), strip.length)?;
+        Ok(self.with_top(strip.length, pairs))
     }
 
     // Add a strip on top with the channel below it: so many terminals, of which the first stand in these places. Where it is refused, the session stays.
     pub fn add(self, length: u32, terminals: &[u32; KEPT], count: u16) -> SessionStep
         ensures { Added (held_of self) length terminals.now count result }
     {
-        let room = self.room();
-        let part = part_content(length, 0);
-        let sized = part.outcome;
-        let strip = part.strip;
-        let nets = read_terminals(terminals, count, free(self.top()), strip);
-        let wired = nets.outcome;
-        let pairs = nets.terminals;
-        let fits = room.or_else(sized);
-        let outcome = fits.or_else(wired);
-        let taller = self.with_top(strip.length, pairs);
-        SessionStep::new(outcome, taller, self)
+        SessionStep::new(self.taller(length, terminals, count), self)
     }
 
-    // Whether there is a strip to take off.
-    fn spare(self) -> Outcome
-        ensures { refusal_of result ≡ step_refusal (held_of self) off }
+    // The session without its top strip, or why not.
+    fn lower(mut self) -> Result<Session, Refused>
+        ensures { StepMade (held_of self) off result }
     {
         if self.count <= 1 {
-            return Outcome::refused(Refusal::Empty, 0, 0);
+            return Err(Refused::new(Refusal::Empty, 0, 0));
         }
-        Outcome::Accepted
-    }
-
-    // The session without its top strip, where there is one.
-    fn without_top(self) -> Session
-        ensures { held_of result ≡ taken (held_of self) off }
-    {
-        let mut lower = self;
-        if 0 < self.count {
-            lower.count = self.count - 1;
-        }
-        lower
+        self.count -= 1;
+        Ok(self)
     }
 
     // Take the top strip off, with the channel below it. Where it is refused, the session stays.
     pub fn take_off(self) -> SessionStep
         ensures { Stepped (held_of self) off result }
     {
-        let outcome = self.spare();
-        let lower = self.without_top();
-        SessionStep::new(outcome, lower, self)
+        SessionStep::new(self.lower(), self)
     }
 
     // The strips and channels as a stack, every floor 0.
-    fn stack(self) -> Stack
-        requires { 1 ≤ self.count }
-        ensures { stack_of result ≡ held_of self }
+    fn stack(&self) -> Stack
+        requires { 1 ≤ self.now.count }
+        ensures { stack_of result ≡ held_of self.now }
     {
-        let lengths = self.lengths;
-        let channels = self.channels;
-        let strips = free_strips(lengths);
         Stack {
             count: self.count - 1,
-            strips,
-            channels,
+            strips: self.lengths.map(free),
+            channels: self.channels,
             floors: [Tracks(0); Stack::MAX_CHANNELS],
         }
     }
 
     // The least total in a spread of a session that steps have made, or 13, then 7.
-    pub fn least_total(self, spread: u32) -> TotalAnswer
-        requires { Made (held_of self) }
-        ensures session_total_says { SessionTotalSays (held_of self) spread result }
-        ensures best_total { BestTotal (session_refusal (held_of self) spread) (held_of self) spread result }
+    pub fn least_total(&self, spread: u32) -> Result<Tracks, Refused>
+        requires { Made (held_of self.now) }
+        ensures session_total_says { SessionTotalSays (held_of self.now) spread result }
+        ensures best_total { BestTotal (session_refusal (held_of self.now) spread) (held_of self.now) spread result }
     {
-        let n = self.count;
-        if n == 0 {
-            return TotalAnswer {
-                outcome: Outcome::refused(Refusal::Empty, 0, 0),
-                total: Tracks(0),
-            };
+        match self.count {
+            0 => Err(Refused::new(Refusal::Empty, 0, 0)),
+            1 => single_total(free(self.lengths[0]), spread),
+            _ => total_of(&self.stack(), spread),
         }
-        if n == 1 {
-            return single_total(free(self.lengths[0]), spread);
-        }
-        total_of(Outcome::Accepted, self.stack(), spread)
     }
 
     // The placement in a spread for a stated total of a session that steps have made, or 13, then 7, then 10.
-    pub fn place_total(self, spread: u32, total: Tracks) -> PlacementAnswer
-        requires { Made (held_of self) }
-        ensures session_placement_says { SessionPlacementSays (held_of self) spread total.0 result }
-        ensures best_placement { BestPlacement (session_refusal (held_of self) spread) (held_of self) spread total.0 result }
+    pub fn place_total(&self, spread: u32, total: Tracks) -> Result<Placement, Refused>
+        requires { Made (held_of self.now) }
+        ensures session_placement_says { SessionPlacementSays (held_of self.now) spread total.0 result }
+        ensures best_placement { BestPlacement (session_refusal (held_of self.now) spread) (held_of self.now) spread total.0 result }
     {
-        let n = self.count;
-        if n == 0 {
-            return refused_placement(Outcome::refused(Refusal::Empty, 0, 0));
+        match self.count {
+            0 => Err(Refused::new(Refusal::Empty, 0, 0)),
+            1 => single_placement(free(self.lengths[0]), spread, total),
+            _ => placement_of(&self.stack(), spread, total),
         }
-        if n == 1 {
-            return single_placement(free(self.lengths[0]), spread, total);
-        }
-        placement_of(Outcome::Accepted, self.stack(), spread, total)
     }
 }

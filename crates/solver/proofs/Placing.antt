@@ -7,10 +7,12 @@ use lib.ListN.{length, replicate}
 use Rattle.numbers.specs.Lists.{padded}
 use Rattle.stack.specs.Value.{tracks_of, columns_of}
 use Rattle.stack.specs.Sizes.{channels_held, strips_held}
-use Rattle.spans.specs.Spans.{Span, low_at}
+use Rattle.spans.specs.Spans.{low_at}
+use Rattle.spans.specs.declared.Span.{Span}
 use Rattle.spans.specs.Solver.{forward, least_serving, fixed, Level, separations, positions_on, positions}
 use Rattle.spans.specs.Placed.{Chosen}
-use Rattle.arrays.specs.Arrays.{bias, Given, window_of, levels, store, taken}
+use Rattle.arrays.specs.Arrays.{bias, window_of, levels, store, taken}
+use Rattle.arrays.specs.declared.Given.{Given}
 use Rattle.positions.specs.Positions.{PositionAsks}
 use Rattle.solver.specs.Placing.{separations_of, PlaceAsks, PlacementIs}
 use Rattle.solver.specs.declared.Placement.{Placement}
@@ -35,27 +37,27 @@ positions_on_length b x [] ts e = refl
 positions_on_length b x (c ∷ cs) [] e = absurd (omega arith)
 positions_on_length b x (c ∷ cs) (t ∷ ts) e = ap suc (positions_on_length b (max (fixed b c.window cs ts).from (x + low_at c.limits t - b)) cs ts (omega arith))
 
-module _ (g : Given) (k total : ℕ) (a : PlaceAsks g k total) where
-  separations_count : length (separations_of g k total) ≡ k
-  separations_count = separations_length bias (window_of g 0) (levels g 0 k) total ∙ levels_length g 0 k
+module _ (g : Given) (total : ℕ) (a : PlaceAsks g total) where
+  separations_count : length (separations_of g total) ≡ g.channels
+  separations_count = separations_length bias (window_of g 0) (levels g 0 g.channels) total ∙ levels_length g 0 g.channels
 
-  stored : (ts : List ℕ) → ts ≡ store (replicate channels_held 0) 0 (separations_of g k total) → ts ≡ padded channels_held (separations_of g k total)
-  stored ts e = e ∙ store_padded channels_held (separations_of g k total) (omega (arith, separations_count, a.stack.channels))
+  stored : (ts : List ℕ) → ts ≡ store (replicate channels_held 0) 0 (separations_of g total) → ts ≡ padded channels_held (separations_of g total)
+  stored ts e = e ∙ store_padded channels_held (separations_of g total) (omega (arith, separations_count, a.stack.channels))
 
-  read_back : (ts : List ℕ) → ts ≡ store (replicate channels_held 0) 0 (separations_of g k total) → taken ts 0 k ≡ separations_of g k total
-  read_back ts e = rw (stored ts e) (taken_padded channels_held k (separations_of g k total) separations_count)
+  read_back : (ts : List ℕ) → ts ≡ store (replicate channels_held 0) 0 (separations_of g total) → taken ts 0 g.channels ≡ separations_of g total
+  read_back ts e = rw (stored ts e) (taken_padded channels_held g.channels (separations_of g total) separations_count)
 
-  pub position_asks : (ts : List ℕ) → ts ≡ store (replicate channels_held 0) 0 (separations_of g k total) → PositionAsks g k ts
-  position_asks ts e = go (chosen bias (window_of g 0) (levels g 0 k) total a.widening a.exactly)
+  pub position_asks : (ts : List ℕ) → ts ≡ store (replicate channels_held 0) 0 (separations_of g total) → PositionAsks g ts
+  position_asks ts e = go (chosen bias (window_of g 0) (levels g 0 g.channels) total a.widening a.exactly)
     where
-      go : {x : ℕ} {ys : List ℕ} → Chosen bias (window_of g 0) (levels g 0 k) total (separations_of g k total) x ys → PositionAsks g k ts
+      go : {x : ℕ} {ys : List ℕ} → Chosen bias (window_of g 0) (levels g 0 g.channels) total (separations_of g total) x ys → PositionAsks g ts
       go {x} {ys} c = record { stack = a.stack; narrow = a.narrow; x = x; ys = ys; placed = rw (read_back ts e) c.is_placed }
 
-  positions_count : length (positions bias (window_of g 0) (levels g 0 k) (separations_of g k total)) ≡ suc k
+  positions_count : length (positions bias (window_of g 0) (levels g 0 g.channels) (separations_of g total)) ≡ suc g.channels
   unfolding positions
-  positions_count = ap suc (positions_on_length bias _ (levels g 0 k) (separations_of g k total) (separations_length bias (window_of g 0) (levels g 0 k) total) ∙ levels_length g 0 k)
+  positions_count = ap suc (positions_on_length bias _ (levels g 0 g.channels) (separations_of g total) (separations_length bias (window_of g 0) (levels g 0 g.channels) total) ∙ levels_length g 0 g.channels)
 
-  pub placement_is : (r : Placement) → r.total.0 ≡ total → tracks_of r.separations ≡ store (replicate channels_held 0) 0 (separations_of g k total) → columns_of r.positions ≡ store (replicate strips_held 0) 0 (positions bias (window_of g 0) (levels g 0 k) (taken (tracks_of r.separations) 0 k)) → PlacementIs g k total r
+  pub placement_is : (r : Placement) → r.total.0 ≡ total → tracks_of r.separations ≡ store (replicate channels_held 0) 0 (separations_of g total) → columns_of r.positions ≡ store (replicate strips_held 0) 0 (positions bias (window_of g 0) (levels g 0 g.channels) (taken (tracks_of r.separations) 0 g.channels)) → PlacementIs g total r
   placement_is r t s p =
       record {
         total_is = t;

@@ -1,11 +1,10 @@
 // The placement of a stack for a total: its separations, and then its positions.
 #![tactic(auto)]
 
-ghost use Rattle.arrays.specs.Arrays.{given};
 ghost use Rattle.separations.specs.Separations.{SeparateAsks};
 ghost use Rattle.solver.specs.Placing.{PlaceAsks, PlacementIs};
 
-use arrays::{Plan, SpanTable, StackLimits, Windows};
+use arrays::{Given, SpanTable};
 use positions::positions_for;
 use separations::separations_for;
 use stack::{Columns, Stack, Tracks};
@@ -19,22 +18,15 @@ pub struct Placement {
 }
 
 // The placement for a total that can be had, from the table of spans.
-pub fn place_in(
-    limits: &StackLimits,
-    plan: &Plan,
-    windows: &Windows,
-    k: usize,
-    total: usize,
-    table: &SpanTable,
-) -> Placement
-    requires { PlaceAsks (given limits.now plan.now windows.now) k total × SeparateAsks (given limits.now plan.now windows.now) k total table.now }
-    ensures { PlacementIs (given limits.now plan.now windows.now) k total result }
+pub fn place_in(given: &Given, total: usize, table: &SpanTable) -> Placement
+    requires { PlaceAsks given.now total × SeparateAsks given.now total table.now }
+    ensures { PlacementIs given.now total result }
 {
-    let ts = separations_for(limits, plan, windows, k, total, table);
-    let xs = positions_for(limits, plan, windows, k, ts);
+    let separations = separations_for(given, total, table);
+    let positions = positions_for(given, &separations);
     Placement {
         total: Tracks(total as u32),
-        separations: ts,
-        positions: xs,
+        separations,
+        positions,
     }
 }

@@ -8,7 +8,8 @@ use Prim.Native.Nat.{ℕ, suc, ◌+◌, ◌-◌, ◌≤◌, ◌<◌, min, max}
 use native.Mathlib.Omega.{arith}
 use Rattle.stack.specs.Stack.{sum}
 use Rattle.numbers.proofs.Orders.{le_or_lt}
-use Rattle.spans.specs.Spans.{Span, span, In, Fits, last, low_at, high_at}
+use Rattle.spans.specs.Spans.{span, In, Fits, last, low_at, high_at}
+use Rattle.spans.specs.declared.Span.{Span}
 use Rattle.spans.specs.Solver.{Level, least_open, most, start, stop, cell, back}
 use Rattle.spans.specs.Placed.{Placed, alone, under, Can, Widens, Widening, none, more}
 use Rattle.spans.proofs.Limits.{fits_wider, fits_capped, least_open_least, open_on}

@@ -5,7 +5,7 @@ use mathlib.Core.List.{List, [], ◌∷◌}
 use Prim.Native.Nat.{ℕ}
 use native.Mathlib.Omega.{arith}
 use Rattle.stack.specs.Stack.{sum, not_later}
-use Rattle.spans.specs.Spans.{Span}
+use Rattle.spans.specs.declared.Span.{Span}
 use Rattle.spans.specs.Solver.{Level, separations, lowest, positions_on}
 use Rattle.spans.specs.Placed.{Placed, alone, Exactly, Widening, Chosen}
 use Rattle.spans.proofs.Separations.{FirstWith, separations_first}

@@ -10,7 +10,8 @@ use native.Mathlib.Omega.{arith}
 use lib.Dec.{ltb}
 use borrow.Author.Tests.{ltb-true, ltb-false, lt-ltb, le-ltb}
 use Rattle.numbers.proofs.Orders.{le_or_lt}
-use Rattle.spans.specs.Spans.{Span, last, low_at, high_at, nonempty}
+use Rattle.spans.specs.Spans.{last, low_at, high_at, nonempty}
+use Rattle.spans.specs.declared.Span.{Span}
 use Rattle.spans.specs.Solver.{Level, least_open, most, start, stop, cell, back, first, first_total, least_total}
 use Rattle.spans.specs.Jump.{min_if, max_if, nearest, furthest, between, near_of, reach_of, cell_short, short_at}
 use Rattle.spans.specs.Growth.{shifted, furthest_grow, lesser_grow, growing, lack_if, end_lack, grow_of, cell_grow, both_lack, cell_lack, back_grow, lack_at, Grows, WindowGrows, Wider, Lows, Near, GrowBelow, AllGrow, NoneLacks}

@@ -3,7 +3,8 @@ use mathlib.Core.Path.{◌≡◌, refl, ap, ◌∙◌}
 use mathlib.Core.Bool.{Bool, true, false}
 use Prim.Native.Nat.{ℕ, zero, suc, ◌+◌, ◌*◌, ◌-◌, ◌≤◌, min}
 use native.Mathlib.Omega.{arith}
-use Rattle.spans.specs.Spans.{Span, span, cut, nonempty, join_if, gather}
+use Rattle.spans.specs.Spans.{span, cut, nonempty, join_if, gather}
+use Rattle.spans.specs.declared.Span.{Span}
 use Rattle.spans.specs.Solver.{start, stop, cell}
 use Rattle.spans.specs.Jump.{min_if, max_if, nearest, furthest, between, near_of, reach_of}
 

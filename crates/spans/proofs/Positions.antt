@@ -6,7 +6,8 @@ use mathlib.Core.List.{List, [], ◌∷◌}
 use Prim.Native.Nat.{ℕ, ◌+◌, ◌-◌, max}
 use native.Mathlib.Omega.{arith}
 use Rattle.stack.specs.Stack.{not_later}
-use Rattle.spans.specs.Spans.{Span, In, Fits, low_at, high_at}
+use Rattle.spans.specs.Spans.{In, Fits, low_at, high_at}
+use Rattle.spans.specs.declared.Span.{Span}
 use Rattle.spans.specs.Solver.{Level, fixed, lowest, positions_on}
 use Rattle.spans.specs.Placed.{Placed, alone, under}
 use Rattle.spans.proofs.Order.{not_later_step}

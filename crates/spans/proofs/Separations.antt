@@ -6,7 +6,8 @@ use mathlib.Core.List.{List, [], ◌∷◌}
 use Prim.Native.Nat.{ℕ, ◌+◌, ◌-◌, ◌≤◌, ◌<◌, min}
 use native.Mathlib.Omega.{arith}
 use Rattle.stack.specs.Stack.{sum, not_later}
-use Rattle.spans.specs.Spans.{Span, In, Fits, last, low_at, high_at, cut, shift_on}
+use Rattle.spans.specs.Spans.{In, Fits, last, low_at, high_at, cut, shift_on}
+use Rattle.spans.specs.declared.Span.{Span}
 use Rattle.spans.specs.Solver.{Level, least_open, most, back, serves, first_serving, least_serving, forward, separations}
 use Rattle.spans.specs.Placed.{Placed, alone, under, Can, Widens, Widening, none, more}
 use Rattle.spans.proofs.Order.{not_later_step}

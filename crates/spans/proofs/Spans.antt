@@ -7,7 +7,8 @@ use Prim.Native.Nat.{ℕ, zero, suc, ◌+◌, ◌-◌, ◌≤◌, ◌<◌, min, 
 use native.Mathlib.Omega.{arith}
 use borrow.Author.Tests.{ltb-true, lt-ltb}
 use Rattle.numbers.proofs.Orders.{le_or_lt, lt_or_eq}
-use Rattle.spans.specs.Spans.{Span, In, Fits, cut, shift_back, shift_on, nonempty, join_if, gather}
+use Rattle.spans.specs.Spans.{In, Fits, cut, shift_back, shift_on, nonempty, join_if, gather}
+use Rattle.spans.specs.declared.Span.{Span}
 
 -- a position of the other strip, within the limit
 pub record Partner (b l r : ℕ) (s : Span) (x : ℕ) : Type 0 where

@@ -10,7 +10,8 @@ use lib.Dec.{leb}
 use borrow.Author.Tests.{le-leb, lt-leb}
 use Rattle.numbers.proofs.Orders.{le_or_lt}
 use Rattle.stack.specs.Stack.{sum}
-use Rattle.spans.specs.Spans.{Span, In, nonempty}
+use Rattle.spans.specs.Spans.{In, nonempty}
+use Rattle.spans.specs.declared.Span.{Span}
 use Rattle.spans.specs.Solver.{Level, most, back, first_total, least_total}
 use Rattle.spans.specs.Placed.{Placed, under, Can, Exactly, Widening, more}
 use Rattle.spans.proofs.First.{first_holds, first_least}

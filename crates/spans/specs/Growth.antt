@@ -2,7 +2,8 @@
 -- Each span has a GROWING END beside its end: in a spread wider by d its end is at most the greater of its end and the growing end moved on by d. Growing
 -- ends are raised by the bias b; 0 stands for none. See proofs/Growths.antt.
 use Rattle.std.specs.Prelude.{◌≡◌, Bool, true, false, List, [], ◌∷◌, ℕ, zero, suc, ◌+◌, ◌*◌, ◌-◌, ◌≤◌, ◌<◌, max, ltb}
-use Rattle.spans.specs.Spans.{Span, last, low_at, high_at, nonempty}
+use Rattle.spans.specs.Spans.{last, low_at, high_at, nonempty}
+use Rattle.spans.specs.declared.Span.{Span}
 use Rattle.spans.specs.Solver.{Level, least_open, most, start, stop, back}
 use Rattle.spans.specs.Jump.{max_if, near_of, reach_of}
 

@@ -1,7 +1,8 @@
 -- By how much a span that is empty is short, if every window's end grows with the spread. Assumes nothing: these are definitions.
 -- A cell of the solver is taken apart into its nearest start and its furthest end. See specs/Growth.antt for windows whose ends do not all grow.
 use Rattle.std.specs.Prelude.{Bool, true, false, List, ℕ, zero, suc, ◌+◌, ◌*◌, ◌-◌, min, max}
-use Rattle.spans.specs.Spans.{Span, span, last, low_at, high_at, nonempty}
+use Rattle.spans.specs.Spans.{span, last, low_at, high_at, nonempty}
+use Rattle.spans.specs.declared.Span.{Span}
 use Rattle.spans.specs.Solver.{Level, least_open, most, start, stop, back}
 
 abbrev pub min_if : Bool → (x t : ℕ) → ℕ

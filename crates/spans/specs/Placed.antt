@@ -1,7 +1,8 @@
 -- What the solver is held to: placements of a stack of windows and limits, and which of them is the one for a total. Assumes nothing: these are definitions.
 use Rattle.std.specs.Prelude.{◌≡◌, true, List, [], ◌∷◌, ℕ, ◌≤◌}
 use Rattle.stack.specs.Stack.{sum, not_later}
-use Rattle.spans.specs.Spans.{Span, In, Fits, Limit, low_at, high_at}
+use Rattle.spans.specs.Spans.{In, Fits, Limit, low_at, high_at}
+use Rattle.spans.specs.declared.Span.{Span}
 use Rattle.spans.specs.Solver.{Level}
 
 -- a PLACEMENT of the bottom strip, whose window is w, and the levels: separations ts, the bottom strip at x, the strips above it at ys.

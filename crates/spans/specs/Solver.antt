@@ -4,7 +4,8 @@
 -- WARNING: the bottom strip's positions form one span; those of a strip between two others need not, see proofs/TwoSpans.antt. So the solver never
 -- asks for the span of a middle strip: it places strips from the bottom up, each time treating the rest as a stack of its own.
 use Rattle.std.specs.Prelude.{Bool, true, false, List, [], ◌∷◌, ℕ, zero, suc, ◌+◌, ◌-◌, min, max, leb}
-use Rattle.spans.specs.Spans.{Span, span, Limit, last, low_at, high_at, cut, shift_back, shift_on, nonempty, gather}
+use Rattle.spans.specs.Spans.{span, Limit, last, low_at, high_at, cut, shift_back, shift_on, nonempty, gather}
+use Rattle.spans.specs.declared.Span.{Span}
 
 -- a LEVEL: a channel's limits, and the window of the strip on top of that channel. A stack is its bottom strip's window and its levels
 pub record Level : Type 0 where

@@ -1,12 +1,9 @@
 -- Spans of positions, and what a channel's limits make of them. Assumes nothing: these are definitions.
 -- Limits are biased: an offset w (upper position - lower position) is within the limit (low, high) exactly if low ≤ w + b ≤ high, so nothing is negative.
 use Rattle.std.specs.Prelude.{Bool, true, false, List, ℕ, zero, suc, ◌+◌, ◌-◌, ◌≤◌, ◌<◌, min, max, ltb, length, get_or}
+use Rattle.spans.specs.declared.Span.{Span}
 
 -- a SPAN of positions, half open: from ≤ x < upto. A WINDOW is the span of the positions that a strip may take
-pub record Span : Type 0 where
-  pub from : ℕ
-  pub upto : ℕ
-
 abbrev pub span : (from upto : ℕ) → Span
 span a e = record { from = a; upto = e }
 

@@ -1,13 +1,11 @@
 -- The laws of placement_of: what is refused, a total that is not met, and the placement; and the third demand said of what is returned. Assumes nothing.
 use mathlib.Core.Path.{◌≡◌, refl, ap, ◌∙◌}
-use mathlib.Core.Bool.{true, false}
+use mathlib.Core.Bool.{true}
 use mathlib.Core.List.{List, [], ◌∷◌, ◌++◌}
 use Prim.Native.Nat.{ℕ, zero, suc, ◌+◌, ◌-◌, ◌≤◌, ◌<◌}
 use native.Mathlib.Omega.{arith}
 use native.Mathlib.Nat.{zero-add}
-use lib.Dec.{leb}
 use lib.ListN.{length, take, replicate}
-use borrow.Author.Tests.{leb-true, leb-false}
 use Rattle.numbers.specs.Lists.{padded}
 use Rattle.numbers.proofs.Lists.{padded_take}
 use Rattle.stack.specs.Stack.{Stack, TotalMet, Placement, sum, first_spread}
@@ -16,72 +14,64 @@ use Rattle.stack.specs.Value.{tracks_of, columns_of}
 use Rattle.routing.specs.Paths.{Drawable}
 use Rattle.routing.proofs.Drawable.{drawable_legal, legal_drawable}
 use Rattle.text.specs.Text.{Refusal, refusal, fine}
-use Rattle.text.specs.Outcome.{refusal_of, is_accepted, refused}
-use Rattle.text.specs.declared.Outcome.{Outcome}
+use Rattle.std.specs.Option.{ok_or}
+use Rattle.std.specs.Prelude.{Option, None, Some, MatchOption, Ok, Err}
+use Rattle.text.specs.Outcome.{number_of, refusal_of, refused}
+use Rattle.text.specs.declared.Refused.{Refused}
 use Rattle.text.specs.declared.Refusal.TheVariants.{Unmet}
-use Rattle.text.proofs.Refusals.{accepted_fine, refused_number}
+use Rattle.text.proofs.Refusals.{word_not_fine, fine_number}
 use Rattle.solver.specs.declared.Placement.{Placement as PlacementStruct}
 use Rattle.answer.specs.Solve.{answer_total, separations_for, positions_for}
 use Rattle.answer.specs.Arrays.{PlacedIs}
 use Rattle.answer.proofs.Alone.{legal_lengths}
 use Rattle.answer.proofs.Answers.{least_there, placement_there, met_from_least}
-use Rattle.reply.specs.Parts.{RefusedPlacement}
-use Rattle.reply.specs.declared.PlacementAnswer.{PlacementAnswer}
-use Rattle.spread.specs.Answers.{placed_is, PlacedFor, placed, unmet, Placed, PlacementOr}
+use Rattle.spread.specs.Answers.{PlacementResult, separations_of, positions_of, placed_is, PlacedFor, placed, unmet, Placed, PlacementOr}
 use Rattle.spread.specs.Best.{DrawnWith, BestPlacement}
-use Rattle.spread.proofs.Spreads.{accepted_number}
 
 -- a refusal with zeros elsewhere
-pub placed_refused : (n : ℕ) (f : Refusal) (k : Stack) (s v : ℕ) (r : PlacementAnswer) → (n ≡ 0 → ⊥) → placed_is f 0 [] [] r → Placed n f k s v r
+pub placed_refused : (n : ℕ) (f : Refusal) (k : Stack) (s v : ℕ) (r : PlacementResult) → (n ≡ 0 → ⊥) → placed_is f 0 [] [] r → Placed n f k s v r
 unfolding Placed
 placed_refused zero f k s v r h p = absurd (h refl)
 placed_refused (suc n) f k s v r h p = p
 
 -- where nothing is refused before the total
-pub placed_fine : (n : ℕ) (f : Refusal) (k : Stack) (s v : ℕ) (r : PlacementAnswer) → n ≡ 0 → PlacedFor k s v r → Placed n f k s v r
+pub placed_fine : (n : ℕ) (f : Refusal) (k : Stack) (s v : ℕ) (r : PlacementResult) → n ≡ 0 → PlacedFor k s v r → Placed n f k s v r
 unfolding Placed
 placed_fine zero f k s v r e p = p
 placed_fine (suc n) f k s v r e p = absurd (omega arith)
 
 -- of a refused stack or spread only the refusal counts
-pub placed_same : (n : ℕ) (f : Refusal) (k j : Stack) (s v : ℕ) (r : PlacementAnswer) → (n ≡ 0 → k ≡ j) → Placed n f k s v r → Placed n f j s v r
+pub placed_same : (n : ℕ) (f : Refusal) (k j : Stack) (s v : ℕ) (r : PlacementResult) → (n ≡ 0 → k ≡ j) → Placed n f k s v r → Placed n f j s v r
 unfolding Placed
 placed_same zero f k j s v r e p = rw (e refl) at p
 placed_same (suc n) f k j s v r e p = p
-
-pub refused_zeros : (u : Outcome) (f : Refusal) (r : PlacementAnswer) → RefusedPlacement u r → refusal_of u ≡ f → placed_is f 0 [] [] r
-unfolding placed_is padded
-refused_zeros u f r z e = (ap refusal_of z.outcome_is ∙ e, z.total_zero, z.separations_zero, z.positions_zero)
 
 -- a total below the least one is not met
 below_unmet : (k : Stack) (s v : ℕ) → within_limits k ≡ true → first_spread k.strips ≤ s → v < answer_total k s → TotalMet k s v → ⊥
 below_unmet k s v w h l m = omega (arith, (met_from_least k s w (answer_total k s) v (least_there k s w h)).0 m)
 
-module _ (f : Refusal) (k : Stack) (s v : ℕ) (u : Outcome) (q : refusal_of u ≡ f) (r : PlacementAnswer) where
-  pub placement_refused : is_accepted u ≡ false → RefusedPlacement u r → PlacementOr f k s v r
-  placement_refused h z =
-      placed_refused f.number f k s v r (λ e. refused_number u h (ap (λ (g : Refusal). g.number) q ∙ e)) (refused_zeros u f r z q)
+module _ (f : Refusal) (k : Stack) (s v : ℕ) where
+  pub placement_refused : (e : Refused) → refusal (number_of e.why) e.line e.field ≡ f → PlacementOr f k s v (Err e)
+  unfolding placed_is padded
+  placement_refused e q = placed_refused f.number f k s v (Err e) (λ z. word_not_fine e (rw (← q) at z)) (q, refl, refl, refl)
 
-  module _ (a : is_accepted u ≡ true) (w : within_limits k ≡ true) (wide : first_spread k.strips ≤ s) where
-    says : PlacedFor k s v r → PlacementOr f k s v r
-    says p = placed_fine f.number f k s v r (accepted_number f u q a) p
+  pub placement_unmet : (e : Refused) → fine ≡ f → e ≡ refused Unmet 0 0 → (TotalMet k s v → ⊥) → PlacementOr f k s v (Err e)
+  unfolding placed_is padded refusal
+  placement_unmet e q u n = placed_fine f.number f k s v (Err e) (fine_number f q) (unmet n (rw u (refl, refl, refl, refl)))
 
-    pub placement_unmet : (o : Outcome) → leb (answer_total k s) v ≡ false → o ≡ refused Unmet 0 0 → RefusedPlacement o r → PlacementOr f k s v r
-    placement_unmet o h e z =
-        says (unmet (below_unmet k s v w wide (omega (arith, leb-false (answer_total k s) v h))) (refused_zeros o (refusal 10 0 0) r z (ap refusal_of e)))
+  pub placement_made : (p : PlacementStruct) (ts xs : List ℕ) → fine ≡ f → Placement k s v ts xs → p.total.0 ≡ v → tracks_of p.separations ≡ padded 8 ts →
+      columns_of p.positions ≡ padded 9 xs → PlacementOr f k s v (Ok p)
+  unfolding placed_is
+  placement_made p ts xs q a t ss ps = placed_fine f.number f k s v (Ok p) (fine_number f q) (placed ts xs a (refl, t, ss, ps))
 
-    pub placement_made : (p : PlacementStruct) → leb (answer_total k s) v ≡ true → PlacedIs k s v p → r.outcome ≡ u → r.total.0 ≡ v →
-        r.separations ≡ p.separations → r.positions ≡ p.positions → PlacementOr f k s v r
-    unfolding placed_is
-    placement_made p h i o t ss ps =
-        let l = leb-true (answer_total k s) v h in
-        says
-        (placed (separations_for k s v) (positions_for k s v) (placement_there k s w wide v l) (
-          ap refusal_of o ∙ accepted_fine u a,
-          t,
-          rw ss i.separations_are,
-          rw ps i.positions_are,
-        ))
+  -- of a stack within the limits, in a spread that is not narrow
+  module _ (q : fine ≡ f) (w : within_limits k ≡ true) (wide : first_spread k.strips ≤ s) where
+    pub stated_answered : (o : Option PlacementStruct) (e : Refused) → e ≡ refused Unmet 0 0 →
+        MatchOption o (v < answer_total k s) (λ p. (answer_total k s ≤ v) × PlacedIs k s v p) → PlacementOr f k s v (ok_or o e)
+    stated_answered None e u h = placement_unmet e q u (below_unmet k s v w wide h)
+    stated_answered (Some p) e u h =
+        let i = h.1 in
+        placement_made p (separations_for k s v) (positions_for k s v) q (placement_there k s w wide v h.0) i.total_is i.separations_are i.positions_are
 
 -- THE THIRD DEMAND of the placement returned
 sum_zeros : (ts : List ℕ) (n : ℕ) → sum (ts ++ replicate n 0) ≡ sum ts
@@ -94,9 +84,9 @@ pub sum_padded : (n : ℕ) (ts : List ℕ) → sum (padded n ts) ≡ sum ts
 unfolding padded
 sum_padded n ts = sum_zeros ts (n - length ts)
 
-module _ (k : Stack) (s v : ℕ) (rises : all_rising k.channels ≡ true) (r : PlacementAnswer) where
+module _ (k : Stack) (s v : ℕ) (rises : all_rising k.channels ≡ true) (r : PlacementResult) where
   placed_drawn : length k.strips ≡ suc (length k.channels) → (ts xs : List ℕ) → Placement k s v ts xs → placed_is fine v ts xs r →
-      Drawable k s (take (length k.channels) (tracks_of r.separations)) (take (suc (length k.channels)) (columns_of r.positions))
+      Drawable k s (take (length k.channels) (separations_of r)) (take (suc (length k.channels)) (positions_of r))
   unfolding placed_is
   placed_drawn c ts xs a p =
       let m = legal_lengths k s ts xs a.is_legal in
@@ -107,8 +97,8 @@ module _ (k : Stack) (s v : ℕ) (rises : all_rising k.channels ≡ true) (r : P
   drawn_met x =
       record { separations = x.separations; positions = x.positions; is_legal = drawable_legal k s _ _ rises x.drawable; exact = x.exact }
 
-module _ (f : Refusal) (k : Stack) (s v : ℕ) (r : PlacementAnswer) where
-  number_is : (g : Refusal) → refusal_of r.outcome ≡ g → (refusal_of r.outcome).number ≡ g.number
+module _ (f : Refusal) (k : Stack) (s v : ℕ) (r : PlacementResult) where
+  number_is : (g : Refusal) → refusal_of r ≡ g → (refusal_of r).number ≡ g.number
   number_is g e = ap (λ (x : Refusal). x.number) e
 
   placed_best : all_rising k.channels ≡ true → length k.strips ≡ suc (length k.channels) → PlacedFor k s v r → BestPlacement f k s v r

@@ -1,28 +1,29 @@
 -- A single strip has total 0 and position 0 in every spread that it fits, and no other total. Assumes nothing.
 use mathlib.Core.Path.{◌≡◌, refl, sym, ap, ◌∙◌}
-use mathlib.Core.Bool.{Bool, true, false, cond}
+use mathlib.Core.Bool.{true, false, cond}
 use mathlib.Core.List.{List, [], ◌∷◌}
 use Prim.Native.Nat.{ℕ, zero, suc, ◌+◌, ◌≤◌, ◌<◌, max}
 use native.Mathlib.Omega.{arith}
-use lib.Dec.{ltb, eqb}
-use borrow.Author.Tests.{le-leb, lt-ltb, le-ltb, ltb-false, eqb-true, eqb-false}
+use lib.Dec.{ltb}
+use lib.ListN.{replicate}
+use borrow.Author.Tests.{le-leb, lt-ltb, le-ltb, ltb-false}
 use Rattle.numbers.specs.Lists.{padded}
 use Rattle.numbers.proofs.Bools.{ands, impossible}
 use Rattle.stack.specs.Stack.{stack, in_window, stands, in_spread, channels_good, legal, sum, greatest_of, least_position, first_spread, not_later, TotalMet, LeastTotal, Placement}
-use Rattle.text.specs.Text.{Refusal, refusal, fine, or_else}
-use Rattle.text.specs.Outcome.{refusal_of, refused}
-use Rattle.text.specs.declared.Refusal.TheVariants.{Narrow}
-use Rattle.text.specs.declared.Outcome.{Outcome}
-use Rattle.text.specs.declared.Outcome.TheVariants.{Accepted}
-use Rattle.text.proofs.Refusals.{when_fine, or_else_refused}
+use Rattle.std.specs.Prelude.{Ok, Err}
+use Rattle.stack.specs.Value.{tracks_of, columns_of}
+use Rattle.stack.specs.declared.Tracks.{Tracks}
+use Rattle.text.specs.Text.{refusal, fine}
+use Rattle.text.specs.Outcome.{refused}
+use Rattle.text.specs.declared.Refusal.TheVariants.{Unmet}
+use Rattle.text.specs.declared.Refused.{Refused}
+use Rattle.text.proofs.Refusals.{when_fine, fine_number}
+use Rattle.solver.specs.declared.Placement.{Placement as PlacementStruct}
 use Rattle.reply.specs.Refusals.{narrow_refusal}
-use Rattle.reply.specs.Parts.{RefusedPlacement}
-use Rattle.reply.specs.declared.PlacementAnswer.{PlacementAnswer}
-use Rattle.spread.specs.Answers.{total_told, TotalOr, placed_is, PlacedFor, placed, unmet, PlacementOr}
-use Rattle.spread.specs.Single.{one_strip, stated_refusal}
-use Rattle.spread.specs.declared.TotalAnswer.{TotalAnswer}
-use Rattle.spread.proofs.Totals.{totalled_refused, totalled_fine}
-use Rattle.spread.proofs.Placements.{placed_refused, placed_fine, refused_zeros}
+use Rattle.spread.specs.Answers.{total_told, TotalOr, PlacementOr}
+use Rattle.spread.specs.Single.{one_strip}
+use Rattle.spread.proofs.Totals.{totalled_fine}
+use Rattle.spread.proofs.Placements.{placement_unmet, placement_made}
 
 module _ (l s : ℕ) where
   pub no_separations : (ts xs : List ℕ) → legal (one_strip l) s ts xs ≡ true → ts ≡ []
@@ -60,51 +61,31 @@ narrow_one : (l s : ℕ) → narrow_refusal (one_strip l) s ≡ cond (ltb s l) (
 unfolding narrow_refusal first_spread greatest_of least_position stack
 narrow_one l s = let e : max (l + 0) 0 ≡ l = omega arith in rw e
 
-pub narrow_told : (l s : ℕ) (o : Outcome) → s < l → o ≡ refused Narrow 0 0 → refusal_of o ≡ narrow_refusal (one_strip l) s
-narrow_told l s o h e = rw (e, narrow_one l s, lt-ltb s l h)
+pub narrow_told : (l s : ℕ) → s < l → refusal 7 0 0 ≡ narrow_refusal (one_strip l) s
+narrow_told l s h = rw (narrow_one l s, lt-ltb s l h)
 
-pub wide_told : (l s : ℕ) → l ≤ s → refusal_of Accepted ≡ narrow_refusal (one_strip l) s
+pub wide_told : (l s : ℕ) → l ≤ s → fine ≡ narrow_refusal (one_strip l) s
 wide_told l s h = rw (narrow_one l s, le-ltb s l h)
 
-fits : (l s : ℕ) → (narrow_refusal (one_strip l) s).number ≡ 0 → l ≤ s
-fits l s e =
-    let f : (cond (ltb s l) (refusal 7 0 0) fine).number ≡ 0 = rw (narrow_one l s) at e in
+fits : (l s : ℕ) → fine ≡ narrow_refusal (one_strip l) s → l ≤ s
+fits l s q =
+    let f : (cond (ltb s l) (refusal 7 0 0) fine).number ≡ 0 = rw (narrow_one l s) at (fine_number (narrow_refusal (one_strip l) s) q) in
     ltb-false s l (when_fine (ltb s l) 6 0 0 fine f).0
 
--- THE TOTAL
-pub single_totalled : (l s : ℕ) (r : TotalAnswer) → refusal_of r.outcome ≡ narrow_refusal (one_strip l) s → r.total.0 ≡ 0 →
-    TotalOr (narrow_refusal (one_strip l) s) (one_strip l) s r
-unfolding total_told
-single_totalled l s r e z = go (narrow_refusal (one_strip l) s).number refl
-  where
-    f : Refusal
-    f = narrow_refusal (one_strip l) s
+module _ (l s : ℕ) (q : fine ≡ narrow_refusal (one_strip l) s) where
+  -- THE TOTAL
+  pub single_totalled : (t : Tracks) → t.0 ≡ 0 → TotalOr (narrow_refusal (one_strip l) s) (one_strip l) s (Ok t)
+  unfolding total_told
+  single_totalled t z =
+      let f = narrow_refusal (one_strip l) s in totalled_fine f.number f (one_strip l) s 0 (Ok t) (fine_number f q) (least_zero l s (fits l s q)) (q, z)
 
-    go : (n : ℕ) → f.number ≡ n → TotalOr f (one_strip l) s r
-    go zero h = totalled_fine f.number f (one_strip l) s 0 r h (least_zero l s (fits l s h)) (e, z)
-    go (suc n) h = totalled_refused f.number f (one_strip l) s r (λ y. omega arith) (e, z)
+  -- THE PLACEMENT
+  module _ (v : ℕ) where
+    pub single_unmet : (e : Refused) → (v ≡ 0 → ⊥) → e ≡ refused Unmet 0 0 → PlacementOr (narrow_refusal (one_strip l) s) (one_strip l) s v (Err e)
+    single_unmet e n u = placement_unmet (narrow_refusal (one_strip l) s) (one_strip l) s v e q u (λ m. n (only_zero l s v m))
 
--- THE PLACEMENT
-module _ (l s v : ℕ) (r : PlacementAnswer) (u : Outcome) (e : refusal_of u ≡ or_else (narrow_refusal (one_strip l) s) (stated_refusal v)) (z : RefusedPlacement u r) where
-  abbrev f : Refusal
-  f = narrow_refusal (one_strip l) s
-
-  -- where nothing is refused before the total
-  for_total : f.number ≡ 0 → (b : Bool) → eqb v 0 ≡ b → refusal_of u ≡ cond b fine (refusal 10 0 0) → PlacedFor (one_strip l) s v r
-  unfolding placed_is padded
-  for_total h true q d =
-      let t = eqb-true v 0 q in
-      rw t (placed [] (0 ∷ []) (placement_zero l s (fits l s h)) (ap refusal_of z.outcome_is ∙ d, z.total_zero, z.separations_zero, z.positions_zero))
-  for_total h false q d = unmet (λ m. eqb-false v 0 q (only_zero l s v m)) (refused_zeros u (refusal 10 0 0) r z d)
-
-  pub single_placed : PlacementOr f (one_strip l) s v r
-  unfolding stated_refusal or_else
-  single_placed = go f.number refl
-    where
-      go : (n : ℕ) → f.number ≡ n → PlacementOr f (one_strip l) s v r
-      go zero h =
-          let d : refusal_of u ≡ cond (eqb v 0) fine (refusal 10 0 0) = e ∙ rw (h) in
-          placed_fine f.number f (one_strip l) s v r h (for_total h (eqb v 0) refl d)
-      go (suc n) h =
-          placed_refused f.number f (one_strip l) s v r (λ y. omega arith)
-          (refused_zeros u f r z (e ∙ or_else_refused f (stated_refusal v) (λ y. omega arith)))
+    pub single_placed : (p : PlacementStruct) → v ≡ 0 → p.total.0 ≡ v → tracks_of p.separations ≡ replicate 8 0 → columns_of p.positions ≡ replicate 9 0 →
+        PlacementOr (narrow_refusal (one_strip l) s) (one_strip l) s v (Ok p)
+    unfolding padded
+    single_placed p e t ss ps =
+        placement_made (narrow_refusal (one_strip l) s) (one_strip l) s v p [] (0 ∷ []) q (rw e (placement_zero l s (fits l s q))) t ss ps

@@ -1,9 +1,10 @@
 -- TRUSTED. Which list value of Stack.antt a struct value stands for: every contract on a struct speaks of it through these. Assumes nothing: these are definitions.
-use Rattle.std.specs.Prelude.{Bool, true, false, List, [], map, ℕ, suc, get_or}
+use Rattle.std.specs.Prelude.{Option, None, Some, List, [], map, ℕ, suc, get_or}
 use Rattle.numbers.specs.Lists.{tabulate}
 use Rattle.stack.specs.Stack.{Pair, pair, Channel, channel, Window, free, held, Strip, strip, Stack, stack}
 use Rattle.stack.specs.declared.Tracks.{Tracks}
 use Rattle.stack.specs.declared.Columns.{Columns}
+use Rattle.stack.specs.declared.Window.{Window as WindowStruct}
 use Rattle.stack.specs.declared.Strip.{Strip as StripStruct}
 use Rattle.stack.specs.declared.Terminals.{Terminals}
 use Rattle.stack.specs.declared.Stack.{Stack as StackStruct}
@@ -23,18 +24,18 @@ columns_of xs = map (λ (x : Columns). x.0) xs
 
 -- a strip that is free, and one that is held
 abbrev pub free_strip : (length : ℕ) → StripStruct
-free_strip n = record { length = columns n; held = false; least = columns 0; greatest = columns 0 }
+free_strip n = record { length = columns n; window = None }
 
 abbrev pub held_strip : (length least greatest : ℕ) → StripStruct
-held_strip n a e = record { length = columns n; held = true; least = columns a; greatest = columns e }
+held_strip n a e = record { length = columns n; window = Some (record { least = columns a; greatest = columns e }) }
 
--- the window: free where the strip is not held
-unfoldable pub window_of : (held : Bool) → (least greatest : ℕ) → Window
-window_of true a e = held a e
-window_of false a e = free
+-- the window: free where there is none
+unfoldable pub window_of : Option WindowStruct → Window
+window_of None = free
+window_of (Some w) = held w.least.0 w.greatest.0
 
 abbrev pub strip_of : StripStruct → Strip
-strip_of l = strip l.length.0 (window_of l.held l.least.0 l.greatest.0)
+strip_of l = strip l.length.0 (window_of l.window)
 
 abbrev pub no_terminals : Terminals
 no_terminals = record { lower = []; upper = []; count = 0 }

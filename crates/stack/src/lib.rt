@@ -1,44 +1,48 @@
 // Stacks of strips and channels, with the limits of documents 01 and 02 as constants of the types and constructors that test them.
 #![tactic(auto)]
 
-ghost use Rattle.std.specs.Prelude.{◌≡◌, [], ◌-◌, ◌≤◌, ◌<◌, get_or};
-ghost use Rattle.stack.specs.Stack.{free, held, reach};
+ghost use Rattle.std.specs.Prelude.{◌≡◌, [], ◌∷◌, ◌++◌, ◌-◌, ◌≤◌, ◌<◌, get_or, OnOk};
+ghost use Rattle.std.specs.Result.{result_err};
+ghost use Rattle.stack.specs.Stack.{pair, free, held, reach};
 ghost use Rattle.stack.specs.Value.{columns, strip_of, channel_of, stack_of};
 ghost use Rattle.stack.specs.Made.{
   strip_made,
-  is_good,
   not_above,
-  pair_found,
+  pair_fault,
   IsTerminalsMade,
   bare,
   IsStackMade,
   StripSet,
   ChannelSet,
   FloorSet,
-  Stored,
   NumberOf,
 };
 
 // A count of tracks: a separation. Document 01, "Strips, columns and tracks".
-#[derive(Clone, Copy)]
+#[derive(Clone, Copy, Debug, PartialEq, Eq, PartialOrd, Ord)]
 pub struct Tracks(pub u32);
 
 // A count of columns: a position, a terminal or a length. Document 01, "Strips, columns and tracks".
-#[derive(Clone, Copy)]
+#[derive(Clone, Copy, Debug, PartialEq, Eq, PartialOrd, Ord)]
 pub struct Columns(pub u32);
 
-// A strip of components. Where it is held, it may stand from its least to its greatest position, else anywhere.
-#[derive(Clone, Copy)]
-pub struct Strip {
-    pub length: Columns,
-    pub held: bool,
+// Where a strip that is held may stand: from a least to a greatest position.
+#[derive(Clone, Copy, Debug, PartialEq, Eq)]
+pub struct Window {
     pub least: Columns,
     pub greatest: Columns,
 }
 
-#[derive(Clone, Copy)]
-pub enum StripMade {
-    Made(Strip),
+// A strip of components. With a window it is held there, else it is free and may stand anywhere.
+#[derive(Clone, Copy, Debug, PartialEq, Eq)]
+pub struct Strip {
+    pub length: Columns,
+    pub window: Option<Window>,
+}
+
+// The limit that a strip's numbers do not keep: its length, or the order or the end of its window.
+#[derive(Clone, Copy, Debug, PartialEq, Eq)]
+pub enum StripFault {
     Length,
     Inverted,
 }
@@ -51,55 +55,47 @@ impl Strip {
     pub const MAX_POSITION: u32 = 9999;
 
     // A free strip.
-    pub fn new(length: u32) -> StripMade
+    #[tactic(auto, using(std::proofs::lemmas::Bool::Decides::nat_tests), unfolding(crate::specs::Made::strip_made, crate::specs::Made::strip_with, crate::specs::Limits::window_within))]
+    pub fn new(length: u32) -> Result<Strip, StripFault>
         ensures { result ≡ strip_made length free }
     {
-        if length < Strip::MIN_LENGTH {
-            return StripMade::Length;
+        if length < Strip::MIN_LENGTH || Strip::MAX_LENGTH < length {
+            return Err(StripFault::Length);
         }
-        if Strip::MAX_LENGTH < length {
-            return StripMade::Length;
-        }
-        StripMade::Made(Strip {
+        Ok(Strip {
             length: Columns(length),
-            held: false,
-            least: Columns(0),
-            greatest: Columns(0),
+            window: None,
         })
     }
 
     // A strip held from a least to a greatest position.
-    pub fn held(length: u32, least: u32, greatest: u32) -> StripMade
+    #[tactic(auto, using(std::proofs::lemmas::Bool::Decides::nat_tests), unfolding(crate::specs::Made::strip_made, crate::specs::Made::strip_with, crate::specs::Limits::window_within))]
+    pub fn held(length: u32, least: u32, greatest: u32) -> Result<Strip, StripFault>
         ensures { result ≡ strip_made length (held least greatest) }
     {
-        if length < Strip::MIN_LENGTH {
-            return StripMade::Length;
+        let free = Strip::new(length)?;
+        if greatest < least || Strip::MAX_POSITION < greatest {
+            return Err(StripFault::Inverted);
         }
-        if Strip::MAX_LENGTH < length {
-            return StripMade::Length;
-        }
-        if greatest < least {
-            return StripMade::Inverted;
-        }
-        if Strip::MAX_POSITION < greatest {
-            return StripMade::Inverted;
-        }
-        StripMade::Made(Strip {
-            length: Columns(length),
-            held: true,
-            least: Columns(least),
-            greatest: Columns(greatest),
+        Ok(Strip {
+            length: free.length,
+            window: Some(Window {
+                least: Columns(least),
+                greatest: Columns(greatest),
+            }),
         })
     }
 
     // The length with the least position.
+    #[tactic(auto, unfolding(crate::specs::Value::window_of, crate::specs::Stack::least_position))]
     pub fn reach(self) -> u64
         ensures { NumberOf (reach (strip_of self)) result }
     {
-        if self.held {
-            return self.length.0 as u64 + self.least.0 as u64;
-        }
-        self.length.0 as u64
+        let least = match self.window {
+            Some(window) => window.least.0,
+            None => 0,
+        };
+        u64::from(self.length.0) + u64::from(least)
     }
 }
 
@@ -111,38 +107,18 @@ pub struct Terminals {
     pub count: usize,
 }
 
-// Whether terminals keep the limits; a fault carries its place in p(0), q(0), p(1), q(1) and so on.
-#[derive(Clone, Copy)]
-pub enum TerminalsFound {
-    Good,
+// The limit that terminals do not keep: their number, or at a place in p(0), q(0), p(1), q(1) and so on their strip's end or their order.
+#[derive(Clone, Copy, Debug, PartialEq, Eq)]
+pub enum TerminalsFault {
     Crowd,
     Overhang(usize),
     Crossing(usize),
 }
 
-impl TerminalsFound {
-    pub fn is_good(self) -> bool
-        ensures { result ≡ is_good self }
-    {
-        match self {
-            TerminalsFound::Good => true,
-            TerminalsFound::Crowd => false,
-            TerminalsFound::Overhang(_) => false,
-            TerminalsFound::Crossing(_) => false,
-        }
-    }
-}
-
-// What was found of terminals, and those that are good.
-#[derive(Clone, Copy)]
-pub struct TerminalsMade {
-    pub found: TerminalsFound,
-    pub terminals: Terminals,
-}
-
 impl Terminals {
     pub const MAX_PAIRS: usize = 32;
 
+    #[tactic(auto, unfolding(crate::specs::Value::channel_of, numbers::specs::Lists::tabulate))]
     pub fn none() -> Terminals
         ensures { channel_of result ≡ [] }
     {
@@ -154,126 +130,78 @@ impl Terminals {
     }
 
     // Whether one pair more keeps the limits.
-    fn found_with(self, p: u32, q: u32, lower: Strip, upper: Strip) -> TerminalsFound
-        ensures { result ≡ pair_found (channel_of self) lower.length.0 upper.length.0 p q }
+    #[tactic(auto, using(std::proofs::lemmas::Bool::Decides::nat_tests, crate::proofs::Found::fault_in_places))]
+    fn test_pair(
+        &self,
+        p: u32,
+        q: u32,
+        lower: Columns,
+        upper: Columns,
+    ) -> Result<(), TerminalsFault>
+        ensures fault { result_err result ≡ pair_fault (channel_of self.now) lower.0 upper.0 p q }
+        ensures room { OnOk result (self.now.count < 32) }
     {
         let n = self.count;
-        let ps = self.lower;
-        let qs = self.upper;
         if Terminals::MAX_PAIRS <= n {
-            return TerminalsFound::Crowd;
+            return Err(TerminalsFault::Crowd);
         }
-        if lower.length.0 < p {
-            return TerminalsFound::Overhang(2 * n);
+        if lower.0 < p {
+            return Err(TerminalsFault::Overhang(2 * n));
         }
-        if is_not_above(ps, n, p) {
-            return TerminalsFound::Crossing(2 * n);
+        if is_not_above(&self.lower, n, p) {
+            return Err(TerminalsFault::Crossing(2 * n));
         }
-        if upper.length.0 < q {
-            return TerminalsFound::Overhang(2 * n + 1);
+        if upper.0 < q {
+            return Err(TerminalsFault::Overhang(2 * n + 1));
         }
-        if is_not_above(qs, n, q) {
-            return TerminalsFound::Crossing(2 * n + 1);
+        if is_not_above(&self.upper, n, q) {
+            return Err(TerminalsFault::Crossing(2 * n + 1));
         }
-        TerminalsFound::Good
+        Ok(())
     }
 
-    // The pairs of terminals that stand in the order p(0), q(0), p(1), q(1) and so on.
+    // One pair more, where it keeps the limits.
+    #[tactic(auto, using(crate::proofs::Values::channel_longer))]
+    fn push(&mut self, p: u32, q: u32, lower: Columns, upper: Columns) -> Result<(), TerminalsFault>
+        ensures fault { result_err result ≡ pair_fault (channel_of self.old) lower.0 upper.0 p q }
+        ensures pairs { OnOk result (channel_of self.new ≡ channel_of self.old ++ pair p q ∷ []) }
+    {
+        self.test_pair(p, q, lower, upper)?;
+        let n = self.count;
+        self.lower[n] = Columns(p);
+        self.upper[n] = Columns(q);
+        self.count = n + 1;
+        Ok(())
+    }
+
+    // The pairs of terminals that stand in the order p(0), q(0), p(1), q(1) and so on, on strips of these lengths.
+    #[tactic(auto, using(crate::proofs::Found::making))]
     pub fn new(
         values: &[u32; 2 * Terminals::MAX_PAIRS],
         pairs: usize,
-        lower: Strip,
-        upper: Strip,
-    ) -> TerminalsMade
-        ensures { IsTerminalsMade values.now pairs lower.length.0 upper.length.0 result }
+        lower: Columns,
+        upper: Columns,
+    ) -> Result<Terminals, TerminalsFault>
+        ensures { IsTerminalsMade values.now pairs lower.0 upper.0 result }
     {
-        let none = Terminals::none();
         if Terminals::MAX_PAIRS < pairs {
-            return TerminalsMade {
-                found: TerminalsFound::Crowd,
-                terminals: none,
-            };
+            return Err(TerminalsFault::Crowd);
         }
-        let mut terminals = Terminals {
-            lower: [Columns(0); Terminals::MAX_PAIRS],
-            upper: [Columns(0); Terminals::MAX_PAIRS],
-            count: 0,
-        };
+        let mut terminals = Terminals::none();
         for j in 0..pairs {
-            let p = values[2 * j];
-            let q = values[2 * j + 1];
-            let found = terminals.found_with(p, q, lower, upper);
-            if !found.is_good() {
-                return TerminalsMade {
-                    found,
-                    terminals: none,
-                };
-            }
-            terminals.lower[j] = Columns(p);
-            terminals.upper[j] = Columns(q);
-            terminals.count = j + 1;
+            terminals.push(values[2 * j], values[2 * j + 1], lower, upper)?;
         }
-        TerminalsMade {
-            found: TerminalsFound::Good,
-            terminals,
-        }
+        Ok(terminals)
     }
 }
 
 // A terminal is not above the one before it, where there is one.
-fn is_not_above(before: [Columns; Terminals::MAX_PAIRS], n: usize, x: u32) -> bool
+#[tactic(auto, using(std::proofs::lemmas::Bool::Decides::nat_tests), unfolding(crate::specs::Made::not_above))]
+fn is_not_above(before: &[Columns; Terminals::MAX_PAIRS], n: usize, x: u32) -> bool
     requires { n < 32 }
-    ensures { result ≡ not_above n (get_or before (n - 1) (columns 0)).0 x }
+    ensures { result ≡ not_above n (get_or before.now (n - 1) (columns 0)).0 x }
 {
-    if n == 0 {
-        return false;
-    }
-    x <= before[n - 1].0
-}
-
-// The stores also say how long their arrays are, which is known of an array that is passed and not of a struct's field.
-fn strip_stored(mut all: [Strip; Stack::STRIPS], i: usize, x: Strip) -> [Strip; Stack::STRIPS]
-    requires { i < 9 }
-    ensures { Stored all 9 i x result }
-{
-    all[i] = x;
-    all
-}
-
-pub fn columns_stored(
-    mut all: [Columns; Stack::STRIPS],
-    i: usize,
-    x: Columns,
-) -> [Columns; Stack::STRIPS]
-    requires { i < 9 }
-    ensures { Stored all 9 i x result }
-{
-    all[i] = x;
-    all
-}
-
-pub fn terminals_stored(
-    mut all: [Terminals; Stack::MAX_CHANNELS],
-    i: usize,
-    x: Terminals,
-) -> [Terminals; Stack::MAX_CHANNELS]
-    requires { i < 8 }
-    ensures { Stored all 8 i x result }
-{
-    all[i] = x;
-    all
-}
-
-fn tracks_stored(
-    mut all: [Tracks; Stack::MAX_CHANNELS],
-    i: usize,
-    x: Tracks,
-) -> [Tracks; Stack::MAX_CHANNELS]
-    requires { i < 8 }
-    ensures { Stored all 8 i x result }
-{
-    all[i] = x;
-    all
+    n != 0 && x <= before[n - 1].0
 }
 
 // k channels and k + 1 strips, strip 0 at the bottom; of each channel its terminals and its floor. Places past them are unused.
@@ -283,18 +211,6 @@ pub struct Stack {
     pub strips: [Strip; Stack::STRIPS],
     pub channels: [Terminals; Stack::MAX_CHANNELS],
     pub floors: [Tracks; Stack::MAX_CHANNELS],
-}
-
-#[derive(Clone, Copy)]
-pub enum StackFound {
-    Sized,
-    Oversized,
-}
-
-#[derive(Clone, Copy)]
-pub struct StackMade {
-    pub found: StackFound,
-    pub stack: Stack,
 }
 
 impl Stack {
@@ -317,77 +233,49 @@ impl Stack {
     pub const BIAS: u64 = 8_589_934_592;
 
     // k channels without pairs, with floor 0, between the shortest strips.
-    fn bare(k: usize) -> Stack
-        requires { k ≤ 8 }
-        ensures { (result.count ≡ k) × (stack_of result ≡ bare k) }
-    {
-        let shortest = Strip {
-            length: Columns(Strip::MIN_LENGTH),
-            held: false,
-            least: Columns(0),
-            greatest: Columns(0),
-        };
-        let none = Terminals::none();
-        Stack {
-            count: k,
-            strips: [shortest; Stack::STRIPS],
-            channels: [none; Stack::MAX_CHANNELS],
-            floors: [Tracks(0); Stack::MAX_CHANNELS],
-        }
-    }
-
-    // k channels without pairs, with floor 0, between the shortest strips; one channel where k is refused.
-    pub fn new(k: usize) -> StackMade
+    #[tactic(auto, using(std::proofs::lemmas::Bool::Decides::nat_tests, crate::proofs::Values::bare_stack))]
+    pub fn new(k: usize) -> Option<Stack>
         ensures { IsStackMade k result }
     {
-        if k < Stack::MIN_CHANNELS {
-            return StackMade {
-                found: StackFound::Oversized,
-                stack: Stack::bare(Stack::MIN_CHANNELS),
-            };
+        if k < Stack::MIN_CHANNELS || Stack::MAX_CHANNELS < k {
+            return None;
         }
-        if Stack::MAX_CHANNELS < k {
-            return StackMade {
-                found: StackFound::Oversized,
-                stack: Stack::bare(Stack::MIN_CHANNELS),
-            };
-        }
-        StackMade {
-            found: StackFound::Sized,
-            stack: Stack::bare(k),
-        }
+        let shortest = Strip {
+            length: Columns(Strip::MIN_LENGTH),
+            window: None,
+        };
+        Some(Stack {
+            count: k,
+            strips: [shortest; Stack::STRIPS],
+            channels: [Terminals::none(); Stack::MAX_CHANNELS],
+            floors: [Tracks(0); Stack::MAX_CHANNELS],
+        })
     }
 
-    // The stack with another strip at a place.
-    pub fn with_strip(mut self, i: usize, strip: Strip) -> Stack
-        requires { (i ≤ self.count) × (self.count ≤ 8) }
-        ensures { StripSet self i (strip_of strip) result }
+    // Another strip at a place.
+    #[tactic(auto, using(crate::proofs::Values::strip_stored))]
+    pub fn set_strip(&mut self, i: usize, strip: Strip)
+        requires { (i ≤ self.old.count) × (self.old.count ≤ 8) }
+        ensures { StripSet self.old i (strip_of strip) self.new }
     {
-        let old = self.strips;
-        let strips = strip_stored(old, i, strip);
-        self.strips = strips;
-        self
+        self.strips[i] = strip;
     }
 
-    // The stack with other terminals in a channel.
-    pub fn with_channel(mut self, i: usize, terminals: Terminals) -> Stack
-        requires { (i < self.count) × (self.count ≤ 8) }
-        ensures { ChannelSet self i (channel_of terminals) result }
+    // Other terminals in a channel.
+    #[tactic(auto, using(crate::proofs::Values::channel_stored))]
+    pub fn set_terminals(&mut self, i: usize, terminals: Terminals)
+        requires { (i < self.old.count) × (self.old.count ≤ 8) }
+        ensures { ChannelSet self.old i (channel_of terminals) self.new }
     {
-        let old = self.channels;
-        let channels = terminals_stored(old, i, terminals);
-        self.channels = channels;
-        self
+        self.channels[i] = terminals;
     }
 
-    // The stack with another floor in a channel.
-    pub fn with_floor(mut self, i: usize, floor: Tracks) -> Stack
-        requires { (i < self.count) × (self.count ≤ 8) }
-        ensures { FloorSet self i floor.0 result }
+    // Another floor in a channel.
+    #[tactic(auto, using(crate::proofs::Values::floor_stored))]
+    pub fn set_floor(&mut self, i: usize, floor: Tracks)
+        requires { (i < self.old.count) × (self.old.count ≤ 8) }
+        ensures { FloorSet self.old i floor.0 self.new }
     {
-        let old = self.floors;
-        let floors = tracks_stored(old, i, floor);
-        self.floors = floors;
-        self
+        self.floors[i] = floor;
     }
 }

@@ -9,7 +9,7 @@ use std::process::ExitCode;
 pub fn stacktable_run(rt: &HostRuntime) -> u32
     ensures { result ≤ 2 }
 {
-    run(rt)
+    run(rt).number()
 }
 
 fn main(rt: HostRuntime) -> ExitCode {

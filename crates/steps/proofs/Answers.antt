@@ -1,111 +1,76 @@
 -- What the readers of PART, of NETS and of a line behind another answer is what the lines of steps say, case by case of the line before. Assumes nothing.
-use mathlib.Core.Path.{◌≡◌, refl, sym, ◌∙◌}
+use mathlib.Core.Path.{◌≡◌}
 use mathlib.Core.Bool.{Bool, true, false, cond}
 use mathlib.Core.List.{List}
 use Prim.Native.Nat.{ℕ, ◌≤◌, ◌<◌}
 use native.Mathlib.Omega.{arith}
-use lib.Dec.{eqb}
 use lib.ListN.{length, get_or}
 use borrow.Author.Tests.{ne_eqb}
-use Rattle.lines.specs.Lines.{Line, line, same_bytes}
+use Rattle.std.specs.Prelude.{None, Some, Result, Ok, Err}
+use Rattle.std.specs.Result.{result_ok}
+use Rattle.lines.specs.Lines.{Line, line, same_bytes, numbers_of}
+use Rattle.lines.specs.Numbers.{in_places}
 use Rattle.lines.proofs.Fields.{numbers_count, numbers_few}
 use Rattle.text.specs.Text.{refusal, fine, nets_word, part_word, Kind, kind, layout, exactly}
-use Rattle.text.specs.Outcome.{refusal_of, is_accepted}
+use Rattle.text.specs.Outcome.{number_of}
 use Rattle.text.specs.Kinds.{IsKindRead}
-use Rattle.text.specs.declared.KindRead.{KindRead}
-use Rattle.text.specs.declared.Outcome.{Outcome}
-use Rattle.text.proofs.Refusals.{refused_number, accepted_fine}
+use Rattle.text.specs.declared.Refused.{Refused}
+use Rattle.text.proofs.Refusals.{word_not_fine}
 use Rattle.text.proofs.Layouts.{number_kept}
-use Rattle.steps.specs.Steps.{begin_word, add_word, off_word, length_kind, list_kind, is_line, word_line, length_in, step_line}
-use Rattle.steps.specs.Parts.{IsPartLine, IsListLine, IsStepLineRead}
-use Rattle.steps.specs.declared.StepLine.{StepLine}
-use Rattle.steps.specs.declared.StepLine.TheVariants.{NoStep, BeginPart, AddPart, AddNets, Begin, Add, Off}
-use Rattle.steps.specs.declared.PartLine.{PartLine}
-use Rattle.steps.specs.declared.ListLine.{ListLine}
-use Rattle.steps.specs.declared.StepLineRead.{StepLineRead}
+use Rattle.steps.specs.Steps.{begin_word, add_word, off_word, length_kind, list_kind, is_line, word_line, length_in}
+use Rattle.steps.specs.declared.StepLine.TheVariants.{BeginPart, AddPart, Add, Off}
 
--- A LINE OF A KIND is one whose layout is accepted
-accepted_line : (K : Kind) (l : Line) (o : Outcome) → refusal_of o ≡ layout K 0 l → is_accepted o ≡ is_line K l
+-- A LINE OF A KIND is one whose layout is good
+good_line : (K : Kind) (l : Line) → fine ≡ layout K 0 l → is_line K l ≡ true
 unfolding is_line fine refusal
-accepted_line K l o e = go (is_accepted o) refl
-  where
-    go : (v : Bool) → is_accepted o ≡ v → v ≡ eqb (layout K 0 l).number 0
-    go true a = rw (← e, accepted_fine o a)
-    go false a = rw (← e, ne_eqb (refusal_of o).number 0 (refused_number o a))
+good_line K l e = rw (← e)
 
-module _ (l : Line) (r : KindRead) (vs : List ℕ) (good : Bool) (a : good ≡ is_accepted r.layout) where
-  pub part_told : IsKindRead part_word (λ n. exactly 1 n) 0 l r vs → IsPartLine l (record { good = good; length = get_or vs 0 0 })
+no_line : (K : Kind) (l : Line) (x : Refused) → refusal (number_of x.why) x.line x.field ≡ layout K 0 l → is_line K l ≡ false
+unfolding is_line
+no_line K l x e = rw (← e, ne_eqb _ 0 (word_not_fine x))
+
+module _ (l : Line) (vs : List ℕ) where
+  pub part_ill : (r : Result ℕ Refused) → IsKindRead part_word (λ n. exactly 1 n) 0 l r vs → None ≡ result_ok r → None ≡ cond (is_line length_kind l) (Some (length_in l)) None
+  unfolding length_kind kind
+  part_ill (Ok n) m e = cc
+  part_ill (Err x) m e = rw (no_line length_kind l x (m.layout length_kind.content))
+
+  pub part_told : (r : Result ℕ Refused) (n : ℕ) → IsKindRead part_word (λ n. exactly 1 n) 0 l r vs → Some n ≡ result_ok r →
+      Some (get_or vs 0 0) ≡ cond (is_line length_kind l) (Some (length_in l)) None
   unfolding length_kind kind length_in
-  part_told m = record {
-    good = a ∙ accepted_line length_kind l r.layout (m.layout length_kind.content);
-    length = λ t. number_kept length_kind 0 l r vs m (sym a ∙ t) 0 (omega arith);
-  }
+  part_told (Ok k) n m e = rw (good_line length_kind l (m.layout length_kind.content), number_kept length_kind 0 l vs k m 0 (omega arith))
+  part_told (Err x) n m e = cc
 
-  pub list_told : IsKindRead nets_word (λ n. 0) 0 l r vs → IsListLine l (record { good = good; count = r.count }) vs
+  pub list_ill : (r : Result ℕ Refused) → IsKindRead nets_word (λ n. 0) 0 l r vs → None ≡ result_ok r → None ≡ cond (is_line list_kind l) (Some (length (numbers_of l))) None
   unfolding list_kind kind
-  list_told m = record {
-    good = a ∙ accepted_line list_kind l r.layout (m.layout list_kind.content);
-    count = m.count;
-    kept = λ t. m.kept (sym a ∙ t);
-  }
+  list_ill (Ok n) m e = cc
+  list_ill (Err x) m e = rw (no_line list_kind l x (m.layout list_kind.content))
+
+  pub list_told : (r : Result ℕ Refused) (n : ℕ) → IsKindRead nets_word (λ n. 0) 0 l r vs → Some n ≡ result_ok r → Some n ≡ cond (is_line list_kind l) (Some (length (numbers_of l))) None
+  unfolding list_kind kind
+  list_told (Ok k) n m e = rw (good_line list_kind l (m.layout list_kind.content), ← m.count) e
+  list_told (Err x) n m e = cc
+
+  pub list_kept : (r : Result ℕ Refused) (n : ℕ) → IsKindRead nets_word (λ n. 0) 0 l r vs → Some n ≡ result_ok r → vs ≡ in_places 64 (numbers_of l)
+  list_kept (Ok k) n m e = m.kept
+  list_kept (Err x) n m e = cc
+
+  list_length : (r : Result ℕ Refused) (n : ℕ) → IsKindRead nets_word (λ n. 0) 0 l r vs → Some n ≡ result_ok r → n ≡ length (numbers_of l)
+  list_length (Ok k) n m e = let same : n ≡ k = cc in omega (arith, m.count)
+  list_length (Err x) n m e = cc
 
 -- a line is too short for a count that does not fit 16 bits
-pub list_fits : (bs : List ℕ) (ended : Bool) (r : ListLine) (vs : List ℕ) → length bs ≤ 8192 → IsListLine (line bs ended) r vs → r.count < 65536
-list_fits bs ended r vs few m = omega (arith, m.count, numbers_count (line bs ended), numbers_few bs ended)
+pub list_fits : (bs : List ℕ) (ended : Bool) (vs : List ℕ) (r : Result ℕ Refused) (n : ℕ) → length bs ≤ 8192 → IsKindRead nets_word (λ n. 0) 0 (line bs ended) r vs → Some n ≡ result_ok r → n < 65536
+list_fits bs ended vs r n few m e = omega (arith, list_length (line bs ended) vs r n m e, numbers_count (line bs ended), numbers_few bs ended)
 
--- THE STEP ADD made whole: no other line has terminals
-abbrev is_add : StepLine → Bool
-is_add NoStep = false
-is_add BeginPart = false
-is_add AddPart = false
-is_add (AddNets n) = false
-is_add (Begin n) = false
-is_add (Add n) = true
-is_add Off = false
-
-good_add : (v : Bool) (x : StepLine) (n k : ℕ) → x ≡ cond v (Add n) NoStep → x ≡ Add k → v ≡ true
-good_add true x n k e z = refl
-good_add false x n k e z = let q : ◌≡◌ {A = ℕ} 0 1 = cc in absurd (omega arith)
-
-word_bare : (l : Line) → is_add (word_line l) ≡ false
+-- no word alone makes Add whole
+pub word_kept : (l : Line) (n c : ℕ) → word_line l ≡ Some (Add n c) → ⊥
 unfolding word_line
-word_bare l = go l.ended (same_bytes l.bytes begin_word) (same_bytes l.bytes add_word) (same_bytes l.bytes off_word)
+word_kept l n c = go l.ended (same_bytes l.bytes begin_word) (same_bytes l.bytes add_word) (same_bytes l.bytes off_word)
   where
-    go : (e b a o : Bool) → is_add (cond e (cond b BeginPart (cond a AddPart (cond o Off NoStep))) NoStep) ≡ false
-    go true true a o = refl
-    go true false true o = refl
-    go true false false true = refl
-    go true false false false = refl
-    go false b a o = refl
-
-module _ (before : StepLine) (l : Line) where
-  -- a line that does not make ADD whole
-  module _ (r : StepLineRead) (vs : List ℕ) (x : StepLine) (e : r.line ≡ x) where
-    bare : is_add x ≡ false → x ≡ step_line before l → IsStepLineRead before l r vs
-    bare none s = record { line_is = e ∙ s; count = λ n z. absurd (not_add n z); kept = λ n z. absurd (not_add n z) }
-      where
-        not_add : (n : ℕ) → r.line ≡ Add n → ⊥
-        not_add n z = let q : ◌≡◌ {A = ℕ} 0 1 = cc in omega arith
-
-    -- the first line of a step
-    pub word_step : x ≡ word_line l → step_line before l ≡ word_line l → IsStepLineRead before l r vs
-    word_step w s = bare (rw w (word_bare l)) (w ∙ sym s)
-
-    -- the PART line of a step
-    pub part_step : (p : PartLine) (made : ℕ → StepLine) → ((n : ℕ) → is_add (made n) ≡ false) → IsPartLine l p → x ≡ cond p.good (made p.length) NoStep →
-        step_line before l ≡ cond (is_line length_kind l) (made (length_in l)) NoStep → IsStepLineRead before l r vs
-    part_step p made none m w s = go p.good refl
-      where
-        go : (v : Bool) → p.good ≡ v → IsStepLineRead before l r vs
-        go true g = bare (rw (w, g) (none p.length)) (w ∙ rw (g, s, ← m.good, g, m.length g))
-        go false g = bare (rw (w, g)) (w ∙ rw (g, s, ← m.good, g))
-
-  -- the NETS line of ADD
-  pub list_step : (n : ℕ) (p : ListLine) (x : StepLine) (vs : List ℕ) → IsListLine l p vs → x ≡ cond p.good (Add n) NoStep → before ≡ AddNets n →
-      IsStepLineRead before l (record { line = x; count = p.count }) vs
-  unfolding step_line
-  list_step n p x vs m w s = record {
-    line_is = w ∙ rw (s, m.good);
-    count = λ k z. m.count;
-    kept = λ k z. m.kept (good_add p.good x n k w z);
-  }
+    go : (e b a o : Bool) → cond e (cond b (Some BeginPart) (cond a (Some AddPart) (cond o (Some Off) None))) None ≡ Some (Add n c) → ⊥
+    go true true a o h = cc
+    go true false true o h = cc
+    go true false false true h = cc
+    go true false false false h = cc
+    go false b a o h = cc

@@ -1,138 +1,84 @@
 // The lines of a session's steps: BEGIN and a PART line; ADD, a PART line and a NETS line; OFF.
 #![tactic(auto)]
 
-ghost use Rattle.std.specs.Prelude.{◌≡◌, cond, ◌≤◌, length, replicate};
-ghost use Rattle.lines.specs.Lines.{line};
-ghost use Rattle.steps.specs.Steps.{word_line};
-ghost use Rattle.steps.specs.declared.StepLine.TheVariants.{NoStep};
-ghost use Rattle.steps.specs.Parts.{IsPartLine, IsListLine, IsStepLineRead};
+ghost use Rattle.std.specs.Prelude.{◌≡◌, ◌≤◌, cond, None, Some, OnSome, length, replicate};
+ghost use Rattle.lines.specs.Lines.{line_of, numbers_of};
+ghost use Rattle.lines.specs.Numbers.{in_places};
+ghost use Rattle.steps.specs.Steps.{word_line, is_line, length_kind, list_kind, length_in};
+ghost use Rattle.steps.specs.Parts.{IsStepLineRead};
 
-use lines::{KEPT, is_word};
+use lines::{KEPT, Line, is_word};
 use text::{Counts, read_kind};
 
-// What a line is behind another: no line of a step; the first line of a step, or the first two, with the length of the second; or the last, which makes the step whole.
-#[derive(Clone, Copy)]
+// What a line of a step is behind another: the first line of a step, or the first two, with the length of the second; or the last, which makes the step whole,
+// Add's with how many terminals it has.
+#[derive(Clone, Copy, Debug, PartialEq, Eq)]
 pub enum StepLine {
-    NoStep,
     BeginPart,
     AddPart,
     AddNets(u32),
     Begin(u32),
-    Add(u32),
+    Add { length: u32, count: u16 },
     Off,
 }
 
-// The first line of a step.
-fn word_line(bytes: &[u8], ended: bool) -> StepLine
-    ensures { result ≡ word_line (line bytes.now ended) }
+// The first line of a step, if it is one.
+#[tactic(auto, unfolding(crate::specs::Steps::word_line, crate::specs::Steps::begin_word, crate::specs::Steps::add_word, crate::specs::Steps::off_word, lines::specs::Lines::line))]
+fn word_line(line: Line) -> Option<StepLine>
+    ensures { result ≡ word_line (line_of line.entry) }
 {
-    if !ended {
-        return StepLine::NoStep;
+    if !line.ended {
+        return None;
     }
-    if is_word(bytes, b"BEGIN") {
-        return StepLine::BeginPart;
+    // A match on these byte strings was tried, and the proof did not close.
+    if is_word(line.bytes, b"BEGIN") {
+        return Some(StepLine::BeginPart);
     }
-    if is_word(bytes, b"ADD") {
-        return StepLine::AddPart;
+    if is_word(line.bytes, b"ADD") {
+        return Some(StepLine::AddPart);
     }
-    if is_word(bytes, b"OFF") {
-        return StepLine::Off;
+    if is_word(line.bytes, b"OFF") {
+        return Some(StepLine::Off);
     }
-    StepLine::NoStep
+    None
 }
 
-// Whether a line is a PART line with a length alone by its layout, and that length.
-#[derive(Clone, Copy)]
-struct PartLine {
-    good: bool,
-    length: u32,
-}
-
-fn part_line(bytes: &[u8], ended: bool) -> PartLine
-    requires { length bytes.now ≤ 8192 }
-    ensures { IsPartLine (line bytes.now ended) result }
+// The length of a PART line with a length alone, if it is one by its layout.
+fn part_length(line: Line) -> Option<u32>
+    requires { length line.bytes.now ≤ 8192 }
+    ensures { result ≡ cond (is_line length_kind (line_of line.entry)) (Some (length_in (line_of line.entry))) None }
 {
-    let mut values = [0u32; KEPT];
-    let line = read_kind(bytes, ended, 0, b"PART", Counts::Exactly(1), &mut values);
-    let layout = line.layout;
-    PartLine {
-        good: layout.is_accepted(),
-        length: values[0],
-    }
+    let mut values = [0; KEPT];
+    read_kind(line, 0, b"PART", Counts::Exactly(1), &mut values).ok()?;
+    Some(values[0])
 }
 
-// Whether a line is a NETS line by its layout, an odd count let pass, and how many numbers it has.
-#[derive(Clone, Copy)]
-struct ListLine {
-    good: bool,
-    count: usize,
-}
-
-fn list_line(bytes: &[u8], ended: bool, values: &mut [u32; KEPT]) -> ListLine
-    requires { (length bytes.now ≤ 8192) × (values.old ≡ replicate 64 0) }
-    ensures { IsListLine (line bytes.now ended) result values.new }
+// How many numbers a NETS line has, if it is one by its layout, an odd count let pass.
+fn list_count(line: Line, values: &mut [u32; KEPT]) -> Option<u16>
+    requires { (length line.bytes.now ≤ 8192) × (values.old ≡ replicate 64 0) }
+    ensures count { result ≡ cond (is_line list_kind (line_of line.entry)) (Some (length (numbers_of (line_of line.entry)))) None }
+    ensures kept { OnSome result (values.new ≡ in_places 64 (numbers_of (line_of line.entry))) }
 {
-    let line = read_kind(bytes, ended, 0, b"NETS", Counts::Any, values);
-    let layout = line.layout;
-    ListLine {
-        good: layout.is_accepted(),
-        count: line.count,
-    }
+    let count = read_kind(line, 0, b"NETS", Counts::Any, values).ok()?;
+    Some(count as u16)
 }
 
-// What a line is behind another, and where it is the last of ADD how many terminals it has.
-#[derive(Clone, Copy)]
-pub struct StepLineRead {
-    pub line: StepLine,
-    pub count: u16,
-}
-
-// A line of a step, where its layout is good.
-fn if_good(good: bool, line: StepLine) -> StepLine
-    ensures { result ≡ cond good line NoStep }
-{
-    if good {
-        return line;
-    }
-    StepLine::NoStep
-}
-
-// A line that is not the last of ADD.
-fn without_terminals(line: StepLine) -> StepLineRead
-    ensures { result.line ≡ line }
-{
-    StepLineRead { line, count: 0 }
-}
-
-// What a line is behind another; the first terminals of ADD come into these places, which are zeros before.
+// What a line is behind another, if it is a line of a step; the first terminals of ADD come into these places, which are zeros before.
+#[tactic(auto, using(crate::proofs::Answers::word_kept), unfolding(crate::specs::Steps::step_line))]
 pub fn read_step_line(
-    before: StepLine,
-    bytes: &[u8],
-    ended: bool,
+    before: Option<StepLine>,
+    line: Line,
     values: &mut [u32; KEPT],
-) -> StepLineRead
-    requires { (length bytes.now ≤ 8192) × (values.old ≡ replicate 64 0) }
-    ensures { IsStepLineRead before (line bytes.now ended) result values.new }
+) -> Option<StepLine>
+    requires { (length line.bytes.now ≤ 8192) × (values.old ≡ replicate 64 0) }
+    ensures { IsStepLineRead before (line_of line.entry) result values.new }
 {
     match before {
-        StepLine::BeginPart => {
-            let part = part_line(bytes, ended);
-            without_terminals(if_good(part.good, StepLine::Begin(part.length)))
+        Some(StepLine::BeginPart) => part_length(line).map(StepLine::Begin),
+        Some(StepLine::AddPart) => part_length(line).map(StepLine::AddNets),
+        Some(StepLine::AddNets(length)) => {
+            list_count(line, values).map(|count| StepLine::Add { length, count })
         }
-        StepLine::AddPart => {
-            let part = part_line(bytes, ended);
-            without_terminals(if_good(part.good, StepLine::AddNets(part.length)))
-        }
-        StepLine::AddNets(length) => {
-            let list = list_line(bytes, ended, values);
-            StepLineRead {
-                line: if_good(list.good, StepLine::Add(length)),
-                count: list.count as u16,
-            }
-        }
-        StepLine::NoStep => without_terminals(word_line(bytes, ended)),
-        StepLine::Begin(_) => without_terminals(word_line(bytes, ended)),
-        StepLine::Add(_) => without_terminals(word_line(bytes, ended)),
-        StepLine::Off => without_terminals(word_line(bytes, ended)),
+        None | Some(StepLine::Begin(_) | StepLine::Add { .. } | StepLine::Off) => word_line(line),
     }
 }

@@ -3,3 +3,4 @@ pub mod Placed
 pub mod Space
 pub mod Walks
 pub mod Events
+pub mod Steps

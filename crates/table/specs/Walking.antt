@@ -3,8 +3,9 @@ use Rattle.std.specs.Prelude.{◌≡◌, List, ◌++◌, ℕ, suc, ◌+◌, ◌-
 use Rattle.stack.specs.Stack.{Stack, first_spread}
 use Rattle.stack.specs.Value.{stack_of}
 use Rattle.stack.specs.declared.Stack.{Stack as StackStruct}
-use Rattle.stack.specs.Sizes.{strips_held}
-use Rattle.arrays.specs.Arrays.{entry, sums_in, Sized}
+use Rattle.arrays.specs.Arrays.{entry, Sized}
+use Rattle.arrays.specs.declared.Given.{Given}
+use Rattle.arrays.specs.declared.StripSpans.{StripSpans}
 use Rattle.answer.specs.Solve.{answer_total}
 use Rattle.rows.specs.Walk.{rows_walk, widest, rows_of}
 use Rattle.answer.specs.Arrays.{Held}
@@ -22,21 +23,20 @@ pub record Walking (k : Stack) (out : List ℕ) (w : Walk) : Type 0 where
   pub at_is : w.at ≡ length text
   pub written : Written text out out
 
--- the arrays that are held from spread to spread
-pub record Holding (k : StackStruct) (limits : List (List (List ℕ))) (plan windows : List (List ℕ)) (t : List (List (List ℕ))) : Type 0 where
-  pub held : Held k limits plan
-  pub sized_windows : length windows ≡ strips_held
+-- what is held from spread to spread
+pub record Holding (k : StackStruct) (g : Given) (t : List StripSpans) : Type 0 where
+  pub held : Held k g
   pub sized : Sized t
 
--- the walk with the arrays it is made in; no total is more than all last separations, and before the first row it is one more than these
-pub record Stepping (k : StackStruct) (limits : List (List (List ℕ))) (plan windows : List (List ℕ)) (t : List (List (List ℕ))) (out : List ℕ) (w : Walk) : Type 0 where
-  pub holding : Holding k limits plan windows t
+-- the walk with what is held; no total is more than all last separations, and before the first row it is one more than these
+pub record Stepping (k : StackStruct) (g : Given) (t : List StripSpans) (out : List ℕ) (w : Walk) : Type 0 where
+  pub holding : Holding k g t
   pub walking : Walking (stack_of k) out w
-  pub capped : w.total ≤ suc (entry (sums_in plan) 0)
+  pub capped : w.total ≤ suc (entry g.plan.above 0)
 
 -- the next event lies within the greatest spread of use
-pub record StepAsks (k : StackStruct) (w : Walk) (limits : List (List (List ℕ))) (plan windows : List (List ℕ)) (t : List (List (List ℕ))) (out : List ℕ) : Type 0 where
-  pub here : Stepping k limits plan windows t out w
+pub record StepAsks (k : StackStruct) (w : Walk) (g : Given) (t : List StripSpans) (out : List ℕ) : Type 0 where
+  pub here : Stepping k g t out w
   pub some : 0 < w.total
   pub inside : w.spread + w.jump ≤ widest (stack_of k)
 

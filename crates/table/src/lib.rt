@@ -11,10 +11,9 @@ ghost use Rattle.writing.specs.Output.{LinePutAt};
 ghost use Rattle.writing.specs.TableText.{row_text};
 ghost use Rattle.table.specs.Walking.{StepAsks, Stepping, TablePut};
 
-use answer::fill_limits;
-use arrays::{ABOVE, Plan, SpanTable, StackLimits, Windows};
+use answer::fill_held;
+use arrays::{Given, SpanTable, StripSpans};
 use extent::{first_spread, last_position, lengths_sum};
-use plan::plan_for;
 use rows::{evaluate, place_row};
 use solver::Placement;
 use stack::Stack;
@@ -31,33 +30,25 @@ struct Walk {
 }
 
 // The row of a spread's answer, written behind the text that ends at a place.
-fn put_placed(stack: Stack, spread: u32, placement: Placement, out: &mut [u8], at: usize) -> usize
-    requires { (at ≤ 2 ^ 32) × (within_limits (stack_of stack) ≡ true) × (first_spread (stack_of stack).strips ≤ spread) × AnswerIs (stack_of stack) spread placement }
-    ensures { LinePutAt at (row_text (row_at (stack_of stack) spread)) out.old out.new result }
+fn put_placed(stack: &Stack, spread: u32, placement: &Placement, out: &mut [u8], at: usize) -> usize
+    requires { (at ≤ 2 ^ 32) × (within_limits (stack_of stack.now) ≡ true) × (first_spread (stack_of stack.now).strips ≤ spread) × AnswerIs (stack_of stack.now) spread placement.now }
+    ensures { LinePutAt at (row_text (row_at (stack_of stack.now) spread)) out.old out.new result }
 {
     let k = stack.count;
     let total = placement.total;
     let separations = placement.separations;
     let positions = placement.positions;
-    put_row_at(out, at, k, spread, total.0, separations, positions)
+    put_row_at(out, at, k, spread, total.0, &separations, &positions)
 }
 
 // The next event's spread, with its row if the total falls there.
-fn step(
-    stack: Stack,
-    w: Walk,
-    limits: &StackLimits,
-    plan: &Plan,
-    windows: &mut Windows,
-    table: &mut SpanTable,
-    out: &mut [u8],
-) -> Walk
-    requires { StepAsks stack w limits.now plan.now windows.old table.old out.old }
-    ensures { Stepping stack limits.now plan.now windows.new table.new out.new result × (result.spread ≡ w.spread + w.jump) × (0 < result.jump) }
+fn step(stack: &Stack, w: Walk, given: &mut Given, table: &mut SpanTable, out: &mut [u8]) -> Walk
+    requires { StepAsks stack.now w given.old table.old out.old }
+    ensures { Stepping stack.now given.new table.new out.new result × (result.spread ≡ w.spread + w.jump) × (0 < result.jump) }
 {
     let next = (w.spread as u64 + w.jump) as u32;
     let cap = w.total - 1;
-    let scan = evaluate(stack, next, cap, limits, plan, windows, table);
+    let scan = evaluate(stack, next, cap, given, table);
     if cap < scan.total {
         return Walk {
             spread: next,
@@ -66,8 +57,8 @@ fn step(
             at: w.at,
         };
     }
-    let placement = place_row(stack, next, scan, limits, plan, windows, table);
-    let at = put_placed(stack, next, placement, out, w.at);
+    let placement = place_row(stack, next, scan, given, table);
+    let at = put_placed(stack, next, &placement, out, w.at);
     Walk {
         spread: next,
         total: scan.total,
@@ -77,19 +68,17 @@ fn step(
 }
 
 // The table of a stack over the output's first bytes, each line if there is space for it; the whole table's length.
-pub fn put_table(stack: Stack, out: &mut [u8]) -> usize
-    requires { within_limits (stack_of stack) ≡ true }
-    ensures { TablePut (stack_of stack) out.new result }
+#[tactic(auto, using(stack::proofs::Within::few_channels, crate::proofs::Events::sum_widest, crate::proofs::Events::spread_fits, rows::proofs::Settled::widest_small))]
+pub fn put_table(stack: &Stack, out: &mut [u8]) -> usize
+    requires { within_limits (stack_of stack.now) ≡ true }
+    ensures { TablePut (stack_of stack.now) out.new result }
 {
-    let mut limits = [[[0u64; Stack::SEPARATIONS]; 2]; Stack::MAX_CHANNELS];
-    let mut lasts = [0usize; Stack::STRIPS];
-    fill_limits(stack, &mut limits, &mut lasts);
-    let plan = plan_for(&limits, lasts, stack.count);
-    let mut windows = [[0u64; 2]; Stack::STRIPS];
-    let mut table = [[[0u32; Stack::TOTALS]; 2]; Stack::STRIPS];
+    let mut given = Given::NONE;
+    fill_held(stack, &mut given);
+    let mut table = [StripSpans::NONE; Stack::STRIPS];
     let widest = last_position(stack) + lengths_sum(stack);
     let first = first_spread(stack) as u32;
-    let beyond = plan[ABOVE][0] + 1;
+    let beyond = given.plan.above[0] + 1;
     let at = put_head(out, stack.count);
     let mut w = Walk {
         spread: first,
@@ -97,13 +86,9 @@ pub fn put_table(stack: Stack, out: &mut [u8]) -> usize
         jump: 0,
         at,
     };
-    while 0 < w.total {
-        let further = widest - w.spread as u64;
-        if further < w.jump {
-            return w.at;
-        }
-        let stepped = step(stack, w, &limits, &plan, &mut windows, &mut table, out);
-        w = stepped;
+    // The spread goes on by jumps, so that there is nothing to count.
+    while 0 < w.total && w.jump <= widest - w.spread as u64 {
+        w = step(stack, w, &mut given, &mut table, out);
     }
     w.at
 }

@@ -1,6 +1,6 @@
 -- The layout of a line in document 02's words; that its numbers have at most four digits; then the layout as the reader of lines tells it: refused as the documents
 -- refuse it, and else the numbers are kept. Assumes nothing.
-use mathlib.Core.Path.{◌≡◌, refl, sym, ◌∙◌}
+use mathlib.Core.Path.{◌≡◌, refl, ap, sym, ◌∙◌}
 use mathlib.Core.Bool.{Bool, true, false, cond}
 use mathlib.Core.List.{List, [], ◌∷◌}
 use mathlib.Core.Logic.{◌⊎◌, inl, inr}
@@ -11,20 +11,20 @@ use lib.Dec.{ltb, leb, eqb}
 use lib.ListN.{length, get_or}
 use borrow.Author.Tests.{leb-true, ltb-true, eqb-true, ne_eqb}
 use Rattle.lines.specs.Lines.{Line, number_fields, has_word, all_digits, is_number, ill_formed, value_of, value, values, numbers_of}
-use Rattle.lines.specs.Numbers.{IsLineRead}
+use Rattle.std.specs.Prelude.{Option, None, Some, IfSome, Result, Ok, Err, ⊤}
+use Rattle.lines.specs.Numbers.{field_if_any, IsLineRead}
 use Rattle.lines.specs.declared.LineRead.{LineRead}
 use Rattle.lines.proofs.Digits.{digit_says}
 use Rattle.lines.proofs.Fields.{getD_in_places, numbers_count}
 use Rattle.numbers.proofs.Bools.{ands}
 use Rattle.text.specs.Text.{Refusal, refusal, fine, or_else, Entry, entry, Kind, kind, exactly, one_or_three, in_pairs, misplaced, count_refusal, number_refusal, layout}
 use Rattle.text.specs.Layout.{FirstIll, LayoutIs, line_fault, count_fault, number_fault, good, LayoutTold}
-use Rattle.text.specs.Outcome.{refusal_of, is_accepted}
-use Rattle.text.specs.Kinds.{fault_of, layout_found, IsKindRead, kind_refusal}
+use Rattle.text.specs.Outcome.{refusal_of}
+use Rattle.text.specs.Kinds.{fault_of, refused_at, layout_found, IsKindRead, kind_refusal}
+use Rattle.text.specs.declared.Refused.{Refused}
 use Rattle.text.specs.declared.Counts.{Counts}
 use Rattle.text.specs.declared.Counts.TheVariants.{Exactly, OneOrThree, InPairs, Any}
-use Rattle.text.specs.declared.KindRead.{KindRead}
-use Rattle.text.specs.declared.Outcome.{Outcome}
-use Rattle.text.proofs.Refusals.{or_else_fine, unless_fine, only_fine, or_else_refused, or_else_next, refused_number, accepted_fine}
+use Rattle.text.proofs.Refusals.{or_else_fine, unless_fine, only_fine, or_else_refused, or_else_next, word_not_fine}
 
 -- THE FIELD of a fault of the count is at most the one behind the numbers
 exactly_few : (m n : ℕ) → exactly m n ≤ n + 2
@@ -51,27 +51,35 @@ fault_few InPairs n = go (eqb (n % 2) 0)
     go false = omega arith
 fault_few Any n = omega arith
 
--- THE FIRST FAULT of a layout, test by test
-pub count_found : (f i n : ℕ) → (f ≡ 0 → ⊥) → layout_found true f i n ≡ refusal 11 n f
-unfolding layout_found misplaced or_else refusal
-count_found f i n h = rw (ne_eqb f 0 h, zero-add f)
-
-pub ill_found : (i n : ℕ) → (i ≡ 0 → ⊥) → layout_found true 0 i n ≡ refusal 12 n i
-unfolding layout_found misplaced or_else fine refusal
-ill_found i n h = rw (ne_eqb i 0 h, zero-add i)
-
-pub none_found : (n : ℕ) → layout_found true 0 0 n ≡ fine
-unfolding layout_found misplaced or_else fine refusal
-none_found n = refl
-
--- of the count alone
-pub count_alone : (f n : ℕ) → layout_found true f 0 n ≡ misplaced 11 n 0 f
-unfolding layout_found misplaced or_else fine refusal
-count_alone f n = go (eqb f 0)
+-- a field that may be none
+pub at_field : (m n f : ℕ) → refused_at m n (field_if_any f) ≡ misplaced m n 0 f
+unfolding misplaced
+at_field m n f = go (eqb f 0)
   where
-    go : (v : Bool) → or_else (cond v fine (refusal 11 n (0 + f))) fine ≡ cond v fine (refusal 11 n (0 + f))
+    go : (v : Bool) → refused_at m n (cond v None (Some f)) ≡ cond v fine (refusal m n (0 + f))
     go true = refl
-    go false = refl
+    go false = rw (zero-add f)
+
+pub field_small : (f b : ℕ) → f < b → IfSome (field_if_any f) (λ x. x < b)
+field_small f b h = go (eqb f 0)
+  where
+    go : (v : Bool) → IfSome (cond v None (Some f)) (λ x. x < b)
+    go true = tt
+    go false = h
+
+some_field : (f : ℕ) → field_if_any (suc f) ≡ Some (suc f)
+some_field f = rw (ne_eqb (suc f) 0 (omega arith))
+
+-- THE FIRST FAULT of a layout: of the count alone
+pub count_alone : (o : Option ℕ) (n : ℕ) → layout_found true o None n ≡ refused_at 11 n o
+unfolding layout_found or_else fine refusal
+count_alone None n = refl
+count_alone (Some f) n = refl
+
+pub layout_is_found : (K : Kind) (n : ℕ) (l : Line) →
+    layout K n l ≡ layout_found (has_word l K.word) (field_if_any (K.fault (length (number_fields l)))) (field_if_any (ill_formed 2 (number_fields l))) n
+unfolding layout layout_found count_refusal number_refusal
+layout_is_found K n l = rw (at_field 11 n (K.fault (length (number_fields l))), at_field 12 n (ill_formed 2 (number_fields l)))
 
 -- IN DOCUMENT 02'S WORDS
 ill_above : (f : ℕ) (fs : List (List ℕ)) → (ill_formed f fs ≡ 0) ⊎ (f ≤ ill_formed f fs)
@@ -124,20 +132,20 @@ first_found f j (x ∷ xs) h = go (is_number x) refl (λ i e. first_found (suc f
     go false e rest (suc j) h = absurd (omega arith)
 
 pub layout_told : LayoutTold
-unfolding LayoutTold layout layout_found count_refusal number_refusal
-layout_told K n l = go (has_word l K.word) (K.fault (length fs)) (ill_formed 2 fs) refl refl refl
+unfolding LayoutTold layout_found or_else fine refusal
+layout_told K n l = rw (layout_is_found K n l) (go (has_word l K.word) (K.fault (length fs)) (ill_formed 2 fs) refl refl refl)
   where
     fs : List (List ℕ)
     fs = number_fields l
 
-    go : (v : Bool) (f i : ℕ) → has_word l K.word ≡ v → K.fault (length fs) ≡ f → ill_formed 2 fs ≡ i → LayoutIs K n l (layout_found v f i n)
+    go : (v : Bool) (f i : ℕ) → has_word l K.word ≡ v → K.fault (length fs) ≡ f → ill_formed 2 fs ≡ i → LayoutIs K n l (layout_found v (field_if_any f) (field_if_any i) n)
     go false f i a b c = line_fault a
-    go true (suc f) i a b c = rw (count_found (suc f) i n (λ z. omega arith), ← b) (count_fault a (λ z. omega arith))
-    go true zero zero a b c = rw (none_found n) (good a b (none_ill 1 fs c))
+    go true (suc f) i a b c = rw (some_field f, ← b) (count_fault a (λ z. omega arith))
+    go true zero zero a b c = good a b (none_ill 1 fs c)
     go true zero (suc zero) a b c = absurd (not_before 1 1 fs c (omega arith) (omega arith))
     go true zero (suc (suc j)) a b c =
         let place : j + 2 ≡ suc (suc j) = omega arith in
-        rw (ill_found (suc (suc j)) n (λ z. omega arith), ← place) (number_fault a b j (first_found 1 j fs (c ∙ omega arith)))
+        rw (some_field (suc j), ← place) (number_fault a b j (first_found 1 j fs (c ∙ omega arith)))
 
 -- A LINE whose layout is right has its word, its count and its numbers
 record LayoutSays (K : Kind) (l : Line) : Type 0 where
@@ -192,39 +200,44 @@ unfolding numbers_of
 numbers_below K n l h i = values_below 1 (number_fields l) (layout_says K n l h).numbers i
 
 -- THE READER of a word and counts
-module _ (w : List ℕ) (d : Counts) (n : ℕ) (l : Line) (r : LineRead) (vs : List ℕ) (m : IsLineRead l w r vs) (f : ℕ) (e : f ≡ fault_of d r.count)
-    (o : Outcome) (t : refusal_of o ≡ layout_found r.worded f r.ill n) where
-  reader_told : (c : Entry → Refusal) → refusal_of o ≡ layout (kind w (λ i. fault_of d i) c) n l
-  unfolding layout layout_found count_refusal number_refusal kind
-  reader_told c = t ∙ rw (e, m.worded, m.count, m.ill)
-
-  layout_good : is_accepted o ≡ true → LayoutSays (kind w (λ i. fault_of d i) (λ c. fine)) l
-  unfolding fine refusal
-  layout_good a = layout_says (kind w (λ i. fault_of d i) (λ c. fine)) n l (rw (sym (reader_told (λ c. fine)) ∙ accepted_fine o a))
-
-  pub kind_read : IsKindRead w (λ i. fault_of d i) n l (record { layout = o; count = r.count }) vs
+module _ (w : List ℕ) (d : Counts) (n : ℕ) (l : Line) (r : LineRead) (vs : List ℕ) (m : IsLineRead l w r vs) where
+  pub reader_told : (c : Entry → Refusal) → layout_found r.worded (field_if_any (fault_of d r.count)) r.ill n ≡ layout (kind w (λ i. fault_of d i) c) n l
   unfolding kind
-  kind_read = record {
-    layout = λ c. reader_told c;
-    fault = λ a. rw m.count (layout_good a).count;
+  reader_told c = sym (layout_is_found (kind w (λ i. fault_of d i) c) n l ∙ rw (m.worded, m.count, m.ill))
+
+  layout_good : fine ≡ layout_found r.worded (field_if_any (fault_of d r.count)) r.ill n → LayoutSays (kind w (λ i. fault_of d i) (λ c. fine)) l
+  unfolding fine refusal
+  layout_good a = layout_says (kind w (λ i. fault_of d i) (λ c. fine)) n l (ap (λ (x : Refusal). x.number) (sym (a ∙ reader_told (λ c. fine))))
+
+  pub kind_refused : (x : Refused) → refusal_of {A = ⊤} (Err x) ≡ layout_found r.worded (field_if_any (fault_of d r.count)) r.ill n → IsKindRead w (λ i. fault_of d i) n l (Err x) vs
+  kind_refused x e = record { layout = λ c. e ∙ reader_told c; fault = tt; count = tt; kept = tt }
+
+  pub kind_read : fine ≡ layout_found r.worded (field_if_any (fault_of d r.count)) r.ill n → IsKindRead w (λ i. fault_of d i) n l (Ok r.count) vs
+  unfolding kind
+  kind_read e = record {
+    layout = λ c. e ∙ reader_told c;
+    fault = rw m.count (layout_good e).count;
     count = m.count ∙ sym (numbers_count l);
-    kept = λ a. m.kept (m.ill ∙ (layout_good a).numbers);
+    kept = m.kept (m.ill ∙ rw (layout_good e).numbers);
   }
 
 -- A LINE OF A KIND: refused as its layout is, and else for its numbers, which are kept
-module _ (K : Kind) (n : ℕ) (l : Line) (r : KindRead) (vs : List ℕ) (m : IsKindRead K.word K.fault n l r vs) where
-  told : refusal_of r.layout ≡ layout K n l
+module _ (K : Kind) (n : ℕ) (l : Line) (vs : List ℕ) where
+  told : (o : Result ℕ Refused) → IsKindRead K.word K.fault n l o vs → refusal_of o ≡ layout K n l
   unfolding layout count_refusal kind
-  told = m.layout K.content
+  told o m = m.layout K.content
 
-  pub layout_refused : is_accepted r.layout ≡ false → refusal_of r.layout ≡ kind_refusal K n l
+  pub layout_refused : (x : Refused) → IsKindRead K.word K.fault n l (Err x) vs → refusal_of {A = ⊤} (Err x) ≡ kind_refusal K n l
   unfolding kind_refusal
-  layout_refused a = told ∙ sym (or_else_refused (layout K n l) _ (rw told at (refused_number r.layout a)))
+  layout_refused x m = let e = told (Err x) m in e ∙ sym (or_else_refused (layout K n l) _ (rw e at (word_not_fine x)))
 
-  module _ (a : is_accepted r.layout ≡ true) where
+  module _ (count : ℕ) (m : IsKindRead K.word K.fault n l (Ok count) vs) where
+    pub layout_fine : layout K n l ≡ fine
+    layout_fine = sym (told (Ok count) m)
+
     pub layout_then : kind_refusal K n l ≡ K.content (entry n 0 (numbers_of l))
     unfolding kind_refusal
-    layout_then = or_else_next (layout K n l) _ (sym told ∙ accepted_fine r.layout a)
+    layout_then = or_else_next (layout K n l) _ layout_fine
 
     pub number_kept : (i : ℕ) → i < 64 → get_or vs i 0 ≡ get_or (numbers_of l) i 0
-    number_kept i h = rw (m.kept a) (getD_in_places 64 i (numbers_of l) h)
+    number_kept i h = rw m.kept (getD_in_places 64 i (numbers_of l) h)

@@ -1,4 +1,4 @@
--- Laws of refusals, the first that applies: when it is none, when it is the first of two, and one by one through lines. Then the refusal of an outcome.
+-- Laws of refusals, the first that applies: when it is none, when it is the first of two, and one by one through lines. Then the refusal of a result.
 -- Assumes nothing.
 use mathlib.Core.Path.{◌≡◌, refl, ap, sym, ◌∙◌}
 use mathlib.Core.Bool.{Bool, true, false, cond}
@@ -8,13 +8,13 @@ use native.Mathlib.Omega.{arith}
 use lib.Dec.{eqb}
 use borrow.Author.Tests.{eqb-true, eqb-false, ne_eqb}
 use Rattle.text.specs.Text.{Refusal, refusal, fine, or_else, Check, in_turn}
-use Rattle.text.specs.Outcome.{number_of, refusal_of, is_accepted}
+use Rattle.std.specs.Prelude.{Result, Ok, Err, is_ok, IsErrAnd}
+use Rattle.std.proofs.lemmas.Result.{err_from_is_err_and}
+use Rattle.text.specs.Outcome.{number_of, refusal_of}
 use Rattle.text.specs.Kinds.{line_refusal}
 use Rattle.text.specs.declared.Refusal.{Refusal as Why}
 use Rattle.text.specs.declared.Refusal.TheVariants.{Overlong, Layout, Crowd, Length, Overhang, Crossing, Narrow, ShortSpace, Broad, Unmet, Count, IllFormed, Empty, Inverted}
 use Rattle.text.specs.declared.Refused.{Refused as RefusedStruct}
-use Rattle.text.specs.declared.Outcome.{Outcome}
-use Rattle.text.specs.declared.Outcome.TheVariants.{Accepted, Refused}
 
 -- NOTHING IS REFUSED if no test refuses
 pub or_else_fine : (a b : Refusal) → (or_else a b).number ≡ 0 → (a.number ≡ 0) × (b.number ≡ 0)
@@ -78,7 +78,7 @@ in_turn_append [] ys = refl
 in_turn_append (x ∷ xs) ys =
     ap (λ r. or_else (line_refusal x) r) (in_turn_append xs ys) ∙ or_else_assoc (line_refusal x) (in_turn xs) (in_turn ys)
 
--- THE REFUSAL OF AN OUTCOME: no word has number 0
+-- THE REFUSAL OF A RESULT: no word has number 0
 word_number : (w : Why) → number_of w ≡ 0 → ⊥
 word_number Overlong h = omega arith
 word_number Layout h = omega arith
@@ -95,21 +95,21 @@ word_number IllFormed h = omega arith
 word_number Empty h = omega arith
 word_number Inverted h = omega arith
 
-pub refused_number : (o : Outcome) → is_accepted o ≡ false → (refusal_of o).number ≡ 0 → ⊥
+pub refused_number : {A : Type 0} (o : Result A RefusedStruct) → is_ok o ≡ false → (refusal_of o).number ≡ 0 → ⊥
 unfolding refusal fine
-refused_number Accepted h z = let q : ◌≡◌ {A = ℕ} 0 1 = cc in omega arith
-refused_number (Refused r) h z = word_number r.why z
+refused_number (Ok a) h z = cc
+refused_number (Err r) h z = word_number r.why z
 
-pub accepted_fine : (o : Outcome) → is_accepted o ≡ true → refusal_of o ≡ fine
-accepted_fine Accepted h = refl
-accepted_fine (Refused r) h = let q : ◌≡◌ {A = ℕ} 0 1 = cc in absurd (omega arith)
+pub accepted_fine : {A : Type 0} (o : Result A RefusedStruct) → is_ok o ≡ true → refusal_of o ≡ fine
+accepted_fine (Ok a) h = refl
+accepted_fine (Err r) h = cc
 
-pub number_fine : (o : Outcome) → (refusal_of o).number ≡ 0 → refusal_of o ≡ fine
+pub number_fine : {A : Type 0} (o : Result A RefusedStruct) → (refusal_of o).number ≡ 0 → refusal_of o ≡ fine
 unfolding refusal fine
-number_fine Accepted z = refl
-number_fine (Refused r) z = absurd (word_number r.why z)
+number_fine (Ok a) z = refl
+number_fine (Err r) z = absurd (word_number r.why z)
 
-pub or_else_none : (o : Outcome) (f : Refusal) → refusal_of o ≡ f → f ≡ or_else f fine
+pub or_else_none : {A : Type 0} (o : Result A RefusedStruct) (f : Refusal) → refusal_of o ≡ f → f ≡ or_else f fine
 unfolding or_else
 or_else_none o f e = go (eqb f.number 0) refl
   where
@@ -117,9 +117,22 @@ or_else_none o f e = go (eqb f.number 0) refl
     go true q = sym e ∙ number_fine o (rw e (eqb-true f.number 0 q))
     go false q = refl
 
--- the first of two outcomes that is a refusal
-pub next_taken : (o n : Outcome) → o ≡ Accepted → refusal_of n ≡ or_else (refusal_of o) (refusal_of n)
-next_taken o n e = sym (or_else_next (refusal_of o) (refusal_of n) (ap refusal_of e))
+-- no refusal of a line, a field and a word has number 0
+pub word_not_fine : (r : RefusedStruct) → (refusal (number_of r.why) r.line r.field).number ≡ 0 → ⊥
+unfolding refusal
+word_not_fine r z = word_number r.why z
 
-pub refusal_kept : (o : Outcome) (r : RefusedStruct) (n : Outcome) → o ≡ Refused r → refusal_of (Refused r) ≡ or_else (refusal_of o) (refusal_of n)
-refusal_kept o r n e = rw e (sym (or_else_refused (refusal_of (Refused r)) (refusal_of n) (refused_number (Refused r) refl)))
+pub fine_number : (f : Refusal) → fine ≡ f → f.number ≡ 0
+unfolding fine refusal
+fine_number f e = ap (λ (x : Refusal). x.number) (sym e)
+
+-- what leaves by `?` is what was refused
+pub exit_is : {A : Type 0} (r : Result A RefusedStruct) (e : RefusedStruct) → IsErrAnd r (λ d. d ≡ e) → r ≡ Err e
+exit_is r e x = let p = err_from_is_err_and r x in rw (p.1, p.2)
+
+pub first_refused : (e : RefusedStruct) (f g : Refusal) → refusal (number_of e.why) e.line e.field ≡ f → refusal (number_of e.why) e.line e.field ≡ or_else f g
+first_refused e f g q = q ∙ sym (or_else_refused f g (λ z. word_not_fine e (rw (← q) at z)))
+
+-- a test that is not the first counts where the first refuses nothing
+pub or_else_then : (a b c : Refusal) → fine ≡ a → c ≡ b → c ≡ or_else a b
+or_else_then a b c h e = e ∙ sym (or_else_next a b (sym h))

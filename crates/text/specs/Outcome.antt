@@ -1,10 +1,9 @@
--- TRUSTED. The number, line and field for an outcome. Document 01, "Sent back at the counter"; document 02, P1, P3 and P5 to P7. Assumes nothing: these are definitions.
-use Rattle.std.specs.Prelude.{Bool, true, false, ℕ}
+-- TRUSTED. The number, line and field for a refusal, and for a result that may be one. Document 01, "Sent back at the counter"; document 02, P1, P3 and P5 to P7. Assumes nothing: these are definitions.
+use Rattle.std.specs.Prelude.{Result, Ok, Err, ℕ}
 use Rattle.text.specs.Text.{Refusal, refusal, fine}
 use Rattle.text.specs.declared.Refusal.{Refusal as Why}
 use Rattle.text.specs.declared.Refusal.TheVariants.{Overlong, Layout, Crowd, Length, Overhang, Crossing, Narrow, ShortSpace, Broad, Unmet, Count, IllFormed, Empty, Inverted}
-use Rattle.text.specs.declared.Outcome.{Outcome}
-use Rattle.text.specs.declared.Outcome.TheVariants.{Accepted, Refused}
+use Rattle.text.specs.declared.Refused.{Refused}
 
 abbrev pub number_of : Why → ℕ
 number_of Overlong = 1
@@ -22,14 +21,10 @@ number_of IllFormed = 12
 number_of Empty = 13
 number_of Inverted = 14
 
-abbrev pub refusal_of : Outcome → Refusal
-refusal_of Accepted = fine
-refusal_of (Refused r) = refusal (number_of r.why) r.line r.field
-
-abbrev pub is_accepted : Outcome → Bool
-is_accepted Accepted = true
-is_accepted (Refused r) = false
+abbrev pub refusal_of : {A : Type 0} → Result A Refused → Refusal
+refusal_of (Ok a) = fine
+refusal_of (Err r) = refusal (number_of r.why) r.line r.field
 
 -- a refusal at a line and field
-abbrev pub refused : Why → (line field : ℕ) → Outcome
-refused w l f = Refused (record { why = w; line = l; field = f })
+abbrev pub refused : Why → (line field : ℕ) → Refused
+refused w l f = record { why = w; line = l; field = f }

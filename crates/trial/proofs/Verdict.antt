@@ -1,35 +1,31 @@
--- The four verdicts, on unused separations, unused positions, the spread and the channels, one after the other, make the trial's. Assumes nothing.
-use mathlib.Core.Path.{◌≡◌, sym, ◌∙◌}
-use mathlib.Core.Bool.{Bool, true, false, ◌&&◌}
+-- The four verdicts, on unused separations, unused positions, the spread and the channels, make the trial's. Assumes nothing.
+use mathlib.Core.Path.{◌≡◌, refl}
+use mathlib.Core.Bool.{◌&&◌}
 use mathlib.Core.List.{List}
-use Prim.Native.Nat.{ℕ, suc, ◌+◌}
+use Prim.Native.Nat.{ℕ, suc, ◌+◌, ◌-◌}
 use native.Mathlib.Numerals.{add-one}
-use lib.ListN.{take, drop}
+use native.Mathlib.Omega.{arith}
+use lib.ListN.{length, take, drop}
+use Rattle.std.proofs.lemmas.List.{drop-map, length-drop, take_all}
 use Rattle.stack.specs.Stack.{in_spread, channels_good, legal}
-use Rattle.stack.specs.Value.{stack_of}
+use Rattle.stack.specs.Value.{stack_of, tracks_of, columns_of}
 use Rattle.stack.specs.declared.Stack.{Stack as StackStruct}
+use Rattle.stack.specs.declared.Tracks.{Tracks}
+use Rattle.stack.specs.declared.Columns.{Columns}
 use Rattle.stack.proofs.Within.{stack_channels}
 use Rattle.trial.specs.Legal.{all_zero, is_legal}
+use Rattle.trial.specs.Trying.{used_separations, used_positions}
 
-module _ (k : StackStruct) (s : ℕ) (ts xs : List ℕ) where
-  parts : is_legal (stack_of k) s ts xs
-      ≡ ((all_zero (drop k.count ts) && all_zero (drop (k.count + 1) xs))
-      && (in_spread s (stack_of k).strips (take (suc k.count) xs) && channels_good (stack_of k).channels (take k.count ts) (take (suc k.count) xs)))
-  unfolding is_legal legal
-  parts = rw (stack_channels k, add-one k.count)
-
-  module _ (a : Bool) (ea : a ≡ all_zero (drop k.count ts)) where
-    pub tracks_refuse : a ≡ false → false ≡ is_legal (stack_of k) s ts xs
-    tracks_refuse ha = sym (parts ∙ rw (sym ea ∙ ha))
-
-    module _ (ha : a ≡ true) (b : Bool) (eb : b ≡ all_zero (drop (k.count + 1) xs)) where
-      pub columns_refuse : b ≡ false → false ≡ is_legal (stack_of k) s ts xs
-      columns_refuse hb = sym (parts ∙ rw (sym ea ∙ ha, sym eb ∙ hb))
-
-      module _ (hb : b ≡ true) (c : Bool) (ec : c ≡ in_spread s (stack_of k).strips (take (suc k.count) xs)) where
-        pub spread_refuses : c ≡ false → false ≡ is_legal (stack_of k) s ts xs
-        spread_refuses hc = sym (parts ∙ rw (sym ea ∙ ha, sym eb ∙ hb, sym ec ∙ hc))
-
-        pub channels_decide : c ≡ true → (d : Bool) → d ≡ channels_good (stack_of k).channels (take k.count ts) (take (suc k.count) xs) →
-            d ≡ is_legal (stack_of k) s ts xs
-        channels_decide hc d ed = ed ∙ sym (parts ∙ rw (sym ea ∙ ha, sym eb ∙ hb, sym ec ∙ hc))
+pub legal_parts : (k : StackStruct) (s : ℕ) (ts : List Tracks) (xs : List Columns) → length ts ≡ 8 → length xs ≡ 9 → is_legal (stack_of k) s (tracks_of ts) (columns_of xs)
+    ≡ ((all_zero (tracks_of (take (8 - k.count) (drop k.count ts))) && all_zero (columns_of (take (9 - (k.count + 1)) (drop (k.count + 1) xs))))
+    && (in_spread s (stack_of k).strips (used_positions k xs) && channels_good (stack_of k).channels (used_separations k ts) (used_positions k xs)))
+unfolding is_legal legal
+legal_parts k s ts xs h l =
+    rw (
+      take_all (8 - k.count) (drop k.count ts) (omega (arith, length-drop k.count ts)),
+      take_all (9 - (k.count + 1)) (drop (k.count + 1) xs) (omega (arith, length-drop (k.count + 1) xs)),
+      stack_channels k,
+      add-one k.count,
+      drop-map (λ (t : Tracks). t.0) k.count ts,
+      drop-map (λ (x : Columns). x.0) (suc k.count) xs,
+    ) refl

@@ -11,7 +11,6 @@ use lib.Seq.{take-append_seam, take_all, length-take-le}
 use borrow.Author.Tests.{le-leb, lt-leb}
 use Rattle.numbers.proofs.Orders.{le_or_lt}
 use Rattle.writing.specs.Output.{over, over_at, fitted, written, written_at, cleared, Written, line_bytes, LinePut, LinePutAt}
-use Rattle.writing.specs.Room.{LineMade}
 
 pub over_length : (t o : List ℕ) → length t ≤ length o → length (over t o) ≡ length o
 unfolding over
@@ -60,16 +59,33 @@ pub written_ends : {t before after : List ℕ} → Written t before after → le
 unfolding cleared
 written_ends w h = rw (w.stands (omega (arith, w.same_length)), w.same_length)
 
+-- zeros over the part from a place on, where there is one
+pub cleared_part : (from m : ℕ) (out zeros : List ℕ) → m ≡ min from (length out) → zeros ≡ replicate (length out - m) 0 →
+    take m out ++ (zeros ++ drop (length out - m) (drop m out)) ≡ cleared from out
+unfolding cleared
+cleared_part from m out zeros e z =
+    let none : drop (length out - m) (drop m out) ≡ [] = drop_of_length-le (drop m out) {i = length out - m} (rw length-drop (omega arith)) in
+    rw (none, append-nil, z) (go (le_or_lt from (length out)))
+  where
+    go : (from ≤ length out) ⊎ (length out < from) → take m out ++ replicate (length out - m) 0 ≡ take from out ++ replicate (length out - from) 0
+    go (inl h) = let same : m ≡ from = omega arith in rw same
+    go (inr h) =
+        let no_part : length out - m ≡ 0 = omega arith in
+        let none_behind : length out - from ≡ 0 = omega arith in
+        rw (no_part, none_behind, take_all m out (omega arith), take_all from out (omega arith))
+
 pub cleared_all : (o : List ℕ) → cleared 0 o ≡ replicate (length o) 0
 unfolding cleared
 cleared_all o = rw sub-zero
 
--- a line made in a room, put
-pub made_put : {t room before after : List ℕ} {at r : ℕ} → length room ≡ line_bytes → LineMade t room at →
-    LinePut (take (line_bytes - at) (drop at room)) before after r → LinePut t before after r
-made_put {t} {room} {at = at} h m p =
-    let whole : take (line_bytes - at) (drop at room) ≡ t = take_all (line_bytes - at) (drop at room) (rw length-drop (omega arith)) ∙ m.stands in
-    rw whole at p
+-- a line where there is space for it, and where there is none
+pub line_fits : {line before : List ℕ} → length line ≤ length before → length line ≤ line_bytes → LinePut line before (line ++ drop (length line) before) (length line)
+unfolding written fitted over
+line_fits {line} {before} h few = record { stands = rw (le-leb (length line) (length before) h); counted = refl; few = few }
+
+pub line_short : {line before : List ℕ} → length before < length line → length line ≤ line_bytes → LinePut line before before (length line)
+unfolding written fitted
+line_short {line} {before} h few = record { stands = rw (lt-leb (length line) (length before) h); counted = refl; few = few }
 
 -- a line over the part from a place on; from a place behind the output there is no part, and no line fits
 written_behind : (at : ℕ) (t o : List ℕ) → 0 < length t → take (min at (length o)) o ++ written t (drop (min at (length o)) o) ≡ written_at at t o

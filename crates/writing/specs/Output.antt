@@ -71,19 +71,6 @@ pub record RowAsks (k total : ℕ) (ts : List Tracks) : Type 0 where
   pub channels : k ≤ 8
   pub added : total ≡ sum (take k (tracks_of ts))
 
--- while a line is copied: its first i bytes stand
-pub record Copying (line before : List ℕ) (i : ℕ) (now : List ℕ) : Type 0 where
-  pub below : i ≤ length line
-  pub stands : now ≡ take i line ++ drop i before
-  pub same_length : length now ≡ length before
-
--- while an output is cleared: zeros stand from a place up to i
-pub record Clearing (from : ℕ) (before : List ℕ) (i : ℕ) (now : List ℕ) : Type 0 where
-  pub behind : from ≤ i
-  pub within : i - from ≤ length before - from
-  pub stands : now ≡ take from before ++ replicate (i - from) 0 ++ drop i before
-  pub same_length : length now ≡ length before
-
 -- a row of at most eight channels within the limits
 pub record RowLimited (r : Row) : Type 0 where
   pub channels : length r.separations ≤ 8

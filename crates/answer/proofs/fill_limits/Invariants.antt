@@ -1,11 +1,7 @@
 -- fill_limits meets its contract: the loop keeps LimitsIn. Assumes nothing.
-use Prim.Native.Nat.{◌≤◌, ◌-◌}
 use Rattle.stack.specs.Value.{stack_of}
 use Rattle.answer.specs.Arrays.{LimitsIn}
 use Rattle.answer.proofs.fill_limits.Given as goal
 
 abbrev pub invariant-loop-i : goal.invariant-loop-i
-invariant-loop-i l = (l.i ≤ l.channels) × LimitsIn (stack_of l.stack) l.i l.limits l.lasts
-
-abbrev pub decreases-loop-i : goal.decreases-loop-i
-decreases-loop-i l = l.channels - l.i
+invariant-loop-i l = LimitsIn (stack_of l.stack) l.i l.limits l.lasts

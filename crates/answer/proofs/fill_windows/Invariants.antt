@@ -1,11 +1,7 @@
 -- fill_windows meets its contract: the loop keeps WindowsIn, and a number that is above none of the growing ends. Assumes nothing.
-use Prim.Native.Nat.{suc, ◌≤◌, ◌-◌}
 use Rattle.stack.specs.Value.{stack_of}
 use Rattle.answer.specs.Arrays.{WindowsIn, BelowGrowths}
 use Rattle.answer.proofs.fill_windows.Given as goal
 
 abbrev pub invariant-loop-i : goal.invariant-loop-i
-invariant-loop-i l = (l.i ≤ suc l.stack.count) × WindowsIn (stack_of l.stack) l.i l.spread l.windows × BelowGrowths (stack_of l.stack) l.i l.spread l.least
-
-abbrev pub decreases-loop-i : goal.decreases-loop-i
-decreases-loop-i l = suc l.stack.count - l.i
+invariant-loop-i l = WindowsIn (stack_of l.stack) l.i l.spread l.windows × BelowGrowths (stack_of l.stack) l.i l.spread l.least

@@ -1,46 +1,39 @@
 use mathlib.Core.Path.{ap, ◌∙◌}
 use native.Mathlib.Omega.{arith}
-use lib.ListN.{length-set}
-use borrow.Author.Count.{falls}
 use Rattle.stack.specs.Stack.{channel}
 use Rattle.stack.specs.Value.{channel_of}
 use Rattle.channel.specs.Seeking.{term_bias, raised}
-use Rattle.channel.proofs.Terms.{narrowed_held, terminals_at_most}
-use Rattle.channel.proofs.Filling.{filling_starts, filling_steps, filling_long, filling_ends}
+use Rattle.channel.proofs.Terms.{lower_at_most, upper_at_most, lower_held, upper_held}
+use Rattle.channel.proofs.Filling.{filling_starts, filling_steps, filling_ends}
 use Rattle.channel.proofs.Closing.{limits_closed}
 use Rattle.channel.proofs.channel_limits.Goals as goal
 
-pub narrowed-p-requires : goal.narrowed-p-requires
-narrowed-p-requires c = (c.requires.few.0, (terminals_at_most c.args.terminals c.requires.on_strips).0)
+pub narrowed-p-requires-clause-small : goal.narrowed-p-requires-clause-small
+narrowed-p-requires-clause-small c = lower_at_most c.args.terminals.now c.requires.on_strips
 
-pub narrowed-q-requires : goal.narrowed-q-requires
-narrowed-q-requires c = (c.requires.few.0, (terminals_at_most c.args.terminals c.requires.on_strips).1)
+pub narrowed-q-requires-clause-small : goal.narrowed-q-requires-clause-small
+narrowed-q-requires-clause-small c = upper_at_most c.args.terminals.now c.requires.on_strips
 
-pub narrowed-p_on-requires : goal.narrowed-p_on-requires
-narrowed-p_on-requires c = (c.requires.few.0, (terminals_at_most c.args.terminals c.requires.on_strips).0)
+pub narrowed-p_on-requires-clause-small : goal.narrowed-p_on-requires-clause-small
+narrowed-p_on-requires-clause-small c = lower_at_most c.args.terminals.now c.requires.on_strips
 
-pub narrowed-q_on-requires : goal.narrowed-q_on-requires
-narrowed-q_on-requires c = (c.requires.few.0, (terminals_at_most c.args.terminals c.requires.on_strips).1)
+pub narrowed-q_on-requires-clause-small : goal.narrowed-q_on-requires-clause-small
+narrowed-q_on-requires-clause-small c = upper_at_most c.args.terminals.now c.requires.on_strips
 
 pub loop-t-init : goal.loop-t-init
 loop-t-init c = filling_starts _ _ _
 
-pub greatest_term-requires : goal.greatest_term-requires
-greatest_term-requires c = (
-  omega (arith, c.requires.few.0, c.loop-t-test.true),
-  narrowed_held c.args.terminals.lower c.args.terminals.count 0 1000 _ (omega arith) (terminals_at_most c.args.terminals c.requires.on_strips).0 (omega arith) c.narrowed-p.ensures,
-  narrowed_held c.args.terminals.upper c.args.terminals.count term_bias term_bias _ (omega arith) (terminals_at_most c.args.terminals c.requires.on_strips).1 (omega arith) c.narrowed-q_on.ensures,
-)
+pub greatest_term-requires-clause-p_small : goal.greatest_term-requires-clause-p_small
+greatest_term-requires-clause-p_small c = lower_held c.args.terminals.now c.requires.on_strips 0 1000 _ c.narrowed-p.ensures (omega arith) (omega arith)
 
-pub least_term-requires : goal.least_term-requires
-least_term-requires c = (
-  omega (arith, c.requires.few.0, c.loop-t-test.true),
-  narrowed_held c.args.terminals.lower c.args.terminals.count term_bias term_bias _ (omega arith) (terminals_at_most c.args.terminals c.requires.on_strips).0 (omega arith) c.narrowed-p_on.ensures,
-  narrowed_held c.args.terminals.upper c.args.terminals.count 0 1000 _ (omega arith) (terminals_at_most c.args.terminals c.requires.on_strips).1 (omega arith) c.narrowed-q.ensures,
-)
+pub greatest_term-requires-clause-q_small : goal.greatest_term-requires-clause-q_small
+greatest_term-requires-clause-q_small c = upper_held c.args.terminals.now c.requires.on_strips term_bias term_bias _ c.narrowed-q_on.ensures (omega arith) (omega arith)
 
-pub loop-t-smaller : goal.loop-t-smaller
-loop-t-smaller c = falls _ _ c.loop-t-test.true
+pub least_term-requires-clause-p_small : goal.least_term-requires-clause-p_small
+least_term-requires-clause-p_small c = lower_held c.args.terminals.now c.requires.on_strips term_bias term_bias _ c.narrowed-p_on.ensures (omega arith) (omega arith)
+
+pub least_term-requires-clause-q_small : goal.least_term-requires-clause-q_small
+least_term-requires-clause-q_small c = upper_held c.args.terminals.now c.requires.on_strips 0 1000 _ c.narrowed-q.ensures (omega arith) (omega arith)
 
 pub loop-t-preserved : goal.loop-t-preserved
 loop-t-preserved c = let loop = c.loop-t in
@@ -48,17 +41,9 @@ loop-t-preserved c = let loop = c.loop-t in
     (c.raised.ensures ∙ ap (λ x. raised x) c.greatest_term.ensures)
     (c.raised-in-loop-t.ensures ∙ ap (λ x. raised x) c.least_term.ensures)
 
-pub close_below-requires : goal.close_below-requires
-close_below-requires c = let loop = c.loop-t in
-    (c.requires.few.1, length-set loop.low 0 _ ∙ (filling_long _ _ _ loop.t loop.low loop.high loop.invariant).0)
-
-pub close_below-requires-2 : goal.close_below-requires-2
-close_below-requires-2 c = let loop = c.loop-t in
-    (c.requires.few.1, length-set loop.high 0 _ ∙ (filling_long _ _ _ loop.t loop.low loop.high loop.invariant).1)
-
 pub returns : goal.returns
 returns c = let loop = c.loop-t in
-    limits_closed (channel (channel_of c.args.terminals) c.args.floor.0) _ _ _ _
-    (filling_ends c.args.terminals loop.t _ _ _ _ loop.low loop.high c.requires.few.0 c.requires.on_strips c.loop-t-test.false
+    limits_closed (channel (channel_of c.args.terminals.now) c.args.floor.0) _ _ _ _
+    (filling_ends c.args.terminals.now loop.t _ _ _ _ loop.low loop.high c.requires.few.0 c.requires.on_strips c.loop-t-test.false
     c.narrowed-p.ensures c.narrowed-q.ensures c.narrowed-p_on.ensures c.narrowed-q_on.ensures loop.invariant)
     c.close_below.ensures c.close_below-2.ensures

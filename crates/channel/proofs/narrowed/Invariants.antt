@@ -1,6 +1,5 @@
 -- narrowed meets its contract: the first j places are filled. Assumes nothing.
 use mathlib.Core.Path.{◌≡◌}
-use Prim.Native.Nat.{◌-◌, ◌≤◌}
 use lib.ListN.{get_or}
 use Rattle.numbers.specs.Lists.{filled}
 use Rattle.stack.specs.Value.{columns}
@@ -8,7 +7,4 @@ use Rattle.channel.specs.Seeking.{places_held}
 use Rattle.channel.proofs.narrowed.Given as goal
 
 abbrev pub invariant-loop-j : goal.invariant-loop-j
-invariant-loop-j l = (l.j ≤ l.count) × (l.narrow ≡ filled places_held l.j (λ i. (get_or l.edge i (columns 0)).0) l.rest)
-
-abbrev pub decreases-loop-j : goal.decreases-loop-j
-decreases-loop-j l = l.count - l.j
+invariant-loop-j l = l.narrow ≡ filled places_held l.j (λ i. (get_or l.edge i (columns 0)).0) l.rest

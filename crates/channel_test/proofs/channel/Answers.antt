@@ -1,20 +1,17 @@
 -- Terminals that are made are few and on the strips. Assumes nothing.
 use Rattle.std.proofs.Common.{arith}
 use Rattle.stack.proofs.Found.{made_few, made_on_strips}
-use Rattle.stack.proofs.OnStrips.{on_longer}
 use Rattle.channel_test.proofs.channel.Goals as goal
 
-pub channel_limits-requires-clause-few : goal.channel_limits-requires-clause-few
-channel_limits-requires-clause-few g c = (made_few _ _ _ _ c.new-made.result c.new-made.ensures, omega arith)
+pub channel_limits-limits-requires-clause-few : goal.channel_limits-limits-requires-clause-few
+channel_limits-limits-requires-clause-few g c = (made_few _ _ _ _ c.in-Ok.terminals c.in-Ok.ensures, omega arith)
 
-pub channel_limits-requires-clause-on_strips :
-    goal.channel_limits-requires-clause-on_strips
-channel_limits-requires-clause-on_strips g c =
-    on_longer _ _ 1000 1000 _ c.longest.ensures c.longest-2.ensures
-    (made_on_strips _ _ _ _ c.new-made.result c.new-made.ensures)
+pub channel_limits-limits-requires-clause-on_strips :
+    goal.channel_limits-limits-requires-clause-on_strips
+channel_limits-limits-requires-clause-on_strips g c = made_on_strips _ _ _ _ c.in-Ok.terminals c.in-Ok.ensures
 
 pub open_from-requires : goal.open_from-requires
-open_from-requires g c = made_few _ _ _ _ c.new-made.result c.new-made.ensures
+open_from-requires g c = made_few _ _ _ _ c.in-Ok.terminals c.in-Ok.ensures
 
 pub print_all_feasible-requires : goal.print_all_feasible-requires
-print_all_feasible-requires g c = made_few _ _ _ _ c.new-made.result c.new-made.ensures
+print_all_feasible-requires g c = made_few _ _ _ _ c.in-Ok.terminals c.in-Ok.ensures

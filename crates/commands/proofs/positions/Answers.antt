@@ -1,26 +1,25 @@
-use mathlib.Core.Path.{◌≡◌, refl}
-use Prim.Native.Nat.{◌+◌, ◌≤◌}
+-- positions meets its contract: number by number. Assumes nothing.
+use mathlib.Core.Path.{◌≡◌, ap, ◌∙◌}
+use Prim.Native.Nat.{◌+◌, ◌<◌}
 use native.Mathlib.Omega.{arith}
-use lib.ListN.{get_or}
-use Rattle.numbers.specs.Lists.{filled, tabulate}
-use Rattle.stack.specs.declared.Columns.{Columns}
-use Rattle.commands.specs.Output.{positions_in}
-use Rattle.commands.proofs.Arguments.{filled_more}
 use borrow.Author.Rules.{rules}
+use lib.ListN.{get_or}
+use Rattle.stack.specs.Value.{columns, columns_of}
+use Rattle.stack.specs.declared.Columns.{Columns}
+use Rattle.stack.proofs.Values.{column_at, columns_long}
+use Rattle.commands.specs.Output.{positions_in}
+use Rattle.commands.proofs.Trials.{filled_by}
 use Rattle.commands.proofs.positions.Goals as goal
-
-pub loop-i-init : goal.loop-i-init
-unfolding filled tabulate
-loop-i-init c = search rules
-
-pub loop-i-preserved : goal.loop-i-preserved
-loop-i-preserved c = let i = c.loop-i.i in
-    let more : i + 1 ≤ c.args.k + 1 = search rules in (
-      more,
-      filled_more (λ (x : Columns). x.0) 9 i (λ j. get_or c.args.numbers (1 + c.args.k + j) 0) c.loop-i.positions _ (omega (arith, c.requires)) refl c.loop-i.invariant.1,
-    )
 
 pub returns : goal.returns
 unfolding positions_in
-returns c = let e : c.loop-i.i ≡ c.args.k + 1 = search rules in
-    rw e at c.loop-i.invariant.1
+returns c = let m = c.from_fn.ensures.items in
+    let ns = c.args.numbers.now in
+    filled_by 9 (c.args.k + 1) (λ j. get_or ns (1 + c.args.k + j) 0) (columns_of c.from_fn.result) (omega (arith, c.requires)) (columns_long c.from_fn.result 9 m.long) (λ j h.
+    let within : j < 9 = omega (arith, c.requires) in
+    let at = m.at j (columns 0) within in
+    let e : get_or c.from_fn.result j (columns 0) ≡ columns (get_or ns (1 + c.args.k + j) 0) = search rules in
+    column_at c.from_fn.result j ∙ ap (λ (t : Columns). t.0) e) (λ j h within.
+    let at = m.at j (columns 0) within in
+    let e : get_or c.from_fn.result j (columns 0) ≡ columns 0 = search rules in
+    column_at c.from_fn.result j ∙ ap (λ (t : Columns). t.0) e)

@@ -1,7 +1,7 @@
--- put_spread meets its contract: the row of the placement for the least total. Assumes nothing.
+-- put_spread meets its contract: the row of both together, or the refusal's line. Assumes nothing.
+use borrow.Author.Rules.{rules}
 use Rattle.commands.proofs.Printing.{spread_printed}
 use Rattle.commands.proofs.put_spread.Goals as goal
 
 pub returns : goal.returns
-returns c = let least = c.least_total-least in
-    spread_printed _ _ least.result least.ensures.total_says _ _ c.put_place.ensures
+returns c = spread_printed _ _ c.args.output.now _ _ c.put_least-put.result _ (search rules) c.put_least-put.ensures c.of.ensures

@@ -1,26 +1,25 @@
-use mathlib.Core.Path.{◌≡◌, refl}
-use Prim.Native.Nat.{◌+◌, ◌≤◌}
+-- separations meets its contract: number by number. Assumes nothing.
+use mathlib.Core.Path.{◌≡◌, ap, ◌∙◌}
+use Prim.Native.Nat.{◌+◌, ◌<◌}
 use native.Mathlib.Omega.{arith}
-use lib.ListN.{get_or}
-use Rattle.numbers.specs.Lists.{filled, tabulate}
-use Rattle.stack.specs.declared.Tracks.{Tracks}
-use Rattle.commands.specs.Output.{separations_in}
-use Rattle.commands.proofs.Arguments.{filled_more}
 use borrow.Author.Rules.{rules}
+use lib.ListN.{get_or}
+use Rattle.stack.specs.Value.{tracks, tracks_of}
+use Rattle.stack.specs.declared.Tracks.{Tracks}
+use Rattle.stack.proofs.Values.{track_at, tracks_long}
+use Rattle.commands.specs.Output.{separations_in}
+use Rattle.commands.proofs.Trials.{filled_by}
 use Rattle.commands.proofs.separations.Goals as goal
-
-pub loop-i-init : goal.loop-i-init
-unfolding filled tabulate
-loop-i-init c = search rules
-
-pub loop-i-preserved : goal.loop-i-preserved
-loop-i-preserved c = let i = c.loop-i.i in
-    let more : i + 1 ≤ c.args.k = search rules in (
-      more,
-      filled_more (λ (x : Tracks). x.0) 8 i (λ j. get_or c.args.numbers (1 + j) 0) c.loop-i.separations _ (omega (arith, c.requires)) refl c.loop-i.invariant.1,
-    )
 
 pub returns : goal.returns
 unfolding separations_in
-returns c = let e : c.loop-i.i ≡ c.args.k = search rules in
-    rw e at c.loop-i.invariant.1
+returns c = let m = c.from_fn.ensures.items in
+    let ns = c.args.numbers.now in
+    filled_by 8 c.args.k (λ j. get_or ns (1 + j) 0) (tracks_of c.from_fn.result) (omega (arith, c.requires)) (tracks_long c.from_fn.result 8 m.long) (λ j h.
+    let within : j < 8 = omega (arith, c.requires) in
+    let at = m.at j (tracks 0) within in
+    let e : get_or c.from_fn.result j (tracks 0) ≡ tracks (get_or ns (1 + j) 0) = search rules in
+    track_at c.from_fn.result j ∙ ap (λ (t : Tracks). t.0) e) (λ j h within.
+    let at = m.at j (tracks 0) within in
+    let e : get_or c.from_fn.result j (tracks 0) ≡ tracks 0 = search rules in
+    track_at c.from_fn.result j ∙ ap (λ (t : Tracks). t.0) e)

@@ -1,22 +1,14 @@
-use borrow.Author.Count.{falls}
-use Rattle.stack.specs.Value.{channel_of}
-use Rattle.feasibility.proofs.Trying.{trying_starts, trying_steps, trying_refuses, trying_ends, trying_open}
+-- is_wirable meets its contract: its test is made of each pair that has one t places on. Assumes nothing.
+use mathlib.Core.Path.{refl, ◌∙◌}
+use Prim.Native.Nat.{◌-◌}
+use native.Mathlib.Omega.{arith}
+use Rattle.std.proofs.Common.{rules, tests}
+use Rattle.std.proofs.lemmas.Iterator.{YieldsList-from_range}
+use Rattle.std.proofs.lemmas.Iterator.Search.{all_from_yields_List}
+use Rattle.feasibility.proofs.Trying.{all_clear_is}
 use Rattle.feasibility.proofs.is_wirable.Goals as goal
 
-pub returns-then-pairs-tracks : goal.returns-then-pairs-tracks
-returns-then-pairs-tracks c = trying_open c.args.terminals c.args.t.0 c.args.lower.0 c.args.upper.0 c.if-pairs-tracks.true
-
-pub loop-i-init : goal.loop-i-init
-loop-i-init c = trying_starts (channel_of c.args.terminals) c.args.t.0 c.args.lower.0 c.args.upper.0
-
-pub returns-then-not-is_clear : goal.returns-then-not-is_clear
-returns-then-not-is_clear c = trying_refuses c.args.terminals c.args.t.0 c.args.lower.0 c.args.upper.0 c.loop-i.i c.is_clear.result c.loop-i-test.true c.is_clear.ensures (c.if-not-is_clear.true)
-
-pub loop-i-smaller : goal.loop-i-smaller
-loop-i-smaller c = falls _ _ c.loop-i-test.true
-
-pub loop-i-preserved : goal.loop-i-preserved
-loop-i-preserved c = trying_steps c.args.terminals c.args.t.0 c.args.lower.0 c.args.upper.0 c.loop-i.i c.is_clear.result c.loop-i-test.true c.loop-i.invariant c.is_clear.ensures (c.if-not-is_clear.false)
-
 pub returns : goal.returns
-returns c = trying_ends c.args.terminals c.args.t.0 c.args.lower.0 c.args.upper.0 c.loop-i.i c.loop-i-test.false c.loop-i.invariant
+returns c =
+    all_from_yields_List _ _ _ _ c.all.ensures.ran (YieldsList-from_range 0 c.saturating_sub.result (c.args.terminals.now.count - c.args.t.0) refl (omega (arith, c.saturating_sub.ensures))) (λ x b q k. search (rules, tests))
+    ∙ all_clear_is c.args.terminals.now c.args.t.0 c.args.lower.0 c.args.upper.0

@@ -3,4 +3,4 @@ use Rattle.kinds.proofs.Parts.{one_made}
 use Rattle.kinds.proofs.part_content.Goals as goal
 
 pub returns : goal.returns
-returns c = one_made c.args.n c.args.length c.part_made.result (rw (← c.new.ensures) c.part_made.ensures)
+returns c = rw (c.part_made.ensures, c.new.ensures) (one_made c.args.n c.args.length)

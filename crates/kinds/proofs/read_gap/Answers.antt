@@ -1,18 +1,16 @@
 -- read_gap meets its contract. Assumes nothing.
-use mathlib.Core.Path.{sym, ◌∙◌}
-use Rattle.lines.specs.Lines.{line}
+use Rattle.std.proofs.lemmas.Result.{err_from_is_err_and}
+use Rattle.lines.specs.Lines.{line_of}
 use Rattle.text.specs.Text.{gap_word}
 use Rattle.kinds.proofs.Gaps.{gap_ill, gap_there}
 use Rattle.kinds.proofs.read_gap.Goals as goal
 
-pub returns-then-not-is_accepted : goal.returns-then-not-is_accepted
+pub returns-in_err-read_kind : goal.returns-in_err-read_kind
 unfolding gap_word
-returns-then-not-is_accepted c = let read = c.read_kind-line in
-    let accepted = c.is_accepted in
-    gap_ill c.args.k c.args.before c.args.n (line c.args.bytes.now c.args.ended) read.result _ read.ensures _ _ (sym accepted.ensures ∙ c.if-not-is_accepted.true)
+returns-in_err-read_kind c =
+    let p = err_from_is_err_and c.from_residual.result c.from_residual.ensures.1 in
+    rw (p.1, p.2) (gap_ill c.args.k c.args.before c.args.n (line_of c.args.line) _ _ c.in_err-read_kind.ensures)
 
 pub returns : goal.returns
 unfolding gap_word
-returns c = let read = c.read_kind-line in
-    let accepted = c.is_accepted in
-    gap_there c.args.k c.args.before c.args.n (line c.args.bytes.now c.args.ended) read.result _ read.ensures c.gap_content-outcome.result (sym accepted.ensures ∙ c.if-not-is_accepted.false) c.gap_content-outcome.ensures
+returns c = gap_there c.args.k c.args.before c.args.n (line_of c.args.line) _ _ c.in_ok-read_kind.ensures c.gap_content.result c.gap_content.ensures.outcome c.gap_content.ensures.content

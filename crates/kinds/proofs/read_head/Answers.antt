@@ -1,19 +1,17 @@
 -- read_head meets its contract. Assumes nothing.
-use mathlib.Core.Path.{sym, ◌∙◌}
-use Rattle.lines.specs.Lines.{line}
+use mathlib.Core.Path.{◌∙◌}
+use Rattle.std.proofs.lemmas.Result.{err_from_is_err_and}
+use Rattle.lines.specs.Lines.{line_of}
 use Rattle.text.specs.Text.{stack_word}
 use Rattle.kinds.proofs.Heads.{head_ill, head_there}
 use Rattle.kinds.proofs.read_head.Goals as goal
 
-pub returns-then-not-is_accepted : goal.returns-then-not-is_accepted
+pub returns-in_err-read_kind : goal.returns-in_err-read_kind
 unfolding stack_word
-returns-then-not-is_accepted c = let read = c.read_kind-line in
-    let accepted = c.is_accepted in
-    head_ill (line c.args.bytes.now c.args.ended) read.result _ read.ensures c.refused.result (sym accepted.ensures ∙ c.if-not-is_accepted.true) c.refused.ensures.0
+returns-in_err-read_kind c =
+    let p = err_from_is_err_and c.from_residual.result c.from_residual.ensures.1 in
+    rw (p.1, p.2) (head_ill (line_of c.args.line) _ _ c.in_err-read_kind.ensures)
 
 pub returns : goal.returns
 unfolding stack_word
-returns c = let read = c.read_kind-line in
-    let accepted = c.is_accepted in
-    let content = c.head_content in
-    head_there (line c.args.bytes.now c.args.ended) read.result _ read.ensures content.result (sym accepted.ensures ∙ c.if-not-is_accepted.false) content.ensures
+returns c = head_there (line_of c.args.line) _ _ c.in_ok-read_kind.ensures c.new.result c.ok_or.result c.new.ensures (c.ok_or.ensures.value ∙ rw (c.new-2.ensures))

@@ -1,22 +1,20 @@
 -- read_nets meets its contract. Assumes nothing.
-use mathlib.Core.Path.{sym, ◌∙◌}
-use Rattle.lines.specs.Lines.{line}
+use Rattle.std.proofs.lemmas.Result.{err_from_is_err_and}
+use Rattle.lines.specs.Lines.{line_of}
 use Rattle.text.specs.Text.{nets_word}
 use Rattle.kinds.proofs.Nets.{nets_ill, line_kept, nets_found}
 use Rattle.kinds.proofs.read_nets.Goals as goal
 
-pub returns-then-not-is_accepted : goal.returns-then-not-is_accepted
+pub returns-in_err-count : goal.returns-in_err-count
 unfolding nets_word
-returns-then-not-is_accepted c = let read = c.read_kind-line in
-    let accepted = c.is_accepted in
-    nets_ill c.args.lower.length.0 c.args.upper.length.0 c.args.n (line c.args.bytes.now c.args.ended) read.result _ read.ensures c.none.result (sym accepted.ensures ∙ c.if-not-is_accepted.true)
+returns-in_err-count c =
+    let p = err_from_is_err_and c.from_residual.result c.from_residual.ensures.1 in
+    rw (p.1, p.2) (nets_ill c.args.lower.0 c.args.upper.0 c.args.n (line_of c.args.line) _ _ c.in_err-count.ensures)
 
 pub returns : goal.returns
 unfolding nets_word
-returns c = let read = c.read_kind-line in
-    let lo = c.args.lower.length.0 in
-    let hi = c.args.upper.length.0 in
-    let there = line c.args.bytes.now c.args.ended in
-    let good = sym c.is_accepted.ensures ∙ c.if-not-is_accepted.false in
-    let kept = line_kept lo hi c.args.n there read.result _ read.ensures good in
-    nets_found lo hi c.args.n there read.result _ read.ensures good c.nets_content.result (c.nets_content.ensures _ kept)
+returns c = let lo = c.args.lower.0 in
+    let hi = c.args.upper.0 in
+    let there = line_of c.args.line in
+    nets_found lo hi c.args.n there _ c.in_ok-count.count c.in_ok-count.ensures c.nets_content.result
+    (c.nets_content.ensures _ (line_kept lo hi c.args.n there _ c.in_ok-count.count c.in_ok-count.ensures))

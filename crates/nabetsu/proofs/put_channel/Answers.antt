@@ -11,19 +11,19 @@ pub overflow_sub-i : goal.overflow_sub-i
 overflow_sub-i c = (asked_fine _ _ _ c.requires.1).some
 
 pub bounds-stack-i : goal.bounds-stack-i
-bounds-stack-i c = omega (arith, channel_place c.args.stack _ _ c.requires.0 c.requires.1)
+bounds-stack-i c = omega (arith, channel_place c.args.stack.now _ _ c.requires.0 c.requires.1)
 
-pub bounds-separations-i : goal.bounds-separations-i
-bounds-separations-i c = omega (arith, channel_place c.args.stack _ _ c.requires.0 c.requires.1)
+pub bounds-placement-i : goal.bounds-placement-i
+bounds-placement-i c = omega (arith, channel_place c.args.stack.now _ _ c.requires.0 c.requires.1)
 
-pub bounds-positions-i : goal.bounds-positions-i
-bounds-positions-i c = omega (arith, channel_place c.args.stack _ _ c.requires.0 c.requires.1)
+pub bounds-placement-i-2 : goal.bounds-placement-i-2
+bounds-placement-i-2 c = omega (arith, channel_place c.args.stack.now _ _ c.requires.0 c.requires.1)
 
-pub bounds-positions-i-2 : goal.bounds-positions-i-2
-bounds-positions-i-2 c = omega (arith, channel_place c.args.stack _ _ c.requires.0 c.requires.1)
+pub bounds-placement-i-3 : goal.bounds-placement-i-3
+bounds-placement-i-3 c = omega (arith, channel_place c.args.stack.now _ _ c.requires.0 c.requires.1)
 
 pub put_page-requires : goal.put_page-requires
-put_page-requires c = channel_asks c.args.stack _ _ c.requires.0 (asked_fine _ _ _ c.requires.1) _ c.answer_in-placement.ensures
+put_page-requires c = channel_asks c.args.stack.now _ _ c.requires.0 (asked_fine _ _ _ c.requires.1) _ c.answer_in-placement.ensures
 
 pub returns : goal.returns
-returns c = channel_put c.args.stack _ _ c.requires.0 (asked_fine _ _ _ c.requires.1) _ c.answer_in-placement.ensures _ _ _ c.put_page.ensures
+returns c = channel_put c.args.stack.now _ _ c.requires.0 (asked_fine _ _ _ c.requires.1) _ c.answer_in-placement.ensures _ _ _ c.put_page.ensures

@@ -1,12 +1,7 @@
--- put_numbers meets its contract: the loop keeps Copied. Assumes nothing.
-use Prim.Native.Nat.{◌-◌}
-use lib.ListN.{length}
-use Rattle.nabetsu.specs.Parts.{Copied}
-use Rattle.nabetsu.proofs.Numbers.{put_in}
+-- put_numbers meets its contract: the first i numbers are put. Assumes nothing.
+use Rattle.std.proofs.Common.{◌≡◌, ℕ, ◌<◌, get_or}
+use Rattle.nabetsu.specs.Entry.{numbers_placed}
 use Rattle.nabetsu.proofs.put_numbers.Given as goal
 
 abbrev pub invariant-loop-i : goal.invariant-loop-i
-invariant-loop-i l = Copied (put_in l.total.0 l.separations l.positions (length l.initial.output)) l.output l.i
-
-abbrev pub decreases-loop-i : goal.decreases-loop-i
-decreases-loop-i l = l.i-end - l.i
+invariant-loop-i l = (k : ℕ) → k < l.i → get_or l.output k 0 ≡ get_or (numbers_placed l.placement) k 0

@@ -1,4 +1,4 @@
-use native.Mathlib.Omega.{arith}
+use Rattle.std.proofs.Common.{◌≡◌, ◌+◌, arith}
 use borrow.Author.Tests.{le-leb, lt-leb}
 use Rattle.arrays.proofs.Searches.{opening_start, searching_hit, searching_miss, searching_end}
 use Rattle.plan.proofs.least_open.Goals as goal
@@ -13,4 +13,4 @@ pub loop-q-preserved : goal.loop-q-preserved
 loop-q-preserved c = searching_miss _ _ _ _ c.loop-q.invariant (omega arith) (lt-leb _ _ c.if-limits-q.false)
 
 pub returns : goal.returns
-returns c = searching_end _ _ _ _ c.loop-q.invariant (omega arith)
+returns c = let e : c.args.last + 1 ≡ c.loop-q.q = omega arith in rw e (searching_end _ _ _ _ c.loop-q.invariant (omega arith))

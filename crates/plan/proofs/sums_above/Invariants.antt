@@ -1,10 +1,7 @@
 -- sums_above meets its contract: the loop keeps SumsAre. Assumes nothing.
-use Prim.Native.Nat.{◌≤◌}
+
 use Rattle.arrays.specs.Arrays.{SumsAre}
 use Rattle.plan.proofs.sums_above.Given as goal
 
 abbrev pub invariant-loop-i : goal.invariant-loop-i
-invariant-loop-i l = (l.i ≤ l.k) × SumsAre l.lasts l.k l.i l.sums
-
-abbrev pub decreases-loop-i : goal.decreases-loop-i
-decreases-loop-i l = l.i
+invariant-loop-i l = SumsAre l.lasts l.k l.i l.sums

@@ -1,55 +1,32 @@
-use mathlib.Core.Path.{refl}
-use Prim.Native.Nat.{◌≤◌}
+use mathlib.Core.Path.{◌≡◌, sym, ◌∙◌}
+use Prim.Native.Nat.{◌+◌, ◌-◌}
 use native.Mathlib.Omega.{arith}
 use lib.ListN.{length-take, length-drop}
-use Rattle.numbers.proofs.Lists.{length_tabulate}
-use Rattle.plot.proofs.Lines.{lines_start, lines_end, track_step, rule_shown}
+use Rattle.plot.proofs.Lines.{lines_start, lines_end, track_step, rule_shown, taken_long}
 use Rattle.plot.proofs.put_tracks.Goals as goal
 
-pub fill_arrivals-requires : goal.fill_arrivals-requires
-fill_arrivals-requires c = (refl, c.requires.0, omega (arith, c.requires.4))
-
 pub loop-y-init : goal.loop-y-init
-loop-y-init c = (lines_start _ _ _, c.fill_arrivals.ensures)
-
-pub fill_arrivals-requires-in-loop-y : goal.fill_arrivals-requires-in-loop-y
-fill_arrivals-requires-in-loop-y c = let inv = c.loop-y.invariant in
-    (rw inv.1 (length_tabulate 32 0 _), c.requires.0, omega (arith, inv.0.place, c.requires.4))
-
-pub slice_bounds-put_track-count : goal.slice_bounds-put_track-count
-slice_bounds-put_track-count c = omega (arith, c.loop-y.invariant.0.place, c.loop-y.invariant.0.same_length, c.requires.3)
-
-pub slice_bounds-put_track-start : goal.slice_bounds-put_track-start
-slice_bounds-put_track-start c = omega (arith, c.loop-y.invariant.0.place, c.loop-y.invariant.0.same_length, c.requires.3)
+loop-y-init c = record { lines = lines_start _ _ _; above = c.arrivals-ends.ensures }
 
 pub put_track-requires : goal.put_track-requires
 put_track-requires c = let inv = c.loop-y.invariant in
-    let pre = c.requires in
-    let lines : c.loop-y.y ≤ 65 = omega (arith, inv.0.place, pre.4) in (
-      rule_shown _ _ _ _ _ _ pre.1 pre.2 (omega arith) c.fill_arrivals-in-loop-y.ensures,
-      rule_shown _ _ _ _ _ _ pre.1 pre.2 lines inv.1,
-      pre.2,
-      simp (length-take, length-drop) (omega (arith, inv.0.place, inv.0.same_length, pre.3)),
-      omega (arith, inv.0.place, pre.4),
+    let few = c.requires.2 in
+    let above = taken_long _ _ c.args.levels.now.count inv.above few in
+    let here = taken_long _ _ c.args.levels.now.count c.arrivals-starts.ensures few in (
+      rule_shown c.args.levels.now _ _ c.requires.1 few (omega (arith, inv.lines.place, c.requires.4)) c.arrivals-starts.ensures,
+      rule_shown c.args.levels.now _ _ c.requires.1 few (omega (arith, inv.lines.place, c.requires.4)) inv.above,
+      above ∙ sym here,
+      simp (length-take, length-drop) (omega (arith, inv.lines.place, inv.lines.same_length, c.requires.3)),
+      omega (arith, inv.lines.place, c.requires.4),
     )
-
-pub overflow_add-at : goal.overflow_add-at
-overflow_add-at c = omega (arith, c.loop-y.invariant.0.place, c.requires.4)
-
-pub loop-y-smaller : goal.loop-y-smaller
-loop-y-smaller c = omega (arith, c.loop-y-test.true)
 
 pub loop-y-preserved : goal.loop-y-preserved
-loop-y-preserved c = let args = c.args in
-    let pre = c.requires in
-    let filled = c.fill_arrivals-in-loop-y.ensures in (
-      track_step args.ahead.now args.back.now args.upto.now _ _ args.m args.t c.loop-y.at c.loop-y.y args.out.now c.loop-y.out _ pre.2 pre.4 pre.3 c.loop-y.invariant.0 c.loop-y-test.true
-          filled c.loop-y.invariant.1 c.put_track.ensures,
-      filled,
-    )
+loop-y-preserved c = let inv = c.loop-y.invariant in
+    let step = track_step c.args.levels.now _ _ c.args.t c.loop-y.at c.loop-y.y c.args.out.now c.loop-y.out _ c.requires.2 c.requires.4 c.requires.3 inv.lines c.arrivals-starts.ensures inv.above c.put_track.ensures in
+    let back : c.loop-y.y - 1 + 1 ≡ c.loop-y.y = omega arith in
+    record { lines = rw back step; above = rw back c.arrivals-starts.ensures }
 
-pub shape_of-out : goal.shape_of-out
-shape_of-out c = c.loop-y.invariant.0.same_length
-
-pub returns : goal.returns
-returns c = lines_end _ _ _ _ _ _ c.loop-y-test.false c.loop-y.invariant.0
+pub returns-2 : goal.returns-2
+returns-2 c = let inv = c.loop-y.invariant in
+    let step = track_step c.args.levels.now _ _ c.args.t c.loop-y.at c.loop-y.y c.args.out.now c.loop-y.out _ c.requires.2 c.requires.4 c.requires.3 inv.lines c.arrivals-starts.ensures inv.above c.put_track.ensures in
+    lines_end _ _ _ _ _ _ (omega arith) step

@@ -4,5 +4,4 @@ use Rattle.program.proofs.Lines.{start_made}
 use Rattle.program.proofs.run_steps.Goals as goal
 
 pub loop-n-init : goal.loop-n-init
-loop-n-init g c =
-    record { sized = search rules; begins = omega arith; within = omega arith; made = start_made _ c.start-replay.ensures; small = omega arith }
+loop-n-init g c = record { sized = search rules; begins = omega arith; within = omega arith; made = start_made _ c.start-replay.ensures }

@@ -1,21 +1,30 @@
 -- read_stack meets its contract: each stage is what the next one requires. Assumes nothing.
-use Rattle.reading.proofs.Whole.{gaps_none, overlong_read, whole_read}
+use Rattle.std.proofs.lemmas.Result.{err_from_is_err_and}
+use Rattle.reading.proofs.Whole.{overlong_read, head_stops, parts_stop, nets_stop, gaps_stop, whole_read}
 use Rattle.reading.proofs.read_stack.Goals as goal
 
 pub returns-then-text-gt-MAX_BYTES : goal.returns-then-text-gt-MAX_BYTES
-returns-then-text-gt-MAX_BYTES c = let if1 = c.if-text-gt-MAX_BYTES in
-    let refused = c.refused in
-    let refused2 = c.refused-then-text-gt-MAX_BYTES in
-    overlong_read c.args.text.now refused.result refused2.result if1.true refused.ensures refused2.ensures
+returns-then-text-gt-MAX_BYTES c = rw (c.new.ensures) (overlong_read c.args.text.now c.if-text-gt-MAX_BYTES.true)
 
-pub returns-then-nets-text : goal.returns-then-nets-text
-returns-then-nets-text c = let if1 = c.if-text-gt-MAX_BYTES in
-    let take_gaps = c.take_gaps-gaps in
-    let reading = c.reading in
-    whole_read c.args.text.now take_gaps.result reading.result if1.false take_gaps.ensures reading.ensures
+pub returns-in_err-progress : goal.returns-in_err-progress
+returns-in_err-progress c =
+    let p = err_from_is_err_and c.from_residual.result c.from_residual.ensures.1 in
+    rw (p.1, p.2) (head_stops c.args.text.now c.if-text-gt-MAX_BYTES.false _ c.in_err-progress.ensures)
+
+pub returns-in_err-take_parts : goal.returns-in_err-take_parts
+returns-in_err-take_parts c =
+    let p = err_from_is_err_and c.from_residual-in_err-take_parts.result c.from_residual-in_err-take_parts.ensures.1 in
+    rw (p.1, p.2) (parts_stop c.args.text.now c.if-text-gt-MAX_BYTES.false c.in_ok-progress.progress c.in_ok-progress.ensures _ _ c.in_err-take_parts.ensures)
+
+pub returns-in_err-take_all_nets : goal.returns-in_err-take_all_nets
+returns-in_err-take_all_nets c =
+    let p = err_from_is_err_and c.from_residual-in_err-take_all_nets.result c.from_residual-in_err-take_all_nets.ensures.1 in
+    rw (p.1, p.2) (nets_stop c.args.text.now c.if-text-gt-MAX_BYTES.false c.in_ok-progress.progress c.in_ok-progress.ensures _ _ c.in_ok-take_parts.ensures _ _ c.in_err-take_all_nets.ensures)
+
+pub returns-in_err-take_gaps : goal.returns-in_err-take_gaps
+returns-in_err-take_gaps c =
+    let p = err_from_is_err_and c.from_residual-in_err-take_gaps.result c.from_residual-in_err-take_gaps.ensures.1 in
+    rw (p.1, p.2) (gaps_stop c.args.text.now c.if-text-gt-MAX_BYTES.false c.in_ok-progress.progress c.in_ok-progress.ensures _ _ c.in_ok-take_parts.ensures _ _ c.in_ok-take_all_nets.ensures _ _ c.in_err-take_gaps.ensures)
 
 pub returns : goal.returns
-returns c = let if1 = c.if-text-gt-MAX_BYTES in
-    let nets = c.take_all_nets-nets in
-    let reading = c.reading-2 in
-    whole_read c.args.text.now nets.result reading.result if1.false (gaps_none c.args.text.now nets.result nets.ensures c.if-nets-text.false) reading.ensures
+returns c = whole_read c.args.text.now c.if-text-gt-MAX_BYTES.false c.in_ok-progress.progress c.in_ok-progress.ensures _ _ c.in_ok-take_parts.ensures _ _ c.in_ok-take_all_nets.ensures _ _ c.in_ok-take_gaps.ensures

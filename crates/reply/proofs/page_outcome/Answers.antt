@@ -1,26 +1,23 @@
 -- page_outcome meets its contract: the refusals in their order. Assumes nothing.
-use mathlib.Core.Path.{ap, ◌∙◌}
 use native.Mathlib.Omega.{arith}
-use Rattle.stack.proofs.Within.{few_channels, stack_channels}
-use Rattle.text.specs.Outcome.{refusal_of}
-use Rattle.reply.proofs.Outcomes.{asked_none, asked_past, asked_narrow, asked_broad, asked_all}
-use borrow.Author.Rules.{rules}
+use Rattle.stack.proofs.Within.{stack_channels}
+use Rattle.text.proofs.Refusals.{exit_is, first_refused}
+use Rattle.reply.proofs.Outcomes.{asked_none, asked_past, asked_next, asked_broad, asked_all}
 use Rattle.reply.proofs.page_outcome.Goals as goal
+use Rattle.reply.proofs.page_outcome.Goals.{then-channel-lt1-via-then-channel-lt1, then-channel-lt1-via-else-channel-lt1+then-stack-channel}
 
 pub returns-then-channel-lt1 : goal.returns-then-channel-lt1
-returns-then-channel-lt1 c = ap refusal_of c.refused.ensures ∙ asked_none _ _ _ (search rules)
+returns-then-channel-lt1 c = rw c.new.ensures (elim c.then-channel-lt1.branch [
+  | then-channel-lt1-via-then-channel-lt1 w ↦ asked_none _ _ _ (omega arith)
+  | then-channel-lt1-via-else-channel-lt1+then-stack-channel w ↦ asked_past _ _ _ (omega (arith, stack_channels c.args.stack.now))
+])
 
-pub returns-then-stack-channel : goal.returns-then-stack-channel
-returns-then-stack-channel c = ap refusal_of c.refused-then-stack-channel.ensures ∙ asked_past _ _ _ (omega (arith, stack_channels c.args.stack))
-
-pub first_spread-first-requires : goal.first_spread-first-requires
-first_spread-first-requires c = few_channels c.args.stack c.requires
-
-pub returns-then-spread-first : goal.returns-then-spread-first
-returns-then-spread-first c = ap refusal_of c.refused-then-spread-first.ensures ∙ asked_narrow _ _ _ (omega arith) (omega (arith, stack_channels c.args.stack)) (omega (arith, c.first_spread-first.ensures.is))
+pub returns-in_err-spread_outcome : goal.returns-in_err-spread_outcome
+returns-in_err-spread_outcome c = rw (exit_is c.from_residual.result _ c.from_residual.ensures.1)
+    (asked_next _ _ _ (omega arith) (omega (arith, stack_channels c.args.stack.now)) _ (first_refused _ _ _ c.in_err-spread_outcome.ensures))
 
 pub returns-then-spread-gt-PAGE_SPREAD : goal.returns-then-spread-gt-PAGE_SPREAD
-returns-then-spread-gt-PAGE_SPREAD c = ap refusal_of c.refused-then-spread-gt-PAGE_SPREAD.ensures ∙ asked_broad _ _ _ (omega arith) (omega (arith, stack_channels c.args.stack)) (omega (arith, c.first_spread-first.ensures.is)) (omega arith)
+returns-then-spread-gt-PAGE_SPREAD c = rw c.new-then-spread-gt-PAGE_SPREAD.ensures (asked_broad _ _ _ (omega arith) (omega (arith, stack_channels c.args.stack.now)) c.in_ok-spread_outcome.ensures (omega arith))
 
 pub returns : goal.returns
-returns c = asked_all _ _ _ (omega arith) (omega (arith, stack_channels c.args.stack)) (omega (arith, c.first_spread-first.ensures.is)) (omega arith)
+returns c = asked_all _ _ _ (omega arith) (omega (arith, stack_channels c.args.stack.now)) c.in_ok-spread_outcome.ensures (omega arith)

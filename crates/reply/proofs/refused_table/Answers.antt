@@ -6,4 +6,4 @@ use Rattle.reply.proofs.refused_table.Goals as goal
 
 pub returns : goal.returns
 unfolding zeros
-returns c = record { outcome_is = refl; none_written = refl; cleared = c.clear_from.ensures ∙ cleared_all _ }
+returns c = record { refused = refl; cleared = c.clear_from.ensures ∙ cleared_all _ }

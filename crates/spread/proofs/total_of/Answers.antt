@@ -1,15 +1,14 @@
--- total_of meets its contract: what is refused, or the least total. Assumes nothing.
-use mathlib.Core.Path.{refl, sym, ◌∙◌}
-use Rattle.spread.proofs.Spreads.{accepted_number, fine_wide}
+-- total_of meets its contract: a narrow spread, or the least total. Assumes nothing.
+use Rattle.text.proofs.Refusals.{exit_is}
+use Rattle.spread.proofs.Spreads.{narrow_wide}
 use Rattle.spread.proofs.Totals.{total_refused, total_answered}
 use Rattle.spread.proofs.total_of.Goals as goal
 
-pub returns-then-not-is_accepted : goal.returns-then-not-is_accepted
-returns-then-not-is_accepted c = total_refused _ _ _ c.spread_outcome-told.result c.spread_outcome-told.ensures _ refl (sym c.is_accepted.ensures ∙ c.if-not-is_accepted.true) refl
+pub returns-in_err-spread_outcome : goal.returns-in_err-spread_outcome
+returns-in_err-spread_outcome c = rw (exit_is c.from_residual.result _ c.from_residual.ensures.1) (total_refused _ _ _ _ c.in_err-spread_outcome.ensures)
 
-pub total_in-total-requires : goal.total_in-total-requires
-total_in-total-requires c = record { within = c.requires; wide = fine_wide _ _ _ (accepted_number _ c.spread_outcome-told.result c.spread_outcome-told.ensures (sym c.is_accepted.ensures ∙ c.if-not-is_accepted.false)) }
+pub total_in-requires : goal.total_in-requires
+total_in-requires c = record { within = c.requires; wide = narrow_wide _ _ c.in_ok-spread_outcome.ensures }
 
 pub returns : goal.returns
-returns c = let good = sym c.is_accepted.ensures ∙ c.if-not-is_accepted.false in
-    total_answered _ _ _ c.spread_outcome-told.result c.spread_outcome-told.ensures _ refl good c.requires (fine_wide _ _ _ (accepted_number _ c.spread_outcome-told.result c.spread_outcome-told.ensures good)) c.total_in-total.ensures
+returns c = total_answered _ _ _ c.total_in.result c.in_ok-spread_outcome.ensures c.requires (narrow_wide _ _ c.in_ok-spread_outcome.ensures) c.total_in.ensures

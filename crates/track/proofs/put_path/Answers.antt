@@ -1,7 +1,6 @@
--- put_path meets its contract: one character, or a run. Assumes nothing.
+-- One character, or a run. Assumes nothing.
 use Rattle.track.proofs.Rows.{point_drawn}
 use Rattle.track.proofs.put_path.Goals as goal
 
--- src/lib.rt:120:9
 pub returns-then-s-e : goal.returns-then-s-e
 returns-then-s-e c = point_drawn _ _ _ _ c.args.row.now _ c.requires.0 c.if-s-e.true c.requires.3

@@ -1,14 +1,11 @@
--- put_run meets its contract: the dashes between two ends. Assumes nothing.
-use native.Mathlib.Omega.{arith}
-use lib.ListN.{length-set}
-use Rattle.track.proofs.Rows.{rule_long, run_drawn}
+-- The dashes between two ends. Assumes nothing.
+use mathlib.Core.Path.{refl}
+use borrow.Author.Rules.{rules}
+use Rattle.track.proofs.Rows.{dashes_filled, run_drawn, other_way}
 use Rattle.track.proofs.put_run.Goals as goal
 
--- src/lib.rt:110:5
-pub bounds-row-e : goal.bounds-row-e
-bounds-row-e c = simp length-set (omega (arith, rule_long _ c.fill.ensures, c.requires.upto))
-
--- src/lib.rt:99:1
 pub returns : goal.returns
-returns c = run_drawn _ _ _ _ c.args.row.now _ _ _ _ c.requires.runs c.character.ensures c.character-2.ensures c.character-3.ensures
-    (rw (c.lesser.ensures, c.greater.ensures) at c.fill.ensures)
+returns c = let asks = c.requires in
+    let dashes = dashes_filled _ _ _ _ c.character.result c.args.row.now c.fill.new.self c.min.ensures c.max.ensures asks.runs asks.from asks.upto asks.columns (search rules) in
+    let left = other_way c.args.s c.args.e _ refl asks.runs in
+    run_drawn _ _ c.args.arms.up c.args.arms.down c.args.row.now _ _ _ _ asks.runs c.character.ensures (rw left at c.character-2.ensures) (rw left at c.character-3.ensures) dashes

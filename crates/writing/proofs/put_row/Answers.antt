@@ -1,11 +1,17 @@
--- put_row meets its contract: the line made in a room is put. Assumes nothing.
-use mathlib.Core.Path.{◌≡◌}
-use lib.ListN.{length}
-use Rattle.writing.specs.Output.{line_bytes}
-use Rattle.writing.proofs.Lines.{made_put}
-use borrow.Author.Rules.{rules}
+-- The closures take the numbers out of tracks and columns. Assumes nothing.
+use Rattle.std.proofs.Common.{◌≡◌, rules}
+use Rattle.stack.specs.Value.{tracks, columns, tracks_of, columns_of}
+use Rattle.stack.specs.declared.Tracks.{Tracks}
+use Rattle.stack.specs.declared.Columns.{Columns}
+use Rattle.writing.proofs.Rows.{array_mapped, row_made}
 use Rattle.writing.proofs.put_row.Goals as goal
 
 pub returns : goal.returns
-returns c = let long : length c.row_before-at.new.room ≡ line_bytes = search rules in
-    made_put long c.row_before-at.ensures c.put_line.ensures
+returns c =
+    let separations : c.map.result ≡ tracks_of c.args.separations.now = array_mapped _ (λ (t : Tracks). t.0) (tracks 0) (search rules) (λ p x r q m. search rules) c.map.ensures.items in
+    let positions : c.map-2.result ≡ columns_of c.args.positions.now = array_mapped _ (λ (x : Columns). x.0) (columns 0) (search rules) (λ p x r q m. search rules) c.map-2.ensures.items in
+    let two = c.push_tabbed.ensures.added in
+    let between = c.push_tabbed-2.ensures.added in
+    let behind = c.push_tabbed-3.ensures.added in
+    let row = row_made c.args.k c.args.spread c.args.total c.args.separations.now c.args.positions.now c.requires separations positions c.new-line.ensures c.push_word.ensures two between behind c.push.ensures in
+    rw (c.as_slice.ensures, row) at c.put_line.ensures

@@ -6,4 +6,4 @@ use Rattle.writing.proofs.put_row_at.Goals as goal
 
 pub returns : goal.returns
 unfolding row_text
-returns c = lent_put c.lesser-from.ensures (omega arith) c.put_row.ensures
+returns c = lent_put c.min-from.ensures (omega arith) c.put_row.ensures

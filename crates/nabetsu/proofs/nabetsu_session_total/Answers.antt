@@ -1,0 +1,10 @@
+-- nabetsu_session_total meets its contract. Assumes nothing.
+use mathlib.Core.Path.{refl}
+use Rattle.std.specs.Prelude.{Ok}
+use Rattle.text.specs.Text.{refusal, fine}
+use Rattle.nabetsu.specs.Entry.{code}
+use Rattle.nabetsu.proofs.nabetsu_session_total.Goals as goal
+
+pub returns-in-Ok : goal.returns-in-Ok
+unfolding code fine refusal
+returns-in-Ok c = record { answer = Ok c.in-Ok.total; says = c.in-Ok.ensures.steps_total_says; coded = refl }

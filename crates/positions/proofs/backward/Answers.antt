@@ -1,7 +1,0 @@
--- backward meets its contract: the window cut to the positions below a span. Assumes nothing.
-use mathlib.Core.Path.{ap₂}
-use Rattle.spans.specs.Spans.{span}
-use Rattle.positions.proofs.backward.Goals as goal
-
-pub returns : goal.returns
-returns c = ap₂ span (cc) (cc)
