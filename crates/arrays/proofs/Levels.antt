@@ -1,4 +1,4 @@
--- The levels that the arrays stand for: their limits are the arrays' entries, and a span is worked out from the arrays as from the levels. Assumes nothing.
+-- The levels that what is given stands for: their limits are its entries, and a span is worked out from it as from the levels. Assumes nothing.
 use mathlib.Core.Path.{◌≡◌, refl, sym, ap, ap₂, ◌∙◌}
 use mathlib.Core.Bool.{Bool, true, false}
 use mathlib.Core.List.{List, [], ◌∷◌}

@@ -1,3 +1,3 @@
--- The arrays that the solver's functions share.
+-- What the solver's functions share.
 pub mod Arrays
 pub mod Search

@@ -142,7 +142,7 @@ pub fn read_command(word: &[u8], words: usize) -> Option<Command>
     }
 }
 
-// What stands at the start of an output: how many bytes, and what is refused where they are a refusal's line.
+// What stands at the start of an output: how many bytes, and what is refused where they are a refusal's line, which is printed too.
 #[derive(Clone, Copy)]
 pub struct Reply {
     pub length: usize,

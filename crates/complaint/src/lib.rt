@@ -2,8 +2,7 @@
 #![tactic(auto)]
 
 ghost use Rattle.std.specs.Prelude.{◌≡◌, ◌++◌, ◌+◌, ◌≤◌, length};
-ghost use Rattle.text.specs.Text.{refusal};
-ghost use Rattle.text.specs.Outcome.{number_of};
+ghost use Rattle.text.specs.Outcome.{refusal_of};
 ghost use Rattle.writing.specs.TableText.{digits};
 ghost use Rattle.complaint.specs.Complaint.{place, complaint, no_step};
 
@@ -45,16 +44,18 @@ fn push_place(told: &mut Line<COMPLAINT_BYTES>, line: u32, field: u32)
     told.push_word(b": ");
 }
 
-// The line that tells a refusal.
-#[tactic(auto, using(crate::proofs::Telling::refusal_told), unfolding(meaning::specs::Meaning::bytes))]
-pub fn complaint(refused: Refused) -> Line<COMPLAINT_BYTES>
-    ensures { result ≡ complaint (refusal (number_of refused.why) refused.line refused.field) }
+// The line that tells what is refused; nothing where nothing is.
+#[tactic(auto, using(crate::proofs::Telling::refusal_told, crate::proofs::Telling::none_told), unfolding(meaning::specs::Meaning::bytes))]
+pub fn complaint(outcome: Result<(), Refused>) -> Line<COMPLAINT_BYTES>
+    ensures { result ≡ complaint (refusal_of outcome) }
 {
     let mut told: Line<COMPLAINT_BYTES> = Line::new();
-    told.push_word(b"stacktable: ");
-    push_place(&mut told, refused.line, refused.field);
-    told.push_word(meaning(refused.why));
-    told.push(LINE_FEED);
+    if let Err(refused) = outcome {
+        told.push_word(b"stacktable: ");
+        push_place(&mut told, refused.line, refused.field);
+        told.push_word(meaning(refused.why));
+        told.push(LINE_FEED);
+    }
     told
 }
 

@@ -1,2 +1,2 @@
--- Laws of the loop that tests whether pairs are wirable.
+-- Laws of the test whether pairs are wirable.
 pub mod Trying

@@ -1,4 +1,4 @@
--- Growing ends and lacks from the arrays are those of the levels that the arrays stand for. Assumes nothing.
+-- Growing ends and lacks from what is given are those of the levels that it stands for. Assumes nothing.
 use mathlib.Core.Path.{◌≡◌, refl, sym, ap, ap₂, ◌∙◌}
 use mathlib.Core.List.{List}
 use Prim.Native.Nat.{ℕ, zero, suc, ◌+◌, ◌-◌, ◌≤◌, ◌<◌}

@@ -16,7 +16,7 @@ const TAB: u8 = b'\t';
 
 const LINE_FEED: u8 = b'\n';
 
-// A line of a text: its bytes, and whether a line feed ends it.
+// A line of a text: its bytes, and whether a line feed ends it. An unended line has bytes too.
 #[derive(Clone, Copy, Debug, PartialEq, Eq)]
 pub struct Line<'a> {
     pub bytes: &'a [u8],

@@ -26,7 +26,7 @@ use std::env::{Env, FillError};
 use std::fs::File;
 use std::io::{Cursor, Error, Read, Write};
 use std::{io, str};
-use text::{MAX_BYTES, Refused};
+use text::MAX_BYTES;
 
 // One byte more than an accepted text has, so that a longer one is seen to be.
 const TEXT_BYTES: usize = MAX_BYTES + 1;
@@ -79,13 +79,6 @@ fn fail(rt: &HostRuntime, what: &[u8], error: Error) -> Said {
     Said
 }
 
-// Says a refusal in words; nothing where there is none.
-fn say_refusal(rt: &HostRuntime, outcome: Result<(), Refused>) {
-    if let Err(refused) = outcome {
-        say(rt, complaint(refused).as_slice());
-    }
-}
-
 // Prints what stands at the start of an output, and then says in words what is refused.
 fn print_reply(rt: &HostRuntime, output: &[u8], reply: Reply) -> Status
     requires { reply.length ≤ length output.now }
@@ -93,7 +86,7 @@ fn print_reply(rt: &HostRuntime, output: &[u8], reply: Reply) -> Status
 {
     match rt.stdout().write_all(&output[..reply.length]) {
         Ok(()) => {
-            say_refusal(rt, reply.outcome);
+            say(rt, complaint(reply.outcome).as_slice());
             reply.status()
         }
         Err(error) => {
@@ -182,7 +175,8 @@ fn print_wrong(rt: &HostRuntime, what: &[u8]) -> Status
     Status::Failed
 }
 
-// A line of the input: where it is among so many bytes, and whether it is ended, which fails at the end of the input and for a line that is too long.
+// A line of the input: where it is among so many bytes, and whether it is ended, which fails at the end of the input and for a line that is too long. The other
+// fields hold in both cases.
 #[derive(Clone, Copy)]
 struct NextLine {
     at: usize,
@@ -272,7 +266,7 @@ fn read_line<S: Read>(
 // The longest argument's bytes; a path has fewer.
 const ARGUMENT_BYTES: usize = 4096;
 
-// Puts argument i at the start of the space; how many bytes it has, 0 where it is missing or too long.
+// Puts argument i at the start of the space; how many bytes it has, none where it is missing or too long: it is then no word and no number, as an empty one is.
 fn argument(rt: &HostRuntime, i: usize, space: &mut [u8]) -> usize
     ensures { result ≤ length space.new }
 {
@@ -642,9 +636,11 @@ fn run_command(rt: &HostRuntime, command: Command, place: usize, end: usize) -> 
     }
 }
 
-// Runs the program on its arguments, and answers its exit status: 0 where an answer was printed, 1 where a refusal was, 2 where arguments are wrong or reading or
-// writing fails.
-pub fn run(rt: &HostRuntime) -> Status {
+// Runs the program on its arguments, and answers what has come of it, whose number is the exit status: 0 where an answer was printed, 1 where a refusal was, 2 where
+// arguments are wrong or reading or writing fails.
+pub fn run(rt: &HostRuntime) -> Status
+    ensures { status_number result ≤ 2 }
+{
     let place = command_place(rt);
     let end = argument_count(rt);
     if end < place {

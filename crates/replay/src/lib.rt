@@ -15,7 +15,7 @@ use session::{Session, SessionStep};
 use steps::{StepLine, read_step_line};
 use text::{MAX_BYTES, Refusal, Refused};
 
-// A session, what the last line is refused for, and what that line is, if it is a line of a step.
+// A session, what the last line is refused for, and what that line is, if it is a line of a step: the session stands whether or not the line is refused.
 #[derive(Clone, Copy)]
 pub struct Replay {
     pub session: Session,

@@ -1,4 +1,4 @@
--- The refusals of a spread and of a channel, what an answer tells, and what the parts of an answer leave behind.
+-- The refusals of a spread and of a channel, what an answer tells, and what the end of an output leaves behind.
 pub mod Refusals
 pub mod Told
 pub mod Parts

@@ -1,4 +1,4 @@
--- One spread worked out in the arrays that are held from spread to spread. Assumes nothing: these are definitions.
+-- One spread worked out in what is held from spread to spread. Assumes nothing: these are definitions.
 use Rattle.std.specs.Prelude.{List, ℕ, suc, ◌≤◌, ◌<◌}
 use Rattle.stack.specs.Stack.{first_spread}
 use Rattle.stack.specs.Value.{stack_of}

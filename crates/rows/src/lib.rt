@@ -1,4 +1,4 @@
-// The rows of a stack's table: one spread worked out in arrays that are held from spread to spread.
+// The rows of a stack's table: one spread worked out in what is held from spread to spread.
 #![tactic(auto)]
 
 ghost use Rattle.std.specs.Prelude.{◌≡◌, true, suc, length};

@@ -26,7 +26,7 @@ pub struct Session {
     pub channels: [Terminals; Stack::MAX_CHANNELS],
 }
 
-// What a step is refused for, if it is, and the session after it.
+// What a step is refused for, if it is, and the session after it: a refused step hands a session back too (document 02, P6).
 #[derive(Clone, Copy)]
 pub struct SessionStep {
     pub outcome: Result<(), Refused>,

@@ -1,3 +1,3 @@
--- The lines of steps, and what their readers answer.
+-- The lines of steps, and what their reader answers.
 pub mod Steps
 pub mod Parts

@@ -29,7 +29,7 @@ module _ (k : StackStruct) (s cap : ℕ) (g : Given) (t : List StripSpans) (r : 
   ready : Ready k s g
   ready = record { fits = fits; wide = wide; held = e.held; filled = e.spread_windows }
 
-  -- the arrays are held on
+  -- what is given is held on
   pub holds_on : Holding k g t
   holds_on = record { held = e.held; sized = e.scanned.table.sized }
 

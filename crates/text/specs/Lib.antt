@@ -1,4 +1,4 @@
--- A stack's text: the trusted definitions, the documents' number, line and field for an outcome, and what the reader of a line of any kind answers.
+-- A stack's text: the trusted definitions, the documents' number, line and field for a refusal, and what the reader of a line of any kind answers.
 pub mod Text
 pub mod Layout
 pub mod Outcome

@@ -1,2 +1,3 @@
 -- What the writer of a track's row asks and leaves behind.
 pub mod Rows
+pub mod Marks

@@ -1,3 +1,3 @@
--- The laws of the trial's loops, and the verdict put together.
+-- The laws of the trial's tests, and the verdict put together.
 pub mod Trying
 pub mod Verdict

@@ -1,3 +1,3 @@
--- The trial of a placement: what it says, and what holds while it is made.
+-- The trial of a placement: what it says, and the numbers in the places that a stack uses.
 pub mod Legal
 pub mod Trying

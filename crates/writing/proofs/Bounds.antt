@@ -1,4 +1,4 @@
--- How long the table's text is: a number below 10 ^ n has at most n digits, since each division by ten takes one from the power; a field is one byte more; the
+-- How long the table's text is: a number below 10 ^ n and 2 ^ 64 has at most n digits (Digits.antt); a field is one byte more; the
 -- first line has 8 bytes, a row within document 01's limits at most row_bytes, and a table of n such rows at most 8 + row_bytes * n. Assumes nothing.
 use mathlib.Core.Path.{◌≡◌}
 use mathlib.Core.List.{List, [], ◌∷◌, ◌++◌, append_assoc}

@@ -1,4 +1,4 @@
--- A number's digits are std's decimal text, so a number below 10 ^ n has at most n; and numbers behind tabs, one list behind another. Assumes nothing.
+-- A number's digits are std's decimal text, so a number below 10 ^ n and 2 ^ 64 has at most n; and numbers behind tabs, one list behind another. Assumes nothing.
 use mathlib.Core.Path.{◌≡◌, refl, ap, sym, ◌∙◌}
 use mathlib.Core.List.{List, [], ◌∷◌, ◌++◌, append_assoc, append-nil}
 use Prim.Native.Nat.{ℕ, ◌^◌, ◌≤◌, ◌<◌}

@@ -13,7 +13,7 @@ use Rattle.stack.specs.Value.{tracks_of, columns_of}
 use Rattle.stack.specs.Stack.{row, total}
 use Rattle.stack.specs.declared.Tracks.{Tracks}
 use Rattle.stack.specs.declared.Columns.{Columns}
-use Rattle.writing.specs.TableText.{digits, tabbed, row_text}
+use Rattle.writing.specs.TableText.{digits, tabbed, row_text, total_text, refusal_text}
 use Rattle.writing.specs.Output.{row_of, RowAsks}
 use Rattle.writing.proofs.Digits.{tabbed_one, tabbed_append}
 
@@ -54,3 +54,12 @@ unfolding row_text row_of row total
 row_made k s t ts xs asks us vs a b c d e f =
     let numbers = row_numbers s t (take k (tracks_of ts)) (take (k + 1) (columns_of xs)) in
     rw (f, e, d, c, b, a, us, vs, ← asks.added, ← add-one k) (rw (numbers, tabbed_append (s ∷ []) (t ∷ [])) (simp append_assoc))
+
+-- a number and a line feed are a total's line; a number, two behind tabs and a line feed are a refusal's
+pub total_made : (v : ℕ) → digits v ++ (10 ∷ []) ≡ total_text v
+unfolding total_text
+total_made v = refl
+
+pub refusal_made : (number line field : ℕ) → digits number ++ tabbed (line ∷ field ∷ []) ++ (10 ∷ []) ≡ refusal_text number line field
+unfolding refusal_text
+refusal_made number line field = refl

@@ -1,3 +1,3 @@
--- A table's text: the trusted definitions, what is written over an output, and what stands in the room where a line is made.
+-- A table's text: the trusted definitions, and what is written over an output.
 pub mod TableText
 pub mod Output

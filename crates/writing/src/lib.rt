@@ -111,7 +111,7 @@ pub fn put_line(out: &mut [u8], line: &[u8]) -> usize
     line.len()
 }
 
-// The first line of a table of k channels over the output's first bytes, where there is space for it; its length.
+// Document 01, "Lines and tabs": the first line of a table of k channels over the output's first bytes, where there is space for it; its length.
 #[tactic(auto, unfolding(crate::specs::TableText::table_text, crate::specs::TableText::rows_text))]
 pub fn put_head(out: &mut [u8], k: usize) -> usize
     requires { k ≤ 9 }
@@ -156,7 +156,7 @@ pub fn put_total(out: &mut [u8], total: u32) -> usize
     put_line(out, line.as_slice())
 }
 
-// A refusal's line over the output's first bytes, where there is space for it; its length.
+// Document 01, "Lines and tabs": a refusal's line over the output's first bytes, where there is space for it; its length.
 #[tactic(auto, unfolding(crate::specs::TableText::refusal_text))]
 pub fn put_refusal(out: &mut [u8], number: u32, line: u32, field: u32) -> usize
     ensures { LinePut (refusal_text number line field) out.old out.new result }
