@@ -143,8 +143,9 @@ impl Session {
         ensures { AddMade (held_of self) length terminals.now count result }
     {
         self.room()?;
+        let below = self.top();
         let strip = part_content(length, 0)?;
-        let pairs = read_terminals(terminals, count, self.top(), strip.length)?;
+        let pairs = read_terminals(terminals, count, below, strip.length)?;
         Ok(self.with_top(strip.length, pairs))
     }
 

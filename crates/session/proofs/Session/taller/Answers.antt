@@ -13,17 +13,17 @@ returns-in_err-room c = rw (exit_is c.from_residual.result _ c.from_residual.ens
 pub returns-in_err-strip : goal.returns-in_err-strip
 returns-in_err-strip c = rw (exit_is c.from_residual-in_err-strip.result _ c.from_residual-in_err-strip.ensures.1) (no_length _ _ _ _ c.in_ok-room.ensures _ (length_read _ (Err _) c.in_err-strip.ensures))
 
-pub top-requires : goal.top-requires
-top-requires c = let r = roomy c.args.self c.in_ok-room.ensures in (r.some, omega (arith, r.few))
+pub top-below-requires : goal.top-below-requires
+top-below-requires c = let r = roomy c.args.self c.in_ok-room.ensures in (r.some, omega (arith, r.few))
 
 pub returns-in_err-pairs : goal.returns-in_err-pairs
 returns-in_err-pairs c = rw (exit_is c.from_residual-in_err-pairs.result _ c.from_residual-in_err-pairs.ensures.1)
-    (no_pairs _ _ _ _ c.in_ok-room.ensures c.in_ok-strip.strip (length_read _ (Ok c.in_ok-strip.strip) c.in_ok-strip.ensures) c.top.result.0 c.top.ensures _ c.in_err-pairs.ensures _ refl)
+    (no_pairs _ _ _ _ c.in_ok-room.ensures c.in_ok-strip.strip (length_read _ (Ok c.in_ok-strip.strip) c.in_ok-strip.ensures) c.top-below.result.0 c.top-below.ensures _ c.in_err-pairs.ensures _ refl)
 
 pub with_top-requires : goal.with_top-requires
 with_top-requires c = let r = roomy c.args.self c.in_ok-room.ensures in (r.some, r.few)
 
 pub returns : goal.returns
 returns c =
-    taller_made _ _ _ _ c.in_ok-room.ensures c.in_ok-strip.strip (length_read _ (Ok c.in_ok-strip.strip) c.in_ok-strip.ensures) c.top.result.0 c.top.ensures _ c.in_ok-pairs.ensures
+    taller_made _ _ _ _ c.in_ok-room.ensures c.in_ok-strip.strip (length_read _ (Ok c.in_ok-strip.strip) c.in_ok-strip.ensures) c.top-below.result.0 c.top-below.ensures _ c.in_ok-pairs.ensures
     c.in_ok-pairs.pairs c.with_top.result refl c.with_top.ensures
