@@ -1,5 +1,4 @@
--- The laws of the arguments, of what is printed, and of a trial's numbers.
-pub mod Arguments
+-- The laws of what is printed, and of a trial's numbers.
 pub mod Printing
 pub mod Steps
 pub mod Trials

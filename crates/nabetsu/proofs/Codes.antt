@@ -1,28 +1,11 @@
 -- A refusal in one number. Assumes nothing.
 use mathlib.Core.Path.{◌≡◌, refl}
-use Prim.Native.Nat.{ℕ, ◌+◌, ◌*◌, ◌≤◌}
-use native.Mathlib.Omega.{arith}
+use Prim.Native.Nat.{ℕ, ◌+◌, ◌*◌}
 use Rattle.text.specs.Text.{refusal}
 use Rattle.text.specs.Outcome.{number_of}
 use Rattle.text.specs.declared.Refusal.{Refusal as Why}
 use Rattle.text.specs.declared.Refusal.TheVariants.{Overlong, Layout, Crowd, Length, Overhang, Crossing, Narrow, ShortSpace, Broad, Unmet, Count, IllFormed, Empty, Inverted}
 use Rattle.nabetsu.specs.Entry.{code}
-
-pub number_small : (w : Why) → number_of w ≤ 14
-number_small Overlong = omega arith
-number_small Layout = omega arith
-number_small Crowd = omega arith
-number_small Length = omega arith
-number_small Overhang = omega arith
-number_small Crossing = omega arith
-number_small Narrow = omega arith
-number_small ShortSpace = omega arith
-number_small Broad = omega arith
-number_small Unmet = omega arith
-number_small Count = omega arith
-number_small IllFormed = omega arith
-number_small Empty = omega arith
-number_small Inverted = omega arith
 
 pub code_refused : (w : Why) (l f v : ℕ) → number_of w * 1099511627776 + l * 1048576 + f ≡ code (refusal (number_of w) l f) v
 unfolding code refusal

@@ -9,7 +9,6 @@ use Rattle.lines.specs.Lines.{Line, line, line_of}
 use Rattle.lines.specs.Cut.{line_from}
 use Rattle.lines.specs.declared.Line.{Line as LineStruct}
 use Rattle.lines.proofs.Places.{line_within, next_there}
-use Rattle.program.specs.Input.{LineIn}
 use Rattle.session.specs.Session.{Made, made_empty}
 use Rattle.session.specs.Value.{held_of}
 use Rattle.replay.specs.Replay.{State, state, start, line_taken}

@@ -438,46 +438,35 @@ fn run_table(rt: &HostRuntime, place: usize) -> Result<Status, Said> {
     Ok(print_table(rt, &text[..length]))
 }
 
-// Reads the spread and the text, and prints the least total.
-fn run_total(rt: &HostRuntime, place: usize) -> Result<Status, Said>
-    requires { place ≤ 3 }
+// Reads the spread and the text, and prints what is asked of them.
+fn run_spread<F: FnOnce(&HostRuntime, &[u8], u32) -> Status>(
+    rt: &HostRuntime,
+    place: usize,
+    print: F,
+) -> Result<Status, Said>
+    requires small { place ≤ 3 }
+    requires callable { F.IsAlwaysCallable print }
 {
     let spread = number_argument(rt, place + 1)?;
-    let mut text = [0u8; TEXT_BYTES];
+    let mut text = [0; TEXT_BYTES];
     let length = read_input(rt, place, &mut text)?;
-    Ok(print_total(rt, &text[..length], spread))
+    Ok(print(rt, &text[..length], spread))
 }
 
-// Reads the spread, a total and the text, and prints the placement for the total.
-fn run_place(rt: &HostRuntime, place: usize) -> Result<Status, Said>
-    requires { place ≤ 3 }
+// Reads the spread, a second number and the text, and prints what is asked of them.
+fn run_second<F: FnOnce(&HostRuntime, &[u8], u32, u32) -> Status>(
+    rt: &HostRuntime,
+    place: usize,
+    print: F,
+) -> Result<Status, Said>
+    requires small { place ≤ 3 }
+    requires callable { F.IsAlwaysCallable print }
 {
     let spread = number_argument(rt, place + 1)?;
-    let total = number_argument(rt, place + 2)?;
-    let mut text = [0u8; TEXT_BYTES];
+    let second = number_argument(rt, place + 2)?;
+    let mut text = [0; TEXT_BYTES];
     let length = read_input(rt, place, &mut text)?;
-    Ok(print_place(rt, &text[..length], spread, total))
-}
-
-// Reads the spread and the text, and prints the answer.
-fn run_spread(rt: &HostRuntime, place: usize) -> Result<Status, Said>
-    requires { place ≤ 3 }
-{
-    let spread = number_argument(rt, place + 1)?;
-    let mut text = [0u8; TEXT_BYTES];
-    let length = read_input(rt, place, &mut text)?;
-    Ok(print_spread(rt, &text[..length], spread))
-}
-
-// Reads the spread, a channel and the text, and prints the channel's page.
-fn run_page(rt: &HostRuntime, place: usize) -> Result<Status, Said>
-    requires { place ≤ 3 }
-{
-    let spread = number_argument(rt, place + 1)?;
-    let channel = number_argument(rt, place + 2)?;
-    let mut text = [0u8; TEXT_BYTES];
-    let length = read_input(rt, place, &mut text)?;
-    Ok(print_page(rt, &text[..length], spread, channel))
+    Ok(print(rt, &text[..length], spread, second))
 }
 
 // The line that begins at a place, of which more is read where it is not whole: then it is moved to the front.
@@ -625,10 +614,10 @@ fn run_command(rt: &HostRuntime, command: Command, place: usize, end: usize) -> 
 {
     match command {
         Command::Table => run_table(rt, place),
-        Command::Total => run_total(rt, place),
-        Command::Place => run_place(rt, place),
-        Command::Spread => run_spread(rt, place),
-        Command::Page => run_page(rt, place),
+        Command::Total => run_spread(rt, place, print_total),
+        Command::Place => run_second(rt, place, print_place),
+        Command::Spread => run_spread(rt, place, print_spread),
+        Command::Page => run_second(rt, place, print_page),
         Command::Trial => run_trial(rt, place, end),
         Command::Session => run_session(rt, place),
         Command::Help => Ok(print_help(rt)),

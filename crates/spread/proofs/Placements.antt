@@ -40,12 +40,6 @@ unfolding Placed
 placed_fine zero f k s v r e p = p
 placed_fine (suc n) f k s v r e p = absurd (omega arith)
 
--- of a refused stack or spread only the refusal counts
-pub placed_same : (n : ℕ) (f : Refusal) (k j : Stack) (s v : ℕ) (r : PlacementResult) → (n ≡ 0 → k ≡ j) → Placed n f k s v r → Placed n f j s v r
-unfolding Placed
-placed_same zero f k j s v r e p = rw (e refl) at p
-placed_same (suc n) f k j s v r e p = p
-
 -- a total below the least one is not met
 below_unmet : (k : Stack) (s v : ℕ) → within_limits k ≡ true → first_spread k.strips ≤ s → v < answer_total k s → TotalMet k s v → ⊥
 below_unmet k s v w h l m = omega (arith, (met_from_least k s w (answer_total k s) v (least_there k s w h)).0 m)

@@ -31,12 +31,6 @@ unfolding Totalled
 totalled_fine zero f k s v r e l t = (v, l, t)
 totalled_fine (suc n) f k s v r e l t = absurd (omega arith)
 
--- of a refused stack or spread only the refusal counts
-pub totalled_same : (n : ℕ) (f : Refusal) (k j : Stack) (s : ℕ) (r : TotalResult) → (n ≡ 0 → k ≡ j) → Totalled n f k s r → Totalled n f j s r
-unfolding Totalled
-totalled_same zero f k j s r e t = rw (e refl) at t
-totalled_same (suc n) f k j s r e t = t
-
 module _ (f : Refusal) (k : Stack) (s : ℕ) where
   pub total_refused : (e : Refused) → refusal (number_of e.why) e.line e.field ≡ f → TotalOr f k s (Err e)
   unfolding total_told
