@@ -32,7 +32,7 @@ use Rattle.scan.specs.Scan.{ScanAsks, ScanIs}
 use Rattle.scan.specs.declared.Scan.{Scan}
 use Rattle.scan.proofs.Tables.{sized_zeros, zeros_empty}
 use Rattle.band.specs.Band.{BandAsks}
-use Rattle.solver.specs.declared.Placement.{Placement}
+use Rattle.stack.specs.declared.Placement.{Placement}
 use Rattle.arrays.proofs.Levels.{most_small, most_fewer, above_at}
 use Rattle.arrays.specs.Arrays.{bias, entry, low_of, high_of, last_of, window_of, limits_from, level_of, levels, Sized, span_in, PlanIs, StackAsks, Filled, InBand, Banded}
 use Rattle.arrays.specs.declared.ChannelLimits.{ChannelLimits}

@@ -11,7 +11,7 @@ use Rattle.limits.specs.Limits.{low_floored, high_floored}
 use Rattle.arrays.specs.Arrays.{bias, entry, limits_of, window_at, PlanIs}
 use Rattle.arrays.specs.declared.ChannelLimits.{ChannelLimits}
 use Rattle.arrays.specs.declared.Given.{Given}
-use Rattle.solver.specs.declared.Placement.{Placement}
+use Rattle.stack.specs.declared.Placement.{Placement}
 use Rattle.answer.specs.Solve.{last_use, window, growth, answer_total, separations_for, positions_for}
 
 abbrev pub strip_in : Stack → (i : ℕ) → Strip

@@ -5,19 +5,20 @@ ghost use Rattle.std.specs.Prelude.{◌≡◌, true, suc, ◌+◌, ◌-◌, ◌<
 ghost use Rattle.stack.specs.Limits.{within_limits};
 ghost use Rattle.stack.specs.Value.{strip_of, stack_of};
 ghost use Rattle.stack.specs.Stack.{first_spread};
-ghost use Rattle.arrays.specs.Arrays.{bias};
+ghost use Rattle.arrays.specs.Arrays.{bias, unless_zero, entry, Sized};
 ghost use Rattle.limits.specs.Limits.{open_from};
+ghost use Rattle.scan.specs.Scan.{ScanIs};
 ghost use Rattle.answer.specs.Arrays.{LimitsIn, WindowsIn, BelowGrowths, Held, Ready, PlacedIs, AnswerIs};
 ghost use Rattle.answer.specs.Solve.{window, growth, answer_total};
 
-use arrays::{Given, StackLimits, StripSpans, Windows};
+use arrays::{Given, SpanTable, StackLimits, StripSpans, Windows};
 use band::fill_band;
 use channel::{channel_limits, open_from};
 use plan::plan_for;
-use scan::scan_totals;
-use solver::{Placement, place_in};
+use scan::{Scan, scan_totals};
+use solver::place_in;
 use spans::Span;
-use stack::{Stack, Strip, Tracks};
+use stack::{Placement, Stack, Strip, Tracks};
 
 // The last separation of use in a channel with so many pairs and this floor: there its limits leave every offset open.
 fn last_use(pairs: usize, floor: Tracks) -> usize
@@ -27,7 +28,7 @@ fn last_use(pairs: usize, floor: Tracks) -> usize
     open_from(pairs).max(floor.0 as usize)
 }
 
-// The limits and the last separations of use of a stack's channels.
+// The limits and the last separations of use of a stack's channels. A loop over channels: four arrays in step.
 #[tactic(auto, using(stack::proofs::Within::few_channels, stack::proofs::Within::few_pairs, stack::proofs::Within::small_floor, stack::proofs::Within::on_longest_strips))]
 pub fn fill_limits(stack: &Stack, limits: &mut StackLimits, lasts: &mut [usize; Stack::STRIPS])
     requires { within_limits (stack_of stack.now) ≡ true }
@@ -63,30 +64,32 @@ fn window(strip: &Strip, spread: u32) -> Span
     }
 }
 
-// The growing end of a strip's window in a spread, raised by the bias; 0 once its greatest position is within the spread.
-#[tactic(auto, using(std::proofs::lemmas::Bool::Decides::nat_tests), unfolding(stack::specs::Value::window_of, crate::specs::Solve::window_growth))]
-pub fn growing_end(strip: &Strip, spread: u32) -> u64
-    ensures { result ≡ growth bias spread (strip_of strip.now) }
+// The growing end of a strip's window in a spread, raised by the bias; none once its greatest position is within the spread.
+#[tactic(auto, using(std::proofs::lemmas::Bool::Decides::nat_tests, arrays::proofs::Options::some_number), unfolding(stack::specs::Value::window_of, crate::specs::Solve::window_growth))]
+pub fn growing_end(strip: &Strip, spread: u32) -> Option<u64>
+    ensures { result ≡ unless_zero (growth bias spread (strip_of strip.now)) }
 {
     let end = spread_end(strip, spread);
     match strip.window {
         Some(window) => {
             if (window.greatest.0 as u64) < end {
-                return 0;
+                return None;
             }
-            end + Stack::BIAS
+            Some(end + Stack::BIAS)
         }
-        None => end + Stack::BIAS,
+        None => Some(end + Stack::BIAS),
     }
 }
 
-// The strips' windows in a spread; the answer is not above any of their growing ends.
+// The strips' windows in a spread; the answer is not above any of their growing ends, and none where one of them is none. A loop over strips: two arrays in step, and
+// the least of what is found on the way.
 #[tactic(auto, using(stack::proofs::Within::few_channels))]
-pub fn fill_windows(stack: &Stack, spread: u32, windows: &mut Windows) -> u64
+pub fn fill_windows(stack: &Stack, spread: u32, windows: &mut Windows) -> Option<u64>
     requires { within_limits (stack_of stack.now) ≡ true }
-    ensures { WindowsIn (stack_of stack.now) (suc stack.now.count) spread windows.new × BelowGrowths (stack_of stack.now) (suc stack.now.count) spread result }
+    ensures windows { WindowsIn (stack_of stack.now) (suc stack.now.count) spread windows.new }
+    ensures least { (least : _) × (result ≡ unless_zero least) × BelowGrowths (stack_of stack.now) (suc stack.now.count) spread least }
 {
-    let mut least = Stack::BIAS;
+    let mut least = Some(Stack::BIAS);
     let strips = stack.count + 1;
     for i in 0..strips {
         let strip = &stack.strips[i];
@@ -96,11 +99,12 @@ pub fn fill_windows(stack: &Stack, spread: u32, windows: &mut Windows) -> u64
     least
 }
 
-// The limits of a stack's channels and their plan, which serve for every spread, whatever the windows. Given is filled in its place: one that is handed out is copied,
-// which costs a small answer 5 % more instructions.
+// The limits of a stack's channels and their plan, which serve for every spread, whatever the windows; these stay as they are. Given is filled in its place: one that is
+// handed out is copied, which costs a small answer 5 % more instructions.
 pub fn fill_held(stack: &Stack, given: &mut Given)
     requires { within_limits (stack_of stack.now) ≡ true }
-    ensures { Held stack.now given.new }
+    ensures held { Held stack.now given.new }
+    ensures windows { given.new.windows ≡ given.old.windows }
 {
     let mut lasts = [0usize; Stack::STRIPS];
     fill_limits(stack, &mut given.limits, &mut lasts);
@@ -118,6 +122,19 @@ fn fill_given(stack: &Stack, spread: u32, given: &mut Given)
     fill_windows(stack, spread, &mut given.windows);
 }
 
+// What the solver is given for a spread from the first one on, and the scan of all totals of use, with its table. Both are filled in the caller's places: handed out they
+// would be copied (see `fill_held`).
+fn scan_in(stack: &Stack, spread: u32, given: &mut Given, table: &mut SpanTable) -> Scan
+    requires within { within_limits (stack_of stack.now) ≡ true }
+    requires wide { first_spread (stack_of stack.now).strips ≤ spread }
+    requires sized { Sized table.old }
+    ensures ready { Ready stack.now spread given.new }
+    ensures scanned { ScanIs given.new (entry given.new.plan.above 0) table.new result }
+{
+    fill_given(stack, spread, given);
+    scan_totals(given, given.plan.above[0], table)
+}
+
 // The least total in a spread from the first one on.
 pub fn total_in(stack: &Stack, spread: u32) -> Tracks
     requires within { within_limits (stack_of stack.now) ≡ true }
@@ -125,9 +142,8 @@ pub fn total_in(stack: &Stack, spread: u32) -> Tracks
     ensures { result.0 ≡ answer_total (stack_of stack.now) spread }
 {
     let mut given = Given::NONE;
-    fill_given(stack, spread, &mut given);
     let mut table = [StripSpans::NONE; Stack::STRIPS];
-    let scan = scan_totals(&given, given.plan.above[0], &mut table);
+    let scan = scan_in(stack, spread, &mut given, &mut table);
     Tracks(scan.total as u32)
 }
 
@@ -138,9 +154,8 @@ pub fn answer_in(stack: &Stack, spread: u32) -> Placement
     ensures { AnswerIs (stack_of stack.now) spread result }
 {
     let mut given = Given::NONE;
-    fill_given(stack, spread, &mut given);
     let mut table = [StripSpans::NONE; Stack::STRIPS];
-    let scan = scan_totals(&given, given.plan.above[0], &mut table);
+    let scan = scan_in(stack, spread, &mut given, &mut table);
     place_in(&given, scan.total, &table)
 }
 

@@ -1,5 +1,5 @@
 -- What the structs stand for that the solver's functions share. Assumes nothing: these are definitions.
-use Rattle.std.specs.Prelude.{◌≡◌, ◌⊎◌, List, [], ◌∷◌, ℕ, zero, suc, ◌+◌, ◌*◌, ◌≤◌, ◌<◌, length, get_or, set}
+use Rattle.std.specs.Prelude.{◌≡◌, ◌⊎◌, Option, None, Some, List, [], ◌∷◌, ℕ, zero, suc, ◌+◌, ◌*◌, ◌≤◌, ◌<◌, length, get_or, set, map, unwrap_or}
 use Rattle.stack.specs.Sizes.{channels_held, strips_held, last_held, separations_held, totals_held}
 use Rattle.spans.specs.Spans.{span, Limit, limit}
 use Rattle.spans.specs.declared.Span.{Span}
@@ -20,6 +20,15 @@ greatest_end = 4294967295
 abbrev pub entry : List ℕ → (q : ℕ) → ℕ
 entry xs q = get_or xs q 0
 
+-- a number, or None for 0
+abbrev pub unless_zero : ℕ → Option ℕ
+unless_zero zero = None
+unless_zero (suc n) = Some (suc n)
+
+-- the numbers of a list, 0 for None
+abbrev pub ends_of : List (Option ℕ) → List ℕ
+ends_of hs = map (λ h. unwrap_or h 0) hs
+
 -- the limits of channel i
 abbrev pub limits_of : List ChannelLimits → (i : ℕ) → ChannelLimits
 limits_of ls i = get_or ls i (record { low = []; high = [] })
@@ -29,6 +38,14 @@ low_in c q = entry c.low q
 
 abbrev pub high_in : ChannelLimits → (q : ℕ) → ℕ
 high_in c q = entry c.high q
+
+-- what a span in s shifted by the limit at separation q asks: the limit stands in the arrays, and no number is cut off by the bias
+pub record ShiftAsks (c : ChannelLimits) (q : ℕ) (s : Span) : Type 0 where
+  pub listed : q < separations_held
+  pub starts : s.from ≤ strips_held * bias
+  pub ends : s.upto ≤ bias
+  pub low_small : low_in c q ≤ 2 * bias
+  pub high_small : high_in c q ≤ 2 * bias
 
 -- the spans of strip i in a table
 abbrev pub spans_of : List StripSpans → (i : ℕ) → StripSpans

@@ -1,15 +1,18 @@
 -- The loop over the totals of one strip. Assumes nothing.
 use mathlib.Core.Path.{◌≡◌, refl, ap, ◌∙◌}
+use mathlib.Core.Bool.{true}
 use mathlib.Core.Logic.{◌⊎◌, inl, inr}
 use mathlib.Core.List.{List}
 use Prim.Native.Nat.{ℕ, ◌+◌, ◌≤◌, ◌<◌, max}
 use native.Mathlib.Omega.{arith}
+use Rattle.std.specs.Prelude.{Option, is_some}
 use Rattle.numbers.proofs.Orders.{lt_or_eq}
 use Rattle.spans.specs.declared.Span.{Span}
 use Rattle.spans.specs.Solver.{cell}
 use Rattle.arrays.specs.Arrays.{bias, low_in, high_in, span_at, span_in, spans_of}
 use Rattle.arrays.specs.declared.ChannelLimits.{ChannelLimits}
 use Rattle.arrays.specs.declared.StripSpans.{StripSpans}
+use Rattle.arrays.proofs.Options.{number_some}
 use Rattle.scan.specs.Scan.{cell_at, StripAsks, StripDone, EmptyOn}
 use Rattle.scan.specs.declared.Cell.{Cell}
 use Rattle.scan.proofs.Tables.{put_same, put_apart, put_others, sized_put}
@@ -57,7 +60,7 @@ module _ (limits : ChannelLimits) (c : Cell) (last : ℕ) (t : List StripSpans) 
           empties = λ u h l. rw above_same (b.empties u h l);
         }
 
-    module _ (t'' : List StripSpans) (short e' : ℕ) (d : StripDone limits (cell_at c v) t' t'' short) (x : EmptyOn (max e 0) v short e') where
+    module _ (t'' : List StripSpans) (short : Option ℕ) (e' : ℕ) (d : StripDone limits (cell_at c v) t' t'' short) (x : EmptyOn (max e 0) v short e') where
       abbrev here : Span
       here = cell bias (low_in limits) (high_in limits) c.least c.last c.above (span_in t' (c.i + 1)) c.window v
 
@@ -75,12 +78,12 @@ module _ (limits : ChannelLimits) (c : Cell) (last : ℕ) (t : List StripSpans) 
           (written
           ∙ ap (λ (r : StripSpans). cell bias (low_in limits) (high_in limits) c.least c.last c.above (λ u. span_at r u) c.window v) above_same)
 
-      empty_there : (u : ℕ) → (u < max e 0) ⊎ ((u ≡ v) × (0 < short)) → (span_in t'' c.i u).upto ≤ (span_in t'' c.i u).from
+      empty_there : (u : ℕ) → (u < max e 0) ⊎ ((u ≡ v) × (is_some short ≡ true)) → (span_in t'' c.i u).upto ≤ (span_in t'' c.i u).from
       empty_there u (inl l) =
           let e = kept u (λ q. omega (arith, s.few)) in
           omega (arith, starts_same e, ends_same e, s.empties u (omega arith))
       empty_there u (inr l) =
-          let y = short_empty (low_in limits) (high_in limits) c.least c.last c.above (span_in t' (c.i + 1)) c.window v (omega (arith, (a.asks v from upto).end)) (rw d.short_is at l.1) in
+          let y = short_empty (low_in limits) (high_in limits) c.least c.last c.above (span_in t' (c.i + 1)) c.window v (omega (arith, (a.asks v from upto).end)) (number_some _ (rw d.short_is at l.1)) in
           rw l.0 (omega (arith, y, starts_same written, ends_same written))
 
       pub strip_step : StripFilled limits c (v + 1) t t'' e'

@@ -8,7 +8,8 @@ ghost use Rattle.band.specs.Band.{StripAsked, StripFilled, BandAsks};
 use arrays::{ChannelLimits, Given, SpanTable};
 use scan::{Cell, count_empty, put_window, scan_strip};
 
-// Writes the spans of one strip from the cell's total to the last one, and answers below which total they are known to be empty.
+// Writes the spans of one strip from the cell's total to the last one, and answers below which total they are known to be empty. A loop over totals: each writes in
+// the one table, and goes on from what the one before is known to be.
 fn fill_strip(limits: &ChannelLimits, first: Cell, last: usize, table: &mut SpanTable) -> usize
     requires { StripAsked limits.now first last table.old }
     ensures { StripFilled limits.now first (last + 1) table.old table.new result }
@@ -32,7 +33,7 @@ fn first_in_band(total: usize, used: usize, all: usize, i: usize) -> usize
     used.min((total + used).saturating_sub(all + i))
 }
 
-// Writes the spans of all strips for the totals in their bands.
+// Writes the spans of all strips for the totals in their bands. A loop over strips: each reads in the table what the one above it wrote.
 pub fn fill_band(given: &Given, total: usize, table: &mut SpanTable)
     requires { BandAsks given.now total table.old }
     ensures { Banded given.now total 0 table.new }

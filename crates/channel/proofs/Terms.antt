@@ -1,9 +1,9 @@
 -- The greatest and the least of 32 terms on 16 bits are a channel's limits: behind the last pair the terminals are such that a term past the last is never the
 -- greatest or the least, and from the first term on the bias can be exchanged. By induction on the terms. Assumes nothing.
-use mathlib.Core.Path.{◌≡◌, ap, ◌∙◌}
+use mathlib.Core.Path.{◌≡◌, refl, ap, ◌∙◌}
 use mathlib.Core.Bool.{true}
 use mathlib.Core.List.{List}
-use Prim.Native.Nat.{ℕ, zero, suc, ◌+◌, ◌-◌, ◌≤◌, ◌<◌, min, max}
+use Prim.Native.Nat.{ℕ, zero, suc, ◌+◌, ◌*◌, ◌-◌, ◌≤◌, ◌<◌, min, max}
 use native.Mathlib.Decide.{dec_lt}
 use native.Mathlib.Numerals.{add-one}
 use native.Mathlib.Omega.{arith}
@@ -33,10 +33,29 @@ pub greatest_steps : (ps qs : List ℕ) (t i most most' : ℕ) → i < 32 → t 
 unfolding greatest low_term
 greatest_steps ps qs t i most most' h k e f = f ∙ rw (e, add-one i, paired_p ps qs i (omega arith), paired_q ps qs (i + t) (omega arith))
 
-pub least_steps : (ps qs : List ℕ) (t i most most' : ℕ) → i < 32 → t ≤ 32 → most ≡ least term_bias (paired ps qs) t i →
-    most' ≡ min most (term_bias + get_or ps (i + t) 0 - (t + get_or qs i 0)) → most' ≡ least term_bias (paired ps qs) t (i + 1)
-unfolding least high_term
-least_steps ps qs t i most most' h k e f = f ∙ rw (e, add-one i, paired_p ps qs (i + t) (omega arith), paired_q ps qs i (omega arith))
+-- with the edges exchanged each greatest term is what the least leaves of twice the bias, and the greatest of them too
+module _ (ps qs : List ℕ) (t : ℕ) (k : t ≤ 32) (p : AtMost term_bias places_held (λ j. get_or ps j 0)) (q : AtMost 1000 places_held (λ j. get_or qs j 0)) where
+  term_left : (i : ℕ) → i < 32 →
+      (2 * term_bias - low_term term_bias (paired qs ps) t i ≡ high_term term_bias (paired ps qs) t i)
+      × (low_term term_bias (paired qs ps) t i ≤ 2 * term_bias)
+  unfolding low_term high_term
+  term_left i h =
+      rw (paired_p qs ps i (omega arith), paired_q qs ps (i + t) (omega arith), paired_p ps qs (i + t) (omega arith), paired_q ps qs i (omega arith))
+      (omega (arith, p.each (i + t) (omega arith), q.each i (omega arith)), omega (arith, q.each i (omega arith)))
+
+  terms_left : (n : ℕ) → n ≤ 32 →
+      (2 * term_bias - greatest term_bias (paired qs ps) t n ≡ least term_bias (paired ps qs) t n)
+      × (greatest term_bias (paired qs ps) t n ≤ 2 * term_bias)
+  unfolding greatest least
+  terms_left zero h = (refl, omega arith)
+  terms_left (suc n) h = (omega (arith, term_left n h, terms_left n (omega arith)), omega (arith, term_left n h, terms_left n (omega arith)))
+
+  module _ (most : ℕ) (e : most ≡ greatest term_bias (paired qs ps) t 32) where
+    pub least_left : 2 * term_bias - most ≡ least term_bias (paired ps qs) t 32
+    least_left = rw e (terms_left 32 (omega arith)).0
+
+    pub most_small : most ≤ 2 * term_bias
+    most_small = rw e (terms_left 32 (omega arith)).1
 
 -- a channel's terminals in two lists
 narrowed_held : (e : List Columns) (n r m : ℕ) (xs : List ℕ) → r ≤ m → AtMost 1000 n (λ j. (get_or e j (columns 0)).0) → 1000 ≤ m → xs ≡ narrowed e n r →

@@ -13,10 +13,7 @@ use test_io::{next_number, read_full};
 
 // A biased number, with its sign.
 fn print_biased(to: &impl Print, v: u64) -> io::Result<()> {
-    if v < Stack::BIAS {
-        print!(to; "-")?;
-    }
-    print!(to; "{}", v.abs_diff(Stack::BIAS))
+    print!(to; "{}", v.wrapping_sub(Stack::BIAS).cast_signed())
 }
 
 fn print_range(to: &impl Print, low: u64, high: u64) -> io::Result<()> {
@@ -43,6 +40,7 @@ fn print_feasible(
 ) -> io::Result<()>
     requires { terminals.now.count ≤ 32 }
 {
+    // t is the separation itself.
     for t in 0..terminals.count as u32 + 3 {
         let feasible = is_feasible(terminals, Tracks(0), Tracks(t), lower, upper);
         print!(to; "{}", u8::from(feasible))?;
@@ -60,6 +58,7 @@ fn print_all_feasible(
 {
     let queries = next_number(text, from);
     let mut at = queries.at;
+    // The queries follow each other in the text, so that each begins at the place where the one before it ends.
     for _ in 0..queries.value {
         let lower = next_number(text, at);
         let upper = next_number(text, lower.at);
@@ -72,6 +71,7 @@ fn print_all_feasible(
 
 fn read_values(text: &[u8], from: usize, count: usize, values: &mut [u32; 64]) -> usize {
     let mut at = from;
+    // Numbers past the space are read too, since what follows begins behind them.
     for j in 0..count {
         let number = next_number(text, at);
         at = number.at;
@@ -108,6 +108,7 @@ fn main(rt: HostRuntime) -> io::Result<()> {
     let n = read_full(&mut input, &mut text);
     let channels = next_number(&text[..n], 0);
     let mut at = channels.at;
+    // Each channel begins at the place where the one before it ends.
     for _ in 0..channels.value {
         at = channel(&rt, &text[..n], at)?;
     }

@@ -28,7 +28,7 @@ use Rattle.trial.specs.Legal.{is_legal}
 use Rattle.answer.proofs.Alone.{legal_lengths}
 use Rattle.page.specs.Page.{channel_page}
 use Rattle.complaint.specs.Complaint.{complaint}
-use Rattle.solver.specs.declared.Placement.{Placement as PlacementStruct}
+use Rattle.stack.specs.declared.Placement.{Placement as PlacementStruct}
 use Rattle.nabetsu.specs.Pages.{page_refusal, Paged, PageSays}
 use Rattle.reply.specs.Told.{TableResult, written_in, table_told}
 use Rattle.spread.specs.Answers.{TotalResult, PlacementResult, total_in, spread_refusal, total_told, Totalled, TotalSays, placed_is, PlacedFor, placed, unmet, Placed, PlacementOr, PlacementSays}
@@ -40,6 +40,10 @@ use Rattle.nabetsu.proofs.Promises.{both_together}
 use Rattle.commands.specs.Output.{status_number, status_after, Printed, unless_refused, status_of, Replied, channels, TablePrinted, TotalPrinted, PlacementPrinted, SpreadPrinted, PagePrinted, separations_in, positions_in, verdict_text, trial_text, trial_status}
 use Rattle.commands.specs.Parts.{Concluded, LineOr, TotalPut, PlacementPut, SpreadPut, TrialPut}
 use Rattle.commands.specs.declared.Reply.{Reply}
+
+-- what is printed is as long as the part of the output that is written
+pub printed_counts : {f : Refusal} {t out : List ℕ} {s : ℕ} {r : Reply} → Printed f t s out r → r.length ≡ length (take r.length out)
+printed_counts p = rw p.stands p.counted
 
 -- A LINE put where there is space for it
 pub put_printed : {t before after : List ℕ} {n : ℕ} (o : Result Unit RefusedStruct) → line_bytes ≤ length before → LinePut t before after n →
@@ -223,23 +227,23 @@ pub total_printed : (bs : List ℕ) (s : ℕ) (o x out : List ℕ) (a : Result �
 total_printed bs s o x out a r h p c = record { answer = p.answer; says = p.says; printed = line_replied _ _ o x out a r h p.line c }
 
 -- A ROW: where nothing is refused, the total is its separations' sum
-pub record PlacedRow (f : Refusal) (k : Stack) (v : ℕ) (p : PlacementStruct) : Type 0 where
+pub record PlacedRow (f : Refusal) (k : Stack) (p : PlacementStruct) : Type 0 where
   pub none_refused : f.number ≡ 0
-  pub added : v ≡ sum (take (length k.channels) (tracks_of p.separations))
+  pub added : p.total.0 ≡ sum (take (length k.channels) (tracks_of p.separations))
 
 module _ (f : Refusal) (k : Stack) (s v : ℕ) (a : PlacementStruct) where
-  placed_sum : PlacedFor k s v (Ok a) → v ≡ sum (take (length k.channels) (tracks_of a.separations))
+  placed_sum : PlacedFor k s v (Ok a) → a.total.0 ≡ sum (take (length k.channels) (tracks_of a.separations))
   unfolding placed_is padded refusal fine
   placed_sum (placed ts xs t p) =
       let l : length ts ≡ length k.channels = (legal_lengths k s ts xs t.is_legal).0 in
-      sym t.exact ∙ rw (p.2, take_at ts (replicate (8 - length ts) 0) (length k.channels) l)
+      p.1 ∙ sym t.exact ∙ rw (p.2, take_at ts (replicate (8 - length ts) 0) (length k.channels) l)
   placed_sum (unmet n p) = let z : ◌≡◌ {A = ℕ} 0 10 = ap (λ (g : Refusal). g.number) p.0 in absurd (omega arith)
 
-  pub placed_row : PlacementOr f k s v (Ok a) → PlacedRow f k v a
+  pub placed_row : PlacementOr f k s v (Ok a) → PlacedRow f k a
   unfolding Placed placed_is
   placed_row p = go f.number refl p
     where
-      go : (m : ℕ) → f.number ≡ m → Placed m f k s v (Ok a) → PlacedRow f k v a
+      go : (m : ℕ) → f.number ≡ m → Placed m f k s v (Ok a) → PlacedRow f k a
       go zero e t = record { none_refused = e; added = placed_sum t }
       go (suc m) e t = record { none_refused = fine_number f t.0; added = absurd (omega (arith, fine_number f t.0)) }
 
@@ -248,7 +252,7 @@ pub placement_unput : (bs : List ℕ) (s v : ℕ) (o x : List ℕ) (e : RefusedS
 placement_unput bs s v o x e says = record { answer = Err e; says = says; line = record { refused = refl; put = tt } }
 
 module _ (bs : List ℕ) (s v : ℕ) (a : PlacementStruct) (says : PlacementSays bs s v (Ok a)) where
-  in_row : PlacedRow (spread_refusal bs s) (stack_in bs) v a
+  in_row : PlacedRow (spread_refusal bs s) (stack_in bs) a
   unfolding PlacementSays
   in_row = placed_row (spread_refusal bs s) (stack_in bs) s v a says
 
@@ -258,7 +262,7 @@ module _ (bs : List ℕ) (s v : ℕ) (a : PlacementStruct) (says : PlacementSays
   placed_read e d = word_not_fine e (rw (← d.outcome) at ((or_else_fine (text_refusal bs) _ in_row.none_refused).0))
 
   module _ (k : StackStruct) (d : StackRead bs (Ok k)) where
-    pub row_asked : RowAsks k.count v a.separations
+    pub row_asked : RowAsks k.count a.total.0 a.separations
     row_asked = record { channels = few_channels k d.within; added = rw (count_is bs k d) in_row.added }
 
     pub placement_put : (o x : List ℕ) (n : ℕ) → LinePut (row_text (row_of k.count s a.separations a.positions)) o x n → PlacementPut bs s v o x (Ok n)

@@ -13,7 +13,7 @@ use Rattle.text.specs.declared.Refused.{Refused}
 use Rattle.text.proofs.Refusals.{first_refused, or_else_then, or_else_next}
 use Rattle.writing.specs.TableText.{row_text}
 use Rattle.writing.specs.Output.{line_bytes, LinePut, row_of, RowAsks}
-use Rattle.solver.specs.declared.Placement.{Placement}
+use Rattle.stack.specs.declared.Placement.{Placement}
 use Rattle.spread.specs.Answers.{PlacementResult, total_told, Totalled}
 use Rattle.spread.specs.Best.{AnsweredOr}
 use Rattle.spread.proofs.Both.{both_of}
@@ -80,7 +80,7 @@ module _ (n : Session) (s v : ℕ) (p : Placement) (place : SessionPlacementSays
       let none = (placed_row (session_refusal (held_of n) s) (held_of n) s v p place).none_refused in
       omega (arith, some_strip (held_of n) s none, strips_long n)
 
-  pub step_asked : Made (held_of n) → RowAsks (n.count - 1) v p.separations
+  pub step_asked : Made (held_of n) → RowAsks (n.count - 1) p.total.0 p.separations
   unfolding SessionPlacementSays
   step_asked m =
       let row = placed_row (session_refusal (held_of n) s) (held_of n) s v p place in

@@ -2,8 +2,7 @@
 // goes with it.
 #![tactic(auto)]
 
-ghost use Rattle.std.specs.Prelude.{◌≡◌, ◌≤◌};
-ghost use Rattle.stack.specs.Value.{tracks_of, columns_of};
+ghost use Rattle.std.specs.Prelude.{◌≡◌, length};
 ghost use Rattle.text.specs.Outcome.{refusal_of};
 ghost use Rattle.session.specs.Session.{Made};
 ghost use Rattle.session.specs.Value.{held_of};
@@ -19,22 +18,21 @@ ghost use Rattle.commands.specs.Output.{
   StepPrinted,
   PagePrinted,
   TrialPrinted,
-  separations_in,
-  positions_in,
   verdict_text,
 };
 ghost use Rattle.commands.specs.Parts.{Concluded, TotalPut, PlacementPut, SpreadPut, StepPut, TrialPut};
 
 use lines::read_digits;
-use nabetsu::{TABLE_BYTES, least_total, place_total, try_placement, write_page, write_table};
+use nabetsu::{
+    TABLE_BYTES, least_total, padded, place_total, try_placement, write_page, write_table,
+};
 use reading::read_stack;
 use session::Session;
 use stack::{Columns, Stack, Tracks};
-use std::array;
 use text::Refused;
 use writing::{put_line, put_refusal, put_row, put_total as put_total_line};
 
-// A trial's spread, separations and positions.
+// At most so many numbers has a trial: its spread, separations and positions.
 pub const NUMBERS: usize = 2 * Stack::MAX_CHANNELS + 2;
 
 // What has come of the program, the worse the greater: an answer is printed, or a refusal, or arguments are wrong or reading or writing fails.
@@ -56,7 +54,7 @@ impl Status {
 
 const MAX_DIGITS: usize = 10;
 
-// The number that a word is: 1 to 10 decimal digits, at most 4294967295.
+// The number that a word is: 1 to 10 decimal digits, at most 4294967295. Not by `parse` alone, which takes a sign, and more digits with zeros in front.
 #[tactic(auto, unfolding(crate::specs::Words::is_number, crate::specs::Words::number_in, lines::specs::Numbers::digits_read))]
 pub fn read_number(word: &[u8]) -> Option<u32>
     ensures { result ≡ number_in word.now }
@@ -142,7 +140,7 @@ pub fn read_command(word: &[u8], words: usize) -> Option<Command>
     }
 }
 
-// What stands at the start of an output: how many bytes, and what is refused where they are a refusal's line, which is printed too.
+// What stands at the start of an output: how many bytes, and what is refused where they are a refusal's line. Both, since a refusal is printed too and so has a length.
 #[derive(Clone, Copy)]
 pub struct Reply {
     pub length: usize,
@@ -160,7 +158,8 @@ impl Reply {
         }
     }
 
-    // So many bytes that are put already, or the line of a refusal.
+    // So many bytes that are put already, or the line of a refusal. Each public function below ends by it and not by `?`, since a refusal is printed too, as a line of its own over
+    // the same output.
     fn of(put: Result<usize, Refused>, output: &mut [u8; TABLE_BYTES]) -> Reply
         ensures { Concluded put output.old output.new result }
     {
@@ -212,14 +211,7 @@ fn put_placed(
 {
     let placement = place_total(text, spread, total)?;
     let stack = read_stack(text)?;
-    Ok(put_row(
-        output,
-        stack.count,
-        spread,
-        total.0,
-        &placement.separations,
-        &placement.positions,
-    ))
+    Ok(put_row(output, stack.count, spread, placement))
 }
 
 // All that is printed of a placement for a total: its row, or the refusal's line.
@@ -259,14 +251,7 @@ fn put_stepped(
     outcome?;
     let total = session.least_total(spread)?;
     let placement = session.place_total(spread, total)?;
-    Ok(put_row(
-        output,
-        session.count - 1,
-        spread,
-        total.0,
-        &placement.separations,
-        &placement.positions,
-    ))
+    Ok(put_row(output, session.count - 1, spread, placement))
 }
 
 // All that is printed of a step of a session: the row of the placement for its least total in one spread, or the step's refusal or the spread's.
@@ -291,22 +276,6 @@ pub fn put_page(text: &[u8], spread: u32, channel: u32, output: &mut [u8; TABLE_
     Reply::of(put, output)
 }
 
-// A trial's first k separations, and zeros.
-fn separations(numbers: &[u32; NUMBERS], k: usize) -> [Tracks; Stack::MAX_CHANNELS]
-    requires { k ≤ 8 }
-    ensures { tracks_of result ≡ separations_in k numbers.now }
-{
-    array::from_fn(|i| Tracks(if i < k { numbers[1 + i] } else { 0 }))
-}
-
-// A trial's first k + 1 positions, behind its separations, and zeros.
-fn positions(numbers: &[u32; NUMBERS], k: usize) -> [Columns; Stack::STRIPS]
-    requires { k ≤ 8 }
-    ensures { columns_of result ≡ positions_in k numbers.now }
-{
-    array::from_fn(|i| Columns(if i <= k { numbers[1 + k + i] } else { 0 }))
-}
-
 // The line of a verdict.
 fn put_verdict(legal: bool, output: &mut [u8]) -> usize
     ensures { LinePut (verdict_text legal) output.old output.new result }
@@ -317,38 +286,33 @@ fn put_verdict(legal: bool, output: &mut [u8]) -> usize
     put_line(output, b"not legal\n")
 }
 
-// The line of the verdict on a trial with so many numbers, or the text's refusal; none where so many do not fit the stack.
+// The line of the verdict on a trial with these numbers, or the text's refusal; none where so many do not fit the stack.
 fn put_tried(
     text: &[u8],
-    count: usize,
-    numbers: &[u32; NUMBERS],
+    numbers: &[u32],
     output: &mut [u8; TABLE_BYTES],
 ) -> Result<Option<usize>, Refused>
-    ensures { TrialPut text.now count numbers.now output.old output.new result }
+    ensures { TrialPut text.now (length numbers.now) numbers.now output.old output.new result }
 {
     let stack = read_stack(text)?;
     let k = stack.count;
-    if count != 2 * k + 2 {
+    if numbers.len() != 2 * k + 2 {
         return Ok(None);
     }
+    let (separations, positions) = numbers[1..].split_at(k);
     let legal = try_placement(
         text,
         numbers[0],
-        separations(numbers, k),
-        positions(numbers, k),
+        padded(separations).map(Tracks),
+        padded(positions).map(Columns),
     )?;
     Ok(Some(put_verdict(legal, output)))
 }
 
-// All that is printed of a trial with so many numbers: the verdict, or the refusal's line; none where so many do not fit the stack.
-pub fn put_trial(
-    text: &[u8],
-    count: usize,
-    numbers: &[u32; NUMBERS],
-    output: &mut [u8; TABLE_BYTES],
-) -> Option<Reply>
-    ensures { TrialPrinted text.now count numbers.now output.new result }
+// All that is printed of a trial with these numbers: the verdict, or the refusal's line; none where so many do not fit the stack.
+pub fn put_trial(text: &[u8], numbers: &[u32], output: &mut [u8; TABLE_BYTES]) -> Option<Reply>
+    ensures { TrialPrinted text.now (length numbers.now) numbers.now output.new result }
 {
-    let put = put_tried(text, count, numbers, output).transpose()?;
+    let put = put_tried(text, numbers, output).transpose()?;
     Some(Reply::of(put, output))
 }

@@ -15,7 +15,7 @@ const LINE_FEED: u8 = b'\n';
 // The longest line's bytes: 12 for the program's name, 35 for the place with two numbers of ten digits, 71 for the longest meaning, and a line feed.
 const COMPLAINT_BYTES: usize = 120;
 
-// Adds a word and a number.
+// Adds a word and a number. Not by `Display`: its contract says what is written only into a `String`, which allocates; into a buffer of fixed size each `write!` may fail.
 fn push_named(told: &mut Line<COMPLAINT_BYTES>, word: &[u8], value: u32)
     requires { length told.old + length word.now + 10 ≤ 120 }
     ensures added { told.new ≡ told.old ++ (word.now ++ digits value) }

@@ -35,7 +35,7 @@ fn greatest<F: Fn(&Strip) -> u64>(strips: &[Strip], number: F) -> u64
     most
 }
 
-// A strip's greatest position, 0 where it is free.
+// A strip's greatest position; 0 where it is free, as the definition has it.
 #[tactic(auto, unfolding(stack::specs::Value::window_of, stack::specs::Lengths::greatest_position))]
 fn greatest_position(strip: Strip) -> u64
     ensures { NumberOf (greatest_position (strip_of strip).window) result }
@@ -54,7 +54,7 @@ pub fn first_spread(stack: &Stack) -> u64
     greatest(strips(stack), |strip| strip.reach())
 }
 
-// The greatest position of a strip that is held; 0 where none is.
+// The greatest position of a strip that is held; 0 where none is, as the definition has it: it is a term of a sum (`widest`).
 pub fn last_position(stack: &Stack) -> u64
     requires { stack.now.count ≤ 8 }
     ensures { NumberOf (last_position (stack_of stack.now).strips) result }

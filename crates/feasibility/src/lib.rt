@@ -1,7 +1,7 @@
 // The test whether a channel is feasible.
 #![tactic(auto)]
 
-ghost use Rattle.std.specs.Prelude.{◌≡◌, ◌-◌, ◌≤◌};
+ghost use Rattle.std.specs.Prelude.{◌≡◌, ◌≤◌};
 ghost use Rattle.stack.specs.Stack.{channel, wirable, feasible};
 ghost use Rattle.stack.specs.Value.{channel_of};
 ghost use Rattle.feasibility.specs.Trying.{clear};

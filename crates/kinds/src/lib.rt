@@ -1,7 +1,8 @@
-// The readers of each kind of line: what it holds, or why not.
+// The readers of each kind of line: what it holds, or why not. What they share is `read_kind`; they differ in what the numbers make and in what these are tested by
+// (nothing else, two lengths, k and a channel).
 #![tactic(auto)]
 
-ghost use Rattle.std.specs.Prelude.{◌≡◌, [], ◌∷◌, ◌≤◌, ◌<◌, length, IfOk};
+ghost use Rattle.std.specs.Prelude.{◌≡◌, [], ◌∷◌, ◌≤◌, ◌<◌, length, IfOk, unwrap_or};
 ghost use Rattle.lines.specs.Lines.{line_of};
 ghost use Rattle.text.specs.Text.{entry, gap_content};
 ghost use Rattle.text.specs.Outcome.{refusal_of};
@@ -24,6 +25,7 @@ use stack::{Columns, Stack, Strip, StripFault, Terminals, TerminalsFault, Tracks
 use text::{Counts, Refusal, Refused, read_kind};
 
 // STACK: k channels without pairs, or why not.
+// That a line has at most 8,192 bytes, as a text has, is asked in contracts: a type with that invariant would ask more of callers.
 pub fn read_head(line: Line) -> Result<Stack, Refused>
     requires { length line.bytes.now ≤ 8192 }
     ensures { HeadRead (line_of line.entry) result }
@@ -117,10 +119,16 @@ pub struct Gap {
     pub floor: Tracks,
 }
 
-// GAP's channel and floor at line n, in a stack of k channels and behind a GAP of a channel, 0 for the first, or why not.
+// GAP's channel and floor at line n, in a stack of k channels and behind a GAP of a channel, if there is one, or why not.
 #[tactic(auto, using(std::proofs::lemmas::Bool::Decides::nat_tests), unfolding(text::specs::Text::gap_content, text::specs::Text::entry, text::specs::Text::first_of, text::specs::Text::second_of, text::specs::Text::fault_at, text::specs::Text::fine, text::specs::Text::refusal))]
-fn gap_content(channel: u32, floor: u32, k: usize, before: u32, n: u32) -> Result<Gap, Refused>
-    ensures outcome { refusal_of result ≡ gap_content k before (entry n 0 (channel ∷ floor ∷ [])) }
+fn gap_content(
+    channel: u32,
+    floor: u32,
+    k: usize,
+    before: Option<u32>,
+    n: u32,
+) -> Result<Gap, Refused>
+    ensures outcome { refusal_of result ≡ gap_content k (unwrap_or before 0) (entry n 0 (channel ∷ floor ∷ [])) }
     ensures content { IfOk result (λ g. g ≡ gap channel floor) }
 {
     if channel < 1 || k < channel as usize {
@@ -129,7 +137,7 @@ fn gap_content(channel: u32, floor: u32, k: usize, before: u32, n: u32) -> Resul
     if Stack::MAX_FLOOR < floor {
         return Err(Refused::new(Refusal::Crowd, n, 3));
     }
-    if channel <= before {
+    if before.is_some_and(|last| channel <= last) {
         return Err(Refused::new(Refusal::Crossing, n, 2));
     }
     Ok(Gap {
@@ -138,10 +146,10 @@ fn gap_content(channel: u32, floor: u32, k: usize, before: u32, n: u32) -> Resul
     })
 }
 
-// GAP at line n, in a stack of k channels and behind a GAP of a channel: its channel and floor, or why not.
-pub fn read_gap(line: Line, n: u32, k: usize, before: u32) -> Result<Gap, Refused>
+// GAP at line n, in a stack of k channels and behind a GAP of a channel, if there is one: its channel and floor, or why not.
+pub fn read_gap(line: Line, n: u32, k: usize, before: Option<u32>) -> Result<Gap, Refused>
     requires { length line.bytes.now ≤ 8192 }
-    ensures { IsGapRead k before n (line_of line.entry) result }
+    ensures { IsGapRead k (unwrap_or before 0) n (line_of line.entry) result }
 {
     let mut values = [0; KEPT];
     read_kind(line, n, b"GAP", Counts::Exactly(2), &mut values)?;

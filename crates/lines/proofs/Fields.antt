@@ -190,7 +190,3 @@ line_reads xs w b v r n values e m g =
       count = m.count;
       kept = λ z. m.kept ∙ ap (λ v. in_places 64 v) (numbers_are 1 (drop 1 (fields xs)) (no_field _ (sym m.ill ∙ z)));
     }
-
--- the fields yielded so far are no more than the bytes
-pub fields_bound : (xs : List ℕ) → length (drop 1 (fields xs)) ≤ length xs
-fields_bound xs = omega (arith, length-drop 1 (fields xs), fields_few xs)

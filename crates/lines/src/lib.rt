@@ -2,7 +2,7 @@
 #![tactic(auto)]
 
 ghost use Rattle.std.specs.Prelude.{◌≡◌, ◌^◌, ◌≤◌, ◌<◌, length, set, drop, replicate, IfSome};
-ghost use Rattle.lines.specs.Lines.{line_of, fields, is_digit, same_bytes};
+ghost use Rattle.lines.specs.Lines.{line_of, fields};
 ghost use Rattle.lines.specs.Cut.{run, line_from};
 ghost use Rattle.lines.specs.Numbers.{
   sized,
@@ -16,7 +16,7 @@ const TAB: u8 = b'\t';
 
 const LINE_FEED: u8 = b'\n';
 
-// A line of a text: its bytes, and whether a line feed ends it. An unended line has bytes too.
+// A line of a text: its bytes, and whether a line feed ends it. That is a fact of its own: an ended and an unended line both have bytes.
 #[derive(Clone, Copy, Debug, PartialEq, Eq)]
 pub struct Line<'a> {
     pub bytes: &'a [u8],
@@ -44,23 +44,7 @@ pub fn line_from(text: &[u8], at: usize) -> Line<'_>
     }
 }
 
-// Whether two byte strings are the same.
-#[tactic(auto, using(crate::proofs::Digits::same_pointwise))]
-pub fn is_word(field: &[u8], word: &[u8]) -> bool
-    ensures { result ≡ same_bytes field.now word.now }
-{
-    field == word
-}
-
 const MAX_DIGITS: usize = 4;
-
-// Whether a byte is a decimal digit.
-#[tactic(auto, using(std::proofs::lemmas::Bool::Decides::nat_tests), unfolding(crate::specs::Lines::is_digit))]
-pub fn is_digit(x: u8) -> bool
-    ensures { result ≡ is_digit x }
-{
-    x.is_ascii_digit()
-}
 
 // A number's count of digits and its first digit: 1 to 4, and no leading zero save 0 itself.
 #[tactic(auto, using(std::proofs::lemmas::Bool::Decides::nat_tests, crate::proofs::Digits::first_digit), unfolding(crate::specs::Numbers::sized))]
@@ -71,8 +55,8 @@ fn is_sized(field: &[u8]) -> bool
     digits == 1 || 1 < digits && digits <= MAX_DIGITS && field[0] != b'0'
 }
 
-// The value of digits, if all bytes are digits.
-#[tactic(auto, using(crate::proofs::Digits::counting))]
+// The value of digits, if all bytes are digits; 0 of an empty text. Not by `parse`: it takes a `+` before digits, and no empty text.
+#[tactic(auto, using(std::proofs::lemmas::Bool::Decides::nat_tests, crate::proofs::Digits::counting), unfolding(crate::specs::Lines::is_digit))]
 pub fn read_digits(bytes: &[u8]) -> Option<u64>
     requires { length bytes.now ≤ 10 }
     ensures value { result ≡ digits_read bytes.now }
@@ -80,7 +64,7 @@ pub fn read_digits(bytes: &[u8]) -> Option<u64>
 {
     let mut value: u64 = 0;
     for x in bytes {
-        if !is_digit(*x) {
+        if !x.is_ascii_digit() {
             return None;
         }
         value = 10 * value + u64::from(*x - b'0');
@@ -100,10 +84,10 @@ fn read_field(field: &[u8]) -> Option<u32>
     Some(value as u32)
 }
 
-// So many numbers of a line are kept, as many as a channel may have terminals.
+// So many numbers of a line are kept, as many as a channel may have terminals. They stand in an array of the caller's, since nothing is allocated.
 pub const KEPT: usize = 64;
 
-// The first of a line's fields that is no number, and how many they are.
+// The first of a line's fields that is no number, and how many they are: a line may have more fields than there are places for numbers.
 #[derive(Clone, Copy)]
 struct Numbers {
     ill: Option<usize>,
@@ -122,12 +106,14 @@ fn put_number(values: &mut [u32; KEPT], i: usize, x: u32)
 }
 
 // The numbers of a line, in the fields behind the first: the first of them into these places, which are zeros before.
+// That they are zeros is asked in the contract: a type with that invariant would ask more of callers than an array.
 fn read_numbers(bytes: &[u8], values: &mut [u32; KEPT]) -> Numbers
     requires { values.old ≡ replicate 64 0 }
     ensures { NumbersRead (drop 1 (fields bytes.now)) result values.new }
 {
     let mut ill = None;
     let mut count = 0;
+    // With `enumerate` the count behind the last field is still kept by hand, as `count = i + 1`.
     for field in bytes.split(|x| *x == TAB).skip(1) {
         match read_field(field) {
             Some(number) => put_number(values, count, number),
@@ -139,6 +125,7 @@ fn read_numbers(bytes: &[u8], values: &mut [u32; KEPT]) -> Numbers
 }
 
 // A line as one of a word: whether it is ended and has the word; of the fields behind it the first that is no number, and how many they are.
+// `worded` is a fact of its own: the promise of `read_line` tells the other two of any line, so that an `Option` of them would promise less.
 #[derive(Clone, Copy)]
 pub struct LineRead {
     pub worded: bool,
@@ -155,7 +142,7 @@ pub fn read_line(line: Line, word: &[u8], values: &mut [u32; KEPT]) -> LineRead
     let end = run(line.bytes, TAB);
     let numbers = read_numbers(line.bytes, values);
     LineRead {
-        worded: line.ended && is_word(&line.bytes[..end], word),
+        worded: line.ended && &line.bytes[..end] == word,
         ill: numbers.ill,
         count: numbers.count,
     }

@@ -22,7 +22,7 @@ use Rattle.text.specs.Outcome.{number_of}
 use Rattle.text.specs.declared.Refused.{Refused}
 use Rattle.text.proofs.Refusals.{or_else_fine, first_refused, or_else_then, fine_number}
 use Rattle.reading.proofs.Within.{accepted_within}
-use Rattle.solver.specs.declared.Placement.{Placement}
+use Rattle.stack.specs.declared.Placement.{Placement}
 use Rattle.answer.specs.Solve.{answer_separations, answer_positions}
 use Rattle.answer.specs.Arrays.{AnswerIs}
 use Rattle.answer.proofs.Alone.{legal_lengths}

@@ -9,7 +9,7 @@ use Rattle.text.specs.Outcome.{refusal_of}
 use Rattle.text.specs.declared.Refused.{Refused}
 use Rattle.writing.specs.TableText.{table_text}
 use Rattle.trial.specs.Legal.{is_legal}
-use Rattle.solver.specs.declared.Placement.{Placement}
+use Rattle.stack.specs.declared.Placement.{Placement}
 use Rattle.reply.specs.Told.{TableResult, zeros, written_in, table_told}
 use Rattle.spread.specs.Answers.{TotalResult, PlacementResult, total_in, placed_total, separations_of, positions_of, TotalSays, PlacementSays}
 

@@ -3,8 +3,9 @@
 #![tactic(auto)]
 
 ghost use Rattle.stack.specs.Value.{tracks_of, columns_of, stack_of};
+ghost use Rattle.numbers.specs.Lists.{padded};
 ghost use Rattle.stack.specs.Limits.{within_limits};
-ghost use Rattle.std.specs.Prelude.{ℕ, true, leb, length, get_or, take, drop, Ok, ◌≡◌};
+ghost use Rattle.std.specs.Prelude.{ℕ, true, leb, length, get_or, take, Ok, ◌≡◌};
 ghost use Rattle.spread.specs.Answers.{TotalSays, PlacementSays};
 ghost use Rattle.nabetsu.specs.Entry.{TableSays, TrialSays, TableCoded, TotalCoded, PlacementCoded, code, numbers_placed, numbers_in, NumbersPut, verdict, is_legal_numbers};
 ghost use Rattle.text.specs.Text.{refusal, text_refusal, stack_in};
@@ -23,10 +24,8 @@ use plot::put_page;
 use reading::read_stack;
 use replay::replay_steps;
 use reply::{finish, page_outcome};
-use solver::Placement;
 use spread::{placement_of, total_of};
-use stack::{Columns, Stack, Tracks};
-use std::array;
+use stack::{Columns, Placement, Stack, Tracks};
 use table::put_table;
 use text::{Refusal, Refused};
 use trial::is_placement_legal;
@@ -122,7 +121,8 @@ pub fn write_page(
     finish(put, output)
 }
 
-// Whether a placement of the stack in a text is legal in a spread, or the first refusal that applies, the text's.
+// Whether a placement of the stack in a text is legal in a spread, or the first refusal that applies, the text's. Separations and positions are two arrays, as document 01
+// names them: a trial states no total, so no `Placement` is given.
 pub fn try_placement(
     text: &[u8],
     spread: u32,
@@ -155,41 +155,37 @@ pub fn session_place(steps: &[u8], spread: u32, total: Tracks) -> Result<Placeme
     replay.session.place_total(spread, total)
 }
 
-// A refusal in one number.
+// The places of a refusal's number and of its line in the number for C, 2^40 and 2^20, as caller/nabetsu.h takes it apart.
+const NUMBER_UNIT: u64 = 1 << 40;
+
+const LINE_UNIT: u64 = 1 << 20;
+
+// A refusal in one number for callers in C: its number, its line and its field.
 fn code(why: Refused) -> u64
     ensures { (value : ℕ) → result ≡ code (refusal (number_of why.why) why.line why.field) value }
 {
-    why.why.number() as u64 * 1099511627776 + why.line as u64 * 1048576 + why.field as u64
+    why.why.number() as u64 * NUMBER_UNIT + why.line as u64 * LINE_UNIT + why.field as u64
 }
 
 // write_table for callers in other languages: the table's bytes, or the refusal in one number.
 pub fn nabetsu_write_table(text: &[u8], output: &mut [u8]) -> u64
     ensures { TableCoded text.now result output.old output.new }
 {
-    match write_table(text, output) {
-        Ok(written) => written as u64,
-        Err(why) => code(why),
-    }
+    write_table(text, output).map_or_else(code, |written| written as u64)
 }
 
 // write_page for callers in other languages: the page's bytes, or the refusal in one number.
 pub fn nabetsu_write_page(text: &[u8], spread: u32, channel: u32, output: &mut [u8]) -> u64
     ensures { PageCoded text.now spread channel result output.old output.new }
 {
-    match write_page(text, spread, channel, output) {
-        Ok(written) => written as u64,
-        Err(why) => code(why),
-    }
+    write_page(text, spread, channel, output).map_or_else(code, |written| written as u64)
 }
 
 // least_total for callers in other languages: the total, or the refusal in one number.
 pub fn nabetsu_least_total(text: &[u8], spread: u32) -> u64
     ensures { TotalCoded text.now spread result }
 {
-    match least_total(text, spread) {
-        Ok(total) => total.0 as u64,
-        Err(why) => code(why),
-    }
+    least_total(text, spread).map_or_else(code, |total| u64::from(total.0))
 }
 
 // Number i of a placement's eighteen: the total, the separations, the positions; zero behind them.
@@ -208,7 +204,7 @@ fn number_at(placement: Placement, i: usize) -> u32
     0
 }
 
-// The numbers of a placement, and zeros behind them.
+// The numbers of a placement, and zeros behind them: for C the total and two arrays stand in one row, so that each number is found by its place there.
 fn put_numbers(placement: Placement, output: &mut [u32])
     ensures { output.new ≡ numbers_in (length output.old) (Ok placement) }
 {
@@ -254,10 +250,7 @@ pub fn nabetsu_place_total(text: &[u8], spread: u32, total: u32, output: &mut [u
 pub fn nabetsu_session_total(steps: &[u8], spread: u32) -> u64
     ensures { StepsTotalCoded steps.now spread result }
 {
-    match session_total(steps, spread) {
-        Ok(total) => total.0 as u64,
-        Err(why) => code(why),
-    }
+    session_total(steps, spread).map_or_else(code, |total| u64::from(total.0))
 }
 
 // session_place for callers in other languages.
@@ -267,20 +260,14 @@ pub fn nabetsu_session_place(steps: &[u8], spread: u32, total: u32, output: &mut
     put_answer(session_place(steps, spread, Tracks(total)), output)
 }
 
-// The separations of a placement's seventeen numbers.
-fn separations_in(placement: &[u32]) -> [Tracks; Stack::MAX_CHANNELS]
-    requires { length placement.now ≡ 17 }
-    ensures { tracks_of result ≡ take 8 placement.now }
+// The first N numbers, and zeros behind them where there are fewer.
+pub fn padded<const N: usize>(numbers: &[u32]) -> [u32; N]
+    ensures { result ≡ padded N (take N numbers.now) }
 {
-    array::from_fn(|i| Tracks(placement[i]))
-}
-
-// The positions of a placement's seventeen numbers.
-fn positions_in(placement: &[u32]) -> [Columns; Stack::STRIPS]
-    requires { length placement.now ≡ 17 }
-    ensures { columns_of result ≡ drop 8 placement.now }
-{
-    array::from_fn(|i| Columns(placement[Stack::MAX_CHANNELS + i]))
+    let mut all = [0; N];
+    let given = numbers.len().min(N);
+    all[..given].copy_from_slice(&numbers[..given]);
+    all
 }
 
 // The verdict on a placement given as numbers; numbers that are not seventeen are no placement.
@@ -291,11 +278,12 @@ fn try_numbers(text: &[u8], spread: u32, placement: &[u32]) -> Result<bool, Refu
         read_stack(text)?;
         return Ok(false);
     }
+    let (separations, positions) = placement.split_at(Stack::MAX_CHANNELS);
     try_placement(
         text,
         spread,
-        separations_in(placement),
-        positions_in(placement),
+        padded(separations).map(Tracks),
+        padded(positions).map(Columns),
     )
 }
 

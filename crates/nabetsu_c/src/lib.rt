@@ -1,4 +1,5 @@
-// The entries for callers in other languages, as caller/nabetsu.h declares them: a static library over crate nabetsu, whose functions of the same names they call.
+// The entries for callers in other languages, as caller/nabetsu.h declares them: a static library over crate nabetsu, whose functions of the same names they call. They stand
+// twice since an exported function is kept thin: what it does is written and proved in nabetsu.
 #![tactic(auto)]
 
 ghost use Rattle.std.specs.Prelude.{◌≡◌};

@@ -9,18 +9,16 @@ ghost use Rattle.plan.specs.Plan.{LastsAsk, Planned};
 
 use arrays::{ChannelLimits, Plan, StackLimits};
 use stack::Stack;
+use std::array;
 
-// The least separation whose limit is open, or one past the last.
+// The least separation whose limit is open, or one past the last, as `first_open` has it, and no Option: what follows goes on with it as with any separation.
 fn least_open(limits: &ChannelLimits, last: usize) -> usize
     requires { last < separations_held }
     ensures { result ≡ first_open (low_in limits.now) (high_in limits.now) last }
 {
-    for q in 0..last + 1 {
-        if limits.low[q] <= limits.high[q] {
-            return q;
-        }
-    }
-    last + 1
+    (0..last + 1)
+        .find(|q| limits.low[*q] <= limits.high[*q])
+        .unwrap_or(last + 1)
 }
 
 // The least open separation of each channel.
@@ -32,11 +30,13 @@ fn least_opens(
     requires { LastsAsk lasts.now k }
     ensures { LeastsAre limits.now lasts.now k result }
 {
-    let mut leasts = [0usize; Stack::STRIPS];
-    for i in 0..k {
-        leasts[i] = least_open(&limits[i], lasts[i]);
-    }
-    leasts
+    array::from_fn(|i| {
+        if i < k {
+            least_open(&limits[i], lasts[i])
+        } else {
+            0
+        }
+    })
 }
 
 // The sums of the last separations above each strip.
@@ -45,6 +45,7 @@ fn sums_above(lasts: &[usize; Stack::STRIPS], k: usize) -> [usize; Stack::STRIPS
     ensures { SumsAre lasts.now k 0 result }
 {
     let mut sums = [0usize; Stack::STRIPS];
+    // By number: each sum goes on from the one above it.
     for i in (0..k).rev() {
         sums[i] = lasts[i] + sums[i + 1];
     }

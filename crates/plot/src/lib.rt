@@ -1,7 +1,7 @@
 // Drawing a channel's page line by line: the columns at which paths come to each track, and the lines around the tracks' rows.
 #![tactic(auto)]
 
-ghost use Rattle.std.specs.Prelude.{◌≡◌, suc, ◌+◌, ◌-◌, ◌*◌, ◌/◌, ◌%◌, ◌≤◌, ◌<◌, min, max, ltb, length, get_or, take};
+ghost use Rattle.std.specs.Prelude.{◌≡◌, suc, ◌+◌, ◌-◌, ◌*◌, ◌≤◌, ◌<◌, min, max, ltb, length, get_or, take};
 ghost use Rattle.numbers.specs.Lists.{tabulate};
 ghost use Rattle.stack.specs.Value.{channel_of};
 ghost use Rattle.writing.specs.Output.{over};
@@ -29,11 +29,11 @@ const PAIRS: usize = Terminals::MAX_PAIRS;
 // The columns of a page.
 const COLUMNS: u8 = 64;
 
-// The greatest separation of a page is 64, and a path may be asked for its arrival at the track behind, where it may have passed 64 terminals: so many pairs from the first on,
-// with none behind the last.
+// The greatest separation of a page is 64, and a path may be asked for its arrival at the track behind, where it may have passed 64 terminals: 96 places from the first pair
+// on; those behind the last pair hold COLUMNS.
 const AHEAD: usize = 96;
 
-// As many pairs back from the last, with none before the first.
+// 32 places before the first pair, which hold 0, and 32 from it on.
 const BACK: usize = 64;
 
 // A line's bytes: three places for the track, a space, the columns, a line feed.
@@ -43,7 +43,8 @@ const SPACE: u8 = b' ';
 
 const LINE_FEED: u8 = b'\n';
 
-// A number's digit in a place of units, or a space where the number has none there.
+// A number's digit in a place of units, or a space where the number has none there. By hand: with the kit's itoa, right-aligned over spaces, a line takes 23 instructions more,
+// 2.6 % of a page of 34 lines.
 #[tactic(auto, using(std::proofs::lemmas::Bool::Decides::nat_tests), unfolding(crate::specs::Drawing::place))]
 fn place(unit: usize, n: usize) -> u8
     requires { 0 < unit }
@@ -83,7 +84,9 @@ fn arrival(q: u8, ahead: u8, back: u8, j: usize) -> u8
     q.min(ahead + pair) + q.max(back + pair) - q
 }
 
-// What the columns of a channel's paths are worked out from: by pair its lower terminal's column less its number, and its upper terminal's column.
+// What the columns of a channel's paths are worked out from: by pair its lower terminal's column less its number, and its upper terminal's column. The arrays are of
+// three lengths, since the first has places behind the last pair and the second before the first one, so they are no array of structs. `count` says how many are pairs, as in
+// `Terminals`: a slice in place of `upto` and `count` would borrow from an array elsewhere, and the arrays are filled here.
 #[derive(Drop)]
 struct Levels {
     ahead: [u8; AHEAD],
@@ -103,6 +106,7 @@ impl Levels {
             upto: [0; PAIRS],
             count: terminals.count,
         };
+        // By index: pair j stands at place j of four arrays and at place 32 + j of the fifth.
         for j in 0..terminals.count {
             let level = column(lower, terminals.lower[j]) - j as u8;
             levels.ahead[j] = level;
@@ -130,7 +134,8 @@ impl Levels {
     }
 }
 
-// The lines of tracks t to 0, each directly behind the line before it: the output's part from there on is lent on to the line's writer.
+// The lines of tracks t to 0, each directly behind the line before it. The end is counted, and the output's part from the current end is lent on to the line's writer: the
+// form that document 01 names for rows.
 fn put_tracks(out: &mut [u8], levels: &Levels, t: usize)
     requires { LevelsLow levels.now × ArrivalsShown levels.now × (levels.now.count ≤ 32) × (69 * suc t ≤ length out.old) × (t ≤ 64) }
     ensures { take (69 * suc t) out.new ≡ lines_below (λ y c. track_drawn levels.now t y c) (suc t) }

@@ -1,40 +1,15 @@
 // The positions of a stack for separations that can be had, bottom strip first, each as far left as can be, from windows and limits.
 #![tactic(auto)]
 
-ghost use Rattle.std.specs.Prelude.{◌≡◌, ◌+◌, ◌-◌, ◌*◌, ◌≤◌, ◌<◌, min, max, replicate};
+ghost use Rattle.std.specs.Prelude.{◌≡◌, ◌+◌, ◌-◌, min, max, replicate};
 ghost use Rattle.stack.specs.Value.{tracks_of, columns_of};
-ghost use Rattle.stack.specs.Sizes.{strips_held, separations_held};
-ghost use Rattle.spans.specs.Spans.{cut, shift_back};
+ghost use Rattle.stack.specs.Sizes.{strips_held};
 ghost use Rattle.spans.specs.Solver.{positions};
-ghost use Rattle.arrays.specs.Arrays.{bias, low_in, high_in, window_of, levels, StackAsks, store, taken};
+ghost use Rattle.arrays.specs.Arrays.{bias, low_in, window_of, levels, StackAsks, store, taken};
 ghost use Rattle.positions.specs.Positions.{StartsAre, NextAsks, PositionAsks};
 
 use arrays::{ChannelLimits, Given};
-use spans::Span;
 use stack::{Columns, Stack, Tracks};
-
-// The positions in a window that are within the limit (low, high) below some position in s.
-fn backward(s: Span, low: u64, high: u64, window: Span) -> Span
-    requires starts { s.from ≤ strips_held * bias }
-    requires ends { s.upto ≤ bias }
-    ensures { result ≡ cut window (shift_back bias low high s) }
-{
-    Span {
-        from: window.from.max((s.from + Stack::BIAS).saturating_sub(high)),
-        upto: window.upto.min((s.upto + Stack::BIAS).saturating_sub(low)),
-    }
-}
-
-// The positions in the window of the strip below, for the strip above in s and separation q.
-fn pull_back(limits: &ChannelLimits, last: usize, q: u32, s: Span, window: Span) -> Span
-    requires last { last < separations_held }
-    requires starts { s.from ≤ strips_held * bias }
-    requires ends { s.upto ≤ bias }
-    ensures { result ≡ cut window (shift_back bias (low_in limits.now (min q last)) (high_in limits.now (min q last)) s) }
-{
-    let p = last.min(q as usize);
-    backward(s, limits.low[p], limits.high[p], window)
-}
 
 // The first position of each strip from which the strips above can be placed with these separations.
 fn starts_for(given: &Given, ts: &[Tracks; Stack::MAX_CHANNELS]) -> [u64; Stack::STRIPS]
@@ -45,9 +20,10 @@ fn starts_for(given: &Given, ts: &[Tracks; Stack::MAX_CHANNELS]) -> [u64; Stack:
     let mut s = given.windows[k];
     let mut starts = [0u64; Stack::STRIPS];
     starts[k] = s.from;
+    // By number: each span goes on from the one above it.
     for i in (0..k).rev() {
-        let last = given.plan.lasts[i];
-        s = pull_back(&given.limits[i], last, ts[i].0, s, given.windows[i]);
+        let q = (ts[i].0 as usize).min(given.plan.lasts[i]);
+        s = given.limits[i].backward(q, s, given.windows[i]);
         starts[i] = s.from;
     }
     starts
@@ -71,6 +47,7 @@ pub fn positions_for(given: &Given, ts: &[Tracks; Stack::MAX_CHANNELS]) -> [Colu
     let mut xs = [Columns(0); Stack::STRIPS];
     let mut x = starts[0];
     xs[0] = Columns(x as u32);
+    // By number: each position goes on from the one below it.
     for i in 0..given.channels {
         let last = given.plan.lasts[i];
         x = next(&given.limits[i], last, ts[i].0, x, starts[i + 1]);

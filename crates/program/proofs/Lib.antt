@@ -1,3 +1,2 @@
--- The laws of the status that is passed on.
-pub mod Passing
+-- The laws of a line of the input.
 pub mod Lines

@@ -1,9 +1,11 @@
 // The program stacktable: it prints the table of a stack, the least total in one spread, the placement for a total, both together, the page of a channel, the
-// verdict on a placement, or the rows behind the steps of a session. No contract can say what is read or written, so what is printed, what is refused and the status that goes with it come from crate
-// commands, the words for a refusal from crate complaint; the functions here read, write and pass the status on.
+// verdict on a placement, or the rows behind the steps of a session. No contract can say what is read or written, so what is printed, what is refused and the status that
+// goes with it come from crate commands, the words for a refusal from crate complaint; the functions here read, write and pass the status on.
 #![tactic(auto)]
 
-ghost use Rattle.std.specs.Prelude.{◌≡◌, ◌≤◌, ◌<◌, length, IfOk};
+ghost use Rattle.std.specs.Prelude.{◌≡◌, ◌≤◌, ◌<◌, true, List, ℕ, length, replicate, IfOk};
+ghost use Rattle.std.specs.Fn.{FnOnceReturnsAtMut};
+ghost use Rattle.commands.specs.declared.Reply.{Reply};
 ghost use Rattle.text.specs.Text.{or_else, text_refusal};
 ghost use Rattle.text.specs.Outcome.{refusal_of};
 ghost use Rattle.session.specs.Session.{Made, session_refusal};
@@ -19,17 +21,21 @@ use commands::{
     put_total, put_trial, read_command, read_number,
 };
 use complaint::{complaint, no_step};
-use lines::{Line, is_word, line_from};
+use lines::{Line, line_from};
 use nabetsu::TABLE_BYTES;
 use replay::{Replay, awaits};
 use std::env::{Env, FillError};
 use std::fs::File;
 use std::io::{Cursor, Error, Read, Write};
+use std::rt::Stdin;
 use std::{io, str};
 use text::MAX_BYTES;
 
 // One byte more than an accepted text has, so that a longer one is seen to be.
 const TEXT_BYTES: usize = MAX_BYTES + 1;
+
+// One number more than a trial has, so that a longer list is seen to be.
+const TRIAL_NUMBERS: usize = NUMBERS + 1;
 
 // The system's numbers for an argument that is missing, for a name that is too long, and for bytes that are no text.
 const MISSING: i32 = 22;
@@ -45,13 +51,12 @@ fn say(rt: &HostRuntime, bytes: &[u8]) {
 
 // The bytes in front of the number that an error's text ends with.
 fn before_number(text: &[u8]) -> &[u8] {
-    match str::from_utf8(text) {
-        Ok(words) => match words.split_once(" (os error ") {
-            Some((message, _)) => message.as_bytes(),
-            None => text,
-        },
-        Err(_) => text,
-    }
+    let Ok(words) = str::from_utf8(text) else {
+        return text;
+    };
+    words
+        .split_once(" (os error ")
+        .map_or(text, |(message, _)| message.as_bytes())
 }
 
 // The longest text of an error, with its number.
@@ -80,25 +85,20 @@ fn fail(rt: &HostRuntime, what: &[u8], error: Error) -> Said {
 }
 
 // Prints what stands at the start of an output, and then says in words what is refused.
-fn print_reply(rt: &HostRuntime, output: &[u8], reply: Reply) -> Status
+fn print_reply(rt: &HostRuntime, output: &[u8], reply: Reply) -> Result<Status, Said>
     requires { reply.length ≤ length output.now }
-    ensures { PassedOn (status_number (status_after reply.outcome)) (status_number result) }
+    ensures { PassedOn (status_number (status_after reply.outcome)) result }
 {
-    match rt.stdout().write_all(&output[..reply.length]) {
-        Ok(()) => {
-            say(rt, complaint(reply.outcome).as_slice());
-            reply.status()
-        }
-        Err(error) => {
-            fail(rt, b"standard output", error);
-            Status::Failed
-        }
-    }
+    rt.stdout()
+        .write_all(&output[..reply.length])
+        .map_err(|error| fail(rt, b"standard output", error))?;
+    say(rt, complaint(reply.outcome).as_slice());
+    Ok(reply.status())
 }
 
-// Prints a text that is no reply.
-fn print(rt: &HostRuntime, bytes: &[u8]) -> Status
-    ensures { PassedOn 0 (status_number result) }
+// Prints a whole text, with the status of an answer.
+fn print(rt: &HostRuntime, bytes: &[u8]) -> Result<Status, Said>
+    ensures { PassedOn 0 result }
 {
     let reply = Reply {
         length: bytes.len(),
@@ -124,13 +124,10 @@ fn print_usage(to: &impl Print) -> io::Result<()> {
 }
 
 // How the program is used, what it prints, and an example.
-fn print_help(rt: &HostRuntime) -> Status
-    ensures { PassedOn 0 (status_number result) }
+fn print_help(rt: &HostRuntime) -> Result<Status, Said>
+    ensures { PassedOn 0 result }
 {
-    if let Err(error) = print_usage(&rt.stdout()) {
-        fail(rt, b"standard output", error);
-        return Status::Failed;
-    }
+    print_usage(&rt.stdout()).map_err(|error| fail(rt, b"standard output", error))?;
     print(
         rt,
         b"Reads a stack from FILE, or from standard input, and prints
@@ -158,8 +155,8 @@ Example: two strips of 4 columns and two pairs, in a spread of 5
 }
 
 // The version is kept here.
-fn print_version(rt: &HostRuntime) -> Status
-    ensures { PassedOn 0 (status_number result) }
+fn print_version(rt: &HostRuntime) -> Result<Status, Said>
+    ensures { PassedOn 0 result }
 {
     print(rt, b"stacktable 1.7\n")
 }
@@ -175,92 +172,45 @@ fn print_wrong(rt: &HostRuntime, what: &[u8]) -> Status
     Status::Failed
 }
 
-// A line of the input: where it is among so many bytes, and whether it is ended, which fails at the end of the input and for a line that is too long. The other
-// fields hold in both cases.
+// The bytes that are read, at the start of a space, and how many they are.
+#[derive(Drop)]
+struct Space {
+    bytes: [u8; TEXT_BYTES],
+    filled: usize,
+    ghost within: { filled ≤ 8193 },
+}
+
+impl Space {
+    fn new() -> Space
+        ensures { result.filled ≡ 0 }
+    {
+        Space {
+            bytes: [0; TEXT_BYTES],
+            filled: 0,
+        }
+    }
+
+    // The line that begins at a place, among the bytes that are read.
+    fn line_at(&self, at: usize) -> NextLine
+        requires { at ≤ self.now.filled }
+        ensures { LineIn at self.now.filled result }
+    {
+        let line = line_from(&self.bytes[..self.filled], at);
+        NextLine {
+            at,
+            end: at + line.bytes.len(),
+            ended: line.ended,
+        }
+    }
+}
+
+// A line of the input: where it is among the bytes that are read, and whether it is ended, which fails at the end of the input and for a line that is too long. `ended` is a
+// fact of its own: `line_at` gives `at` and `end` in both cases.
 #[derive(Clone, Copy)]
 struct NextLine {
     at: usize,
     end: usize,
     ended: bool,
-    length: usize,
-}
-
-// The line that begins at a place, among so many bytes.
-fn line_in(text: &[u8], at: usize, filled: usize) -> NextLine
-    requires { (at ≤ filled) × (filled ≤ length text.now) }
-    ensures { LineIn at filled result }
-{
-    let line = line_from(&text[..filled], at);
-    NextLine {
-        at,
-        end: at + line.bytes.len(),
-        ended: line.ended,
-        length: filled,
-    }
-}
-
-// Reads on behind so many bytes, once; how many bytes are there then, as many as before at the end of the input.
-fn read_once<S: Read>(
-    rt: &HostRuntime,
-    source: &mut S,
-    name: &[u8],
-    text: &mut [u8],
-    filled: usize,
-) -> Result<usize, Said>
-    requires { filled ≤ length text.old }
-    ensures place { IfOk result (λ n. (filled ≤ n) × (n ≤ length text.new)) }
-    ensures same_length { length text.new ≡ length text.old }
-{
-    match source.read(&mut text[filled..]) {
-        Ok(more) => Ok(filled + more),
-        Err(error) => Err(fail(rt, name, error)),
-    }
-}
-
-// Reads to the end of the input, or until the space is full; how many bytes are there.
-fn read_from<S: Read>(
-    rt: &HostRuntime,
-    source: &mut S,
-    name: &[u8],
-    text: &mut [u8],
-) -> Result<usize, Said>
-    ensures { IfOk result (λ n. n ≤ length text.new) }
-{
-    let mut filled = 0;
-    // The place goes on by what each read gives, so that there is nothing to count.
-    while filled < text.len() {
-        let next = read_once(rt, source, name, text, filled)?;
-        if next == filled {
-            break;
-        }
-        filled = next;
-    }
-    Ok(filled)
-}
-
-// Reads on behind so many bytes up to a line feed, to the end of the input, or until the space is full; how many bytes are there.
-fn read_line<S: Read>(
-    rt: &HostRuntime,
-    source: &mut S,
-    name: &[u8],
-    text: &mut [u8],
-    from: usize,
-) -> Result<usize, Said>
-    requires { from ≤ length text.old }
-    ensures place { IfOk result (λ n. n ≤ length text.new) }
-    ensures same_length { length text.new ≡ length text.old }
-{
-    let mut filled = from;
-    // By what each read gives, as in `read_from`.
-    while filled < text.len() {
-        let next = read_once(rt, source, name, text, filled)?;
-        let line = line_in(text, filled, next);
-        if next == filled || line.ended {
-            return Ok(next);
-        }
-        filled = next;
-    }
-    Ok(filled)
 }
 
 // The longest argument's bytes; a path has fewer.
@@ -275,20 +225,15 @@ fn argument(rt: &HostRuntime, i: usize, space: &mut [u8]) -> usize
 
 // How many arguments there are, the program's name among them.
 fn argument_count(rt: &HostRuntime) -> usize {
-    for i in 0..usize::MAX {
-        if let Err(FillError::NotPresent) = rt.arg(i, &mut []) {
-            return i;
-        }
-    }
-    usize::MAX
+    (0..usize::MAX)
+        .find(|i| matches!(rt.arg(*i, &mut []), Err(FillError::NotPresent)))
+        .unwrap_or(usize::MAX)
 }
 
 // Opens a file by its name. The library takes a name as text, so one that is none opens no file.
 fn open_named(rt: &HostRuntime, name: &[u8]) -> io::Result<File> {
-    match str::from_utf8(name) {
-        Ok(path) => File::open(rt, path),
-        Err(_) => Err(Error::from_raw_os_error(NO_TEXT)),
-    }
+    let path = str::from_utf8(name).map_err(|_| Error::from_raw_os_error(NO_TEXT))?;
+    File::open(rt, path)
 }
 
 // What an argument that is not there, or is too long, is refused with.
@@ -303,22 +248,12 @@ fn argument_error(why: FillError) -> Error {
 fn open_file(rt: &HostRuntime, path: &mut [u8]) -> Result<(File, usize), Said>
     ensures { IfOk result (λ r. r.1 ≤ length path.new) }
 {
-    match rt.arg(2, path) {
-        Ok(n) => match open_named(rt, &path[..n]) {
-            Ok(file) => Ok((file, n)),
-            Err(error) => Err(fail(rt, &path[..n], error)),
-        },
-        Err(why) => Err(fail(rt, b"FILE", argument_error(why))),
-    }
-}
-
-// Reads the file that the second argument names.
-fn read_file(rt: &HostRuntime, text: &mut [u8; TEXT_BYTES]) -> Result<usize, Said>
-    ensures { IfOk result (λ n. n ≤ 8193) }
-{
-    let mut path = [0u8; ARGUMENT_BYTES];
-    let (mut file, n) = open_file(rt, &mut path)?;
-    read_from(rt, &mut file, &path[..n], text)
+    let n = rt
+        .arg(2, path)
+        .map_err(|why| fail(rt, b"FILE", argument_error(why)))?;
+    let name = &path[..n];
+    let file = open_named(rt, name).map_err(|error| fail(rt, name, error))?;
+    Ok((file, n))
 }
 
 // The place of an argument behind -f and a file.
@@ -330,21 +265,11 @@ fn command_place(rt: &HostRuntime) -> usize
 {
     let mut word = [0u8; ARGUMENT_BYTES];
     let n = argument(rt, 1, &mut word);
-    if is_word(&word[..n], b"-f") {
+    if &word[..n] == b"-f".as_slice() {
         BEHIND_FILE
     } else {
         1
     }
-}
-
-// Reads the file behind -f, or else standard input.
-fn read_input(rt: &HostRuntime, place: usize, text: &mut [u8; TEXT_BYTES]) -> Result<usize, Said>
-    ensures { IfOk result (λ n. n ≤ 8193) }
-{
-    if place == BEHIND_FILE {
-        return read_file(rt, text);
-    }
-    read_from(rt, &mut rt.stdin(), b"standard input", text)
 }
 
 // The number that is argument i.
@@ -363,132 +288,241 @@ fn number_argument(rt: &HostRuntime, i: usize) -> Result<u32, Said> {
     Err(Said)
 }
 
-// The numbers that are the arguments from a place on; those that no trial has room for are only looked at.
-fn read_numbers(rt: &HostRuntime, first: usize, end: usize) -> Result<[u32; NUMBERS], Said> {
-    let mut values = [0u32; NUMBERS];
-    for i in first..end {
-        let value = number_argument(rt, i)?;
-        if i - first < NUMBERS {
-            values[i - first] = value;
+// The runtime, the place of the command among the arguments, and how many arguments there are.
+#[derive(Clone, Copy)]
+struct Arguments<'a> {
+    rt: &'a HostRuntime,
+    place: usize,
+    end: usize,
+    ghost small: { place ≤ 3 },
+}
+
+impl<'a> Arguments<'a> {
+    fn new(rt: &'a HostRuntime) -> Arguments<'a> {
+        Arguments {
+            rt,
+            place: command_place(rt),
+            end: argument_count(rt),
         }
     }
-    Ok(values)
+
+    // The first number behind the command, or the second.
+    fn number(self, i: usize) -> Result<u32, Said>
+        requires { i ≤ 2 }
+    {
+        number_argument(self.rt, self.place + i)
+    }
+
+    // The numbers behind the command over the first of the values, and how many there are, at most one more than a trial has. Those past the space are looked at
+    // too, since each is refused where it is no number.
+    fn numbers(self, values: &mut [u32; TRIAL_NUMBERS]) -> Result<usize, Said>
+        ensures { IfOk result (λ n. n ≤ 19) }
+    {
+        let first = self.place + 1;
+        // i is the number by which the system knows the argument.
+        for i in first..self.end {
+            let value = number_argument(self.rt, i)?;
+            if let Some(place) = values.get_mut(i - first) {
+                *place = value;
+            }
+        }
+        Ok(self.end.saturating_sub(first).min(TRIAL_NUMBERS))
+    }
+
+    // Opens the file behind -f, whose name is put at the start of the space, or else standard input: the place is `BEHIND_FILE` exactly where -f and a file stand in front.
+    fn open<'b>(self, path: &'b mut [u8; ARGUMENT_BYTES]) -> Result<Source<'b>, Said>
+    where
+        'a: 'b,
+    {
+        let rt = self.rt;
+        if self.place != BEHIND_FILE {
+            return Ok(Source {
+                rt,
+                input: Input::Standard(rt.stdin()),
+                name: b"standard input",
+            });
+        }
+        let (file, n) = open_file(rt, path)?;
+        Ok(Source {
+            rt,
+            input: Input::File(file),
+            name: &path[..n],
+        })
+    }
+
+    // Reads all of the input, and prints what is asked of it.
+    fn with_text<F: FnOnce(&[u8]) -> Result<Status, Said>>(self, print: F) -> Result<Status, Said>
+        requires { F.IsAlwaysCallable print }
+    {
+        let mut path = [0u8; ARGUMENT_BYTES];
+        let mut space = Space::new();
+        let mut source = self.open(&mut path)?;
+        source.read_whole(&mut space)?;
+        print(&space.bytes[..space.filled])
+    }
+}
+
+// What is read: the file behind -f, or standard input.
+#[derive(Drop)]
+enum Input {
+    File(File),
+    Standard(Stdin),
+}
+
+impl Read for Input {
+    fn read(&mut self, bytes: &mut [u8]) -> io::Result<usize> {
+        match self {
+            Input::File(file) => file.read(bytes),
+            Input::Standard(input) => input.read(bytes),
+        }
+    }
+}
+
+// An input, and its name, which is said where it cannot be read.
+#[derive(Drop)]
+struct Source<'a> {
+    rt: &'a HostRuntime,
+    input: Input,
+    name: &'a [u8],
+}
+
+impl Source<'_> {
+    // Reads on behind the bytes that are read, once; whether there were more.
+    fn read_once(&mut self, space: &mut Space) -> Result<bool, Said>
+        ensures { IfOk result (λ more. more ≡ true → space.old.filled < space.new.filled) }
+    {
+        let more = self
+            .input
+            .read(&mut space.bytes[space.filled..])
+            .map_err(|error| fail(self.rt, self.name, error))?;
+        space.filled += more;
+        Ok(0 < more)
+    }
+
+    // Reads to the end of the input, or until the space is full.
+    fn read_whole(&mut self, space: &mut Space) -> Result<(), Said> {
+        // The count goes on by what each read gives, so that there is nothing to iterate over.
+        while space.filled < TEXT_BYTES {
+            if !self.read_once(space)? {
+                break;
+            }
+        }
+        Ok(())
+    }
+
+    // Reads on up to a line feed, to the end of the input, or until the space is full.
+    fn read_line(&mut self, space: &mut Space) -> Result<(), Said> {
+        // By what each read gives, as in `read_whole`.
+        while space.filled < TEXT_BYTES {
+            let from = space.filled;
+            let more = self.read_once(space)?;
+            if !more || space.line_at(from).ended {
+                break;
+            }
+        }
+        Ok(())
+    }
+
+    // The line that begins at a place; one that is not whole is moved to the front, and more of it is read.
+    fn next_line(&mut self, space: &mut Space, at: usize) -> Result<NextLine, Said>
+        requires { at ≤ space.old.filled }
+        ensures { IfOk result (λ line. IsNextLine space.new.filled line) }
+    {
+        let found = space.line_at(at);
+        if found.ended {
+            return Ok(found);
+        }
+        space.bytes.copy_within(at..space.filled, 0);
+        space.filled -= at;
+        self.read_line(space)?;
+        Ok(space.line_at(0))
+    }
+}
+
+// Prints what a command puts, and says in words what is refused. Each function below hands on its command's function, and promises that command's status.
+fn print_put<F: FnOnce(&mut [u8; TABLE_BYTES]) -> Reply>(
+    rt: &HostRuntime,
+    put: F,
+) -> Result<Status, Said>
+    requires callable { F.IsAlwaysCallable put }
+    requires within { (reply : Reply) (output : List ℕ) → FnOnceReturnsAtMut F.FnOnce put (replicate 24388 0) reply output → reply.length ≤ length output }
+    ensures { (reply : Reply) × (output : List ℕ) × FnOnceReturnsAtMut F.FnOnce put (replicate 24388 0) reply output × PassedOn (status_number (status_after reply.outcome)) result }
+{
+    let mut output = [0; TABLE_BYTES];
+    let reply = put(&mut output);
+    print_reply(rt, &output, reply)
 }
 
 // The table of the stack in a text.
-fn print_table(rt: &HostRuntime, text: &[u8]) -> Status
-    ensures { PassedOn (status_of (text_refusal text.now)) (status_number result) }
+fn print_table(rt: &HostRuntime, text: &[u8]) -> Result<Status, Said>
+    ensures { PassedOn (status_of (text_refusal text.now)) result }
 {
-    let mut output = [0; TABLE_BYTES];
-    let reply = put_table(text, &mut output);
-    print_reply(rt, &output, reply)
+    print_put(rt, |output| put_table(text, output))
 }
 
 // The least total in one spread.
-fn print_total(rt: &HostRuntime, text: &[u8], spread: u32) -> Status
-    ensures { PassedOn (status_of (spread_refusal text.now spread)) (status_number result) }
+fn print_total(rt: &HostRuntime, text: &[u8], spread: u32) -> Result<Status, Said>
+    ensures { PassedOn (status_of (spread_refusal text.now spread)) result }
 {
-    let mut output = [0; TABLE_BYTES];
-    let reply = put_total(text, spread, &mut output);
-    print_reply(rt, &output, reply)
+    print_put(rt, |output| put_total(text, spread, output))
 }
 
 // The placement for a total in one spread.
-fn print_place(rt: &HostRuntime, text: &[u8], spread: u32, total: u32) -> Status
-    ensures { PlacePassedOn text.now spread total (status_number result) }
+fn print_place(rt: &HostRuntime, text: &[u8], spread: u32, total: u32) -> Result<Status, Said>
+    ensures { PlacePassedOn text.now spread total result }
 {
-    let mut output = [0; TABLE_BYTES];
-    let reply = put_place(text, spread, total, &mut output);
-    print_reply(rt, &output, reply)
+    print_put(rt, |output| put_place(text, spread, total, output))
 }
 
 // The answer for one spread.
-fn print_spread(rt: &HostRuntime, text: &[u8], spread: u32) -> Status
-    ensures { PassedOn (status_of (spread_refusal text.now spread)) (status_number result) }
+fn print_spread(rt: &HostRuntime, text: &[u8], spread: u32) -> Result<Status, Said>
+    ensures { PassedOn (status_of (spread_refusal text.now spread)) result }
 {
-    let mut output = [0; TABLE_BYTES];
-    let reply = put_spread(text, spread, &mut output);
-    print_reply(rt, &output, reply)
+    print_put(rt, |output| put_spread(text, spread, output))
 }
 
 // The page of a channel in the answer for one spread.
-fn print_page(rt: &HostRuntime, text: &[u8], spread: u32, channel: u32) -> Status
-    ensures { PassedOn (status_of (page_refusal text.now spread channel)) (status_number result) }
+fn print_page(rt: &HostRuntime, text: &[u8], spread: u32, channel: u32) -> Result<Status, Said>
+    ensures { PassedOn (status_of (page_refusal text.now spread channel)) result }
 {
-    let mut output = [0; TABLE_BYTES];
-    let reply = put_page(text, spread, channel, &mut output);
-    print_reply(rt, &output, reply)
+    print_put(rt, |output| put_page(text, spread, channel, output))
 }
 
-// The verdict on a trial of so many numbers.
-fn print_trial(rt: &HostRuntime, text: &[u8], count: usize, numbers: &[u32; NUMBERS]) -> Status
-    ensures { PassedOn (trial_status text.now count) (status_number result) }
+// The verdict on a trial of these numbers.
+fn print_trial(rt: &HostRuntime, text: &[u8], numbers: &[u32]) -> Result<Status, Said>
+    ensures { PassedOn (trial_status text.now (length numbers.now)) result }
 {
     let mut output = [0; TABLE_BYTES];
-    match put_trial(text, count, numbers, &mut output) {
+    match put_trial(text, numbers, &mut output) {
         Some(reply) => print_reply(rt, &output, reply),
-        None => print_wrong(rt, b"trial: a stack of K channels takes 2K + 2 numbers"),
+        None => {
+            let what = b"trial: a stack of K channels takes 2K + 2 numbers";
+            Ok(print_wrong(rt, what))
+        }
     }
-}
-
-// Reads the text, and prints its table.
-fn run_table(rt: &HostRuntime, place: usize) -> Result<Status, Said> {
-    let mut text = [0u8; TEXT_BYTES];
-    let length = read_input(rt, place, &mut text)?;
-    Ok(print_table(rt, &text[..length]))
 }
 
 // Reads the spread and the text, and prints what is asked of them.
-fn run_spread<F: FnOnce(&HostRuntime, &[u8], u32) -> Status>(
-    rt: &HostRuntime,
-    place: usize,
+fn run_spread<F: FnOnce(&HostRuntime, &[u8], u32) -> Result<Status, Said>>(
+    arguments: Arguments,
     print: F,
 ) -> Result<Status, Said>
-    requires small { place ≤ 3 }
-    requires callable { F.IsAlwaysCallable print }
+    requires { F.IsAlwaysCallable print }
 {
-    let spread = number_argument(rt, place + 1)?;
-    let mut text = [0; TEXT_BYTES];
-    let length = read_input(rt, place, &mut text)?;
-    Ok(print(rt, &text[..length], spread))
+    let spread = arguments.number(1)?;
+    arguments.with_text(|text| print(arguments.rt, text, spread))
 }
 
 // Reads the spread, a second number and the text, and prints what is asked of them.
-fn run_second<F: FnOnce(&HostRuntime, &[u8], u32, u32) -> Status>(
-    rt: &HostRuntime,
-    place: usize,
+fn run_second<F: FnOnce(&HostRuntime, &[u8], u32, u32) -> Result<Status, Said>>(
+    arguments: Arguments,
     print: F,
 ) -> Result<Status, Said>
-    requires small { place ≤ 3 }
-    requires callable { F.IsAlwaysCallable print }
+    requires { F.IsAlwaysCallable print }
 {
-    let spread = number_argument(rt, place + 1)?;
-    let second = number_argument(rt, place + 2)?;
-    let mut text = [0; TEXT_BYTES];
-    let length = read_input(rt, place, &mut text)?;
-    Ok(print(rt, &text[..length], spread, second))
-}
-
-// The line that begins at a place, of which more is read where it is not whole: then it is moved to the front.
-fn next_line<S: Read>(
-    rt: &HostRuntime,
-    source: &mut S,
-    name: &[u8],
-    text: &mut [u8],
-    at: usize,
-    filled: usize,
-) -> Result<NextLine, Said>
-    requires { (at ≤ filled) × (filled ≤ length text.old) }
-    ensures next { IfOk result (λ line. IsNextLine (length text.old) line) }
-    ensures same_length { length text.new ≡ length text.old }
-{
-    let found = line_in(text, at, filled);
-    if found.ended {
-        return Ok(found);
-    }
-    text.copy_within(at..filled, 0);
-    let length = read_line(rt, source, name, text, filled - at)?;
-    Ok(line_in(text, 0, length))
+    let spread = arguments.number(1)?;
+    let second = arguments.number(2)?;
+    arguments.with_text(|text| print(arguments.rt, text, spread, second))
 }
 
 // Says that a line of the input is no step.
@@ -500,13 +534,13 @@ fn say_no_step(rt: &HostRuntime, n: u32) -> Status
 }
 
 // What a step has come to: the row of the session in one spread, or a refusal.
-fn print_step(rt: &HostRuntime, replay: &Replay, spread: u32) -> Status
+fn print_step(rt: &HostRuntime, replay: &Replay, spread: u32) -> Result<Status, Said>
     requires { Made (held_of replay.now.session) }
-    ensures { PassedOn (status_of (or_else (refusal_of replay.now.outcome) (session_refusal (held_of replay.now.session) spread))) (status_number result) }
+    ensures { PassedOn (status_of (or_else (refusal_of replay.now.outcome) (session_refusal (held_of replay.now.session) spread))) result }
 {
-    let mut output = [0; TABLE_BYTES];
-    let reply = put_step(replay.outcome, &replay.session, spread, &mut output);
-    print_reply(rt, &output, reply)
+    print_put(rt, |output| {
+        put_step(replay.outcome, &replay.session, spread, output)
+    })
 }
 
 // A session behind a line, and the status of that line.
@@ -516,7 +550,8 @@ struct LineRun {
     status: Status,
 }
 
-// Line n: prints the row behind a step, and says where there is none. It fails where the output cannot be written.
+// Line n: prints the row behind a step, and says where there is none. It fails where the output cannot be written. Lines have at most 8,192 bytes since the space that they
+// are read into has one byte more, for the line feed.
 fn run_line(
     rt: &HostRuntime,
     replay: Replay,
@@ -533,11 +568,7 @@ fn run_line(
     } else if awaits(next.line) {
         Status::Answered
     } else {
-        let printed = print_step(rt, &next, spread);
-        if printed == Status::Failed {
-            return Err(Said);
-        }
-        printed
+        print_step(rt, &next, spread)?
     };
     Ok(LineRun {
         replay: next,
@@ -554,91 +585,69 @@ fn run_end(rt: &HostRuntime, replay: &Replay, n: u32, bytes: usize, status: Stat
 }
 
 // Reads steps line by line to the end of the input, and prints what each has come to in one spread. Lines are numbered up to the greatest u32.
-fn run_steps<S: Read>(
-    rt: &HostRuntime,
-    source: &mut S,
-    name: &[u8],
-    spread: u32,
-) -> Result<Status, Said> {
-    let mut text = [0u8; TEXT_BYTES];
+fn run_steps(mut source: Source, spread: u32) -> Result<Status, Said> {
+    let rt = source.rt;
+    let mut space = Space::new();
     let mut replay = Replay::start();
     let mut at = 0;
-    let mut length = 0;
     let mut status = Status::Answered;
+    // n is the number of the line, and each line carries the session on.
     for n in 1..u32::MAX {
-        let line = next_line(rt, source, name, &mut text, at, length)?;
+        let line = source.next_line(&mut space, at)?;
         if !line.ended {
-            return Ok(run_end(rt, &replay, n, line.length, status));
+            return Ok(run_end(rt, &replay, n, space.filled, status));
         }
-        let run = run_line(rt, replay, n, &text[line.at..line.end], spread)?;
+        let run = run_line(rt, replay, n, &space.bytes[line.at..line.end], spread)?;
         replay = run.replay;
         status = status.max(run.status);
         at = line.end + 1;
-        length = line.length;
     }
     Ok(say_no_step(rt, u32::MAX))
 }
 
-// Reads the steps in the file that the second argument names.
-fn run_file(rt: &HostRuntime, spread: u32) -> Result<Status, Said> {
-    let mut path = [0u8; ARGUMENT_BYTES];
-    let (mut file, n) = open_file(rt, &mut path)?;
-    run_steps(rt, &mut file, &path[..n], spread)
-}
-
 // Reads the spread and the steps.
-fn run_session(rt: &HostRuntime, place: usize) -> Result<Status, Said>
-    requires { place ≤ 3 }
-{
-    let spread = number_argument(rt, place + 1)?;
-    if place == BEHIND_FILE {
-        return run_file(rt, spread);
-    }
-    run_steps(rt, &mut rt.stdin(), b"standard input", spread)
+fn run_session(arguments: Arguments) -> Result<Status, Said> {
+    let spread = arguments.number(1)?;
+    let mut path = [0u8; ARGUMENT_BYTES];
+    run_steps(arguments.open(&mut path)?, spread)
 }
 
 // Reads the numbers and the text, and prints the verdict.
-fn run_trial(rt: &HostRuntime, place: usize, end: usize) -> Result<Status, Said>
-    requires { place ≤ 3 }
-{
-    let first = place + 1;
-    let numbers = read_numbers(rt, first, end)?;
-    let mut text = [0u8; TEXT_BYTES];
-    let length = read_input(rt, place, &mut text)?;
-    Ok(print_trial(rt, &text[..length], end.saturating_sub(first), &numbers))
+fn run_trial(arguments: Arguments) -> Result<Status, Said> {
+    let mut numbers = [0u32; TRIAL_NUMBERS];
+    let count = arguments.numbers(&mut numbers)?;
+    arguments.with_text(|text| print_trial(arguments.rt, text, &numbers[..count]))
 }
 
-// Runs a command whose arguments are behind a place.
-fn run_command(rt: &HostRuntime, command: Command, place: usize, end: usize) -> Result<Status, Said>
-    requires { place ≤ 3 }
-{
+// Runs a command.
+fn run_command(command: Command, arguments: Arguments) -> Result<Status, Said> {
+    let rt = arguments.rt;
     match command {
-        Command::Table => run_table(rt, place),
-        Command::Total => run_spread(rt, place, print_total),
-        Command::Place => run_second(rt, place, print_place),
-        Command::Spread => run_spread(rt, place, print_spread),
-        Command::Page => run_second(rt, place, print_page),
-        Command::Trial => run_trial(rt, place, end),
-        Command::Session => run_session(rt, place),
-        Command::Help => Ok(print_help(rt)),
-        Command::Version => Ok(print_version(rt)),
+        Command::Table => arguments.with_text(|text| print_table(rt, text)),
+        Command::Total => run_spread(arguments, print_total),
+        Command::Place => run_second(arguments, print_place),
+        Command::Spread => run_spread(arguments, print_spread),
+        Command::Page => run_second(arguments, print_page),
+        Command::Trial => run_trial(arguments),
+        Command::Session => run_session(arguments),
+        Command::Help => print_help(rt),
+        Command::Version => print_version(rt),
     }
 }
 
 // Runs the program on its arguments, and answers what has come of it, whose number is the exit status: 0 where an answer was printed, 1 where a refusal was, 2 where
-// arguments are wrong or reading or writing fails.
+// arguments are wrong or reading or writing fails. That the number is at most 2 holds of every `Status`: the clause is kept as the promise to those who see only a number.
 pub fn run(rt: &HostRuntime) -> Status
     ensures { status_number result ≤ 2 }
 {
-    let place = command_place(rt);
-    let end = argument_count(rt);
-    if end < place {
+    let arguments = Arguments::new(rt);
+    let Some(words) = arguments.end.checked_sub(arguments.place) else {
         return print_wrong(rt, b"wrong arguments");
-    }
+    };
     let mut word = [0u8; ARGUMENT_BYTES];
-    let n = argument(rt, place, &mut word);
-    match read_command(&word[..n], end - place) {
-        Some(command) => run_command(rt, command, place, end).unwrap_or(Status::Failed),
+    let n = argument(rt, arguments.place, &mut word);
+    match read_command(&word[..n], words) {
+        Some(command) => run_command(command, arguments).unwrap_or(Status::Failed),
         None => print_wrong(rt, b"wrong arguments"),
     }
 }

@@ -7,6 +7,7 @@ use Prim.Native.Nat.{ℕ, suc, ◌+◌, ◌*◌, ◌-◌, ◌≤◌, ◌<◌}
 use native.Mathlib.Nat.{add-zero}
 use native.Mathlib.Numerals.{add-one}
 use native.Mathlib.Omega.{arith}
+use denote.Ref.{Bor}
 use lib.ListN.{length, get_or, set}
 use lib.Seq.{get_or-drop, drop-drop}
 use borrow.Author.Tests.{leb-true}
@@ -32,7 +33,7 @@ use Rattle.kinds.specs.Readers.{HeadRead, IsPartRead, IsNetsRead, IsGapRead}
 use Rattle.kinds.specs.declared.Gap.{Gap}
 use Rattle.reading.specs.Driver.{Going, ReadTo, HeadTaken, strip_read, Parting, PartTaken, nets_pairs, Wiring, NetsTaken, floor_read, gaps_read, Gapping, IsGapTaken}
 use Rattle.reading.specs.declared.Progress.{Progress}
-use Rattle.text.proofs.Refusals.{or_else_fine, or_else_none}
+use Rattle.text.proofs.Refusals.{or_else_fine, or_else_none, fine_number}
 use Rattle.text.proofs.Layouts.{layout_ended}
 use Rattle.reading.proofs.Within.{head_says}
 use Rattle.reading.proofs.Floors.{GapSays, gap_says, floor_named, floor_unnamed}
@@ -54,9 +55,9 @@ module _ (bs : List ℕ) (short : length bs ≤ 8192) (l : LineStruct) (m : line
   unfolding line
   head_short = omega (arith, line_within bs 0 (omega arith), ap (λ (x : Line). length x.bytes) m)
 
-  pub head_taken : (s : StackStruct) → HeadRead (line_of l) (Ok s) → HeadTaken bs (Ok (record { at = length l.bytes.now + 1; stack = s }))
+  pub head_taken : (t : Bor (List ℕ)) → t.now ≡ bs → (s : StackStruct) → HeadRead (line_of l) (Ok s) → HeadTaken bs (Ok (record { text = t; at = length l.bytes.now + 1; stack = s }))
   unfolding head_refusal line_check supplied k_of line_at line_from line fine refusal
-  head_taken s h =
+  head_taken t same s h =
       let here : HeadRead (line_from bs 0) (Ok s) = rw m at h in
       let says = head_says (lines bs) (rw (← head_outcome (Ok s) h)) in
       let next = next_there bs 0 (omega arith) (layout_ended _ 1 (line_from bs 0) says.layout) in
@@ -65,6 +66,7 @@ module _ (bs : List ℕ) (short : length bs ≤ 8192) (l : LineStruct) (m : line
       record {
         outcome = head_upto (Ok s) h;
         going = record {
+          text = same;
           short = short;
           within = rw place at next.within;
           rest = rw place at next.rest;
@@ -98,12 +100,13 @@ module _ (bs : List ℕ) (i : ℕ) (k : Stack) (p : Progress) (g : Going bs i k 
 
   -- nothing is refused of it: it is ended, and what is on it stands
   line_taken : {A : Type 0} (f : Refusal) (x : A) (s : Stack) (q : StackStruct) → fine ≡ f → (line_at (lines bs) i).ended ≡ true →
-      q.count ≡ p.stack.count → stack_of q ≡ s → ReadTo bs f (suc i) s (Ok x) (record { at = p.at + (length l.bytes.now + 1); stack = q })
+      q.count ≡ p.stack.count → stack_of q ≡ s → ReadTo bs f (suc i) s (Ok x) (record { text = p.text; at = p.at + (length l.bytes.now + 1); stack = q })
   line_taken f x s q says ended count stands =
       let next = next_due ended in
       record {
         outcome = says;
         going = record {
+          text = g.text;
           short = g.short;
           within = next.within;
           rest = next.rest ∙ rw (g.rest, drop-drop 1 i (lines bs), add-one i);
@@ -118,9 +121,9 @@ line_is : (K : Kind) (ls : List Line) (i : ℕ) → line_refusal (line_check K l
 unfolding line_check kind_refusal check supplied
 line_is K ls i = refl
 
-kind_ended : (K : Kind) (ls : List Line) (i : ℕ) → fine ≡ line_refusal (line_check K ls i) → (line_at ls i).ended ≡ true
-unfolding line_check check fine refusal
-kind_ended K ls i e = let z : (line_refusal (line_check K ls i)).number ≡ 0 = rw (← e) in layout_ended K (suc i) (line_at ls i) (or_else_fine (layout K (suc i) (line_at ls i)) (K.content (supplied ls i)) z).0
+kind_ended : (K : Kind) (ls : List Line) (i : ℕ) → (line_refusal (line_check K ls i)).number ≡ 0 → (line_at ls i).ended ≡ true
+unfolding line_check check
+kind_ended K ls i z = layout_ended K (suc i) (line_at ls i) (or_else_fine (layout K (suc i) (line_at ls i)) (K.content (supplied ls i)) z).0
 
 -- PART
 module _ (bs : List ℕ) (p : Progress) (j : ℕ) (l : LineStruct) (m : Parting bs j p) (h : j ≤ p.stack.count) (f : line_of l ≡ line_from bs p.at) where
@@ -138,14 +141,14 @@ module _ (bs : List ℕ) (p : Progress) (j : ℕ) (l : LineStruct) (m : Parting 
   part_refused x t = record { outcome = part_says (Err x) t; going = tt }
 
   pub part_taken : (s : StripStruct) (k : StackStruct) → IsPartRead (j + 2) (line_of l) (Ok s) → StripSet p.stack j (strip_of s) k →
-      PartTaken bs j (Ok (tt {0})) (record { at = p.at + (length l.bytes.now + 1); stack = k })
+      PartTaken bs j (Ok (tt {0})) (record { text = p.text; at = p.at + (length l.bytes.now + 1); stack = k })
   unfolding stack supplied entry part_check
   part_taken s k t u =
       let ls = lines bs in
       let first : 1 + j ≡ suc j = omega arith in
       let g = m.going in
       line_taken bs (1 + j) _ p g l f (line_refusal (part_check ls j)) tt _ k (part_says (Ok s) t)
-      (rw first (kind_ended part_kind ls (suc j) (part_says (Ok s) t)))
+      (rw first (kind_ended part_kind ls (suc j) (fine_number _ (part_says (Ok s) t))))
       u.count
       (u.value ∙ rw (g.stands, (part_there (Ok s) t).strip, ← filled_steps (suc (k_of ls)) j (λ i. strip_read ls i) (strip 1 free) (omega (arith, g.count))))
 
@@ -178,7 +181,7 @@ module _ (bs : List ℕ) (p : Progress) (c : ℕ) (l : LineStruct) (m : Wiring b
   nets_refused x t = record { outcome = nets_says (Err x) t; going = tt }
 
   pub nets_taken : (s : Terminals) (k : StackStruct) → NetsHere (Ok s) → ChannelSet p.stack c (channel_of s) k →
-      NetsTaken bs c (Ok (tt {0})) (record { at = p.at + (length l.bytes.now + 1); stack = k })
+      NetsTaken bs c (Ok (tt {0})) (record { text = p.text; at = p.at + (length l.bytes.now + 1); stack = k })
   unfolding stack supplied entry nets_check
   nets_taken s k t u =
       let ls = lines bs in
@@ -188,7 +191,7 @@ module _ (bs : List ℕ) (p : Progress) (c : ℕ) (l : LineStruct) (m : Wiring b
       let within : c < k_of ls = omega (arith, g.count) in
       let bare = filled_rest (k_of ls) c c wired no_channel no_channel (omega arith) within in
       line_taken bs i _ p g l f (line_refusal (nets_check ls c)) tt _ k (nets_says (Ok s) t)
-      (kind_ended (nets_kind (length_at ls c) (length_at ls (suc c))) ls i (nets_says (Ok s) t))
+      (kind_ended (nets_kind (length_at ls c) (length_at ls (suc c))) ls i (fine_number _ (nets_says (Ok s) t)))
       u.count
       (u.value ∙ rw (g.stands, (nets_there (Ok s) t).pairs, bare, ← filled_steps (k_of ls) c wired no_channel within))
 
@@ -251,7 +254,7 @@ module _ (bs : List ℕ) (p : Progress) (g b : ℕ) (l : LineStruct) (n : ℕ) (
     gap_channel = let s = gap_means bs g b p m line_fine in omega (arith, channel_read, going.count, s.some, s.within)
 
     pub gap_taken : (k : StackStruct) → FloorSet p.stack (q.channel - 1) q.floor.0 k →
-        IsGapTaken bs g (Ok q.channel) (record { at = p.at + (length l.bytes.now + 1); stack = k })
+        IsGapTaken bs g (Ok q.channel) (record { text = p.text; at = p.at + (length l.bytes.now + 1); stack = k })
     unfolding second_of supplied entry channel_before tail_check
     gap_taken k u =
         let ls = lines bs in
@@ -265,7 +268,7 @@ module _ (bs : List ℕ) (p : Progress) (g b : ℕ) (l : LineStruct) (n : ℕ) (
         record {
           read =
               line_taken bs i _ p going l f (line_refusal (tail_check ls g)) q.channel _ k (gap_outcome (Ok q) t)
-              (kind_ended (gap_kind (k_of ls) (channel_before ls g)) ls i (gap_outcome (Ok q) t))
+              (kind_ended (gap_kind (k_of ls) (channel_before ls g)) ls i (fine_number _ (gap_outcome (Ok q) t)))
               u.count (u.value ∙ rw going.stands (floor_more ls g c q.floor.0 named floor below inside));
           channel = channel_read;
         }

@@ -14,8 +14,9 @@ use Rattle.text.specs.Kinds.{line_refusal}
 use Rattle.text.specs.declared.Refused.{Refused}
 use Rattle.reading.specs.declared.Progress.{Progress}
 
--- the first i lines are read, nothing is refused, and this stack stands
+-- the first i lines of a text are read, nothing is refused, and this stack stands
 pub record Going (bs : List ℕ) (i : ℕ) (k : Stack) (p : Progress) : Type 0 where
+  pub text : p.text.now ≡ bs
   pub short : length bs ≤ 8192
   pub within : p.at ≤ length bs
   pub rest : lines (drop p.at bs) ≡ drop i (lines bs)

@@ -71,6 +71,7 @@ impl Replay {
     }
 
     // Line n: a step that it makes whole is taken; behind another line of a step the session stays.
+    // That a line has at most 8,192 bytes, as a text has, is asked in contracts: a type with that invariant would ask more of callers.
     pub fn take_line(self, n: u32, line: Line) -> Replay
         requires { length line.bytes.now ≤ 8192 }
         ensures { state_of result ≡ line_taken n (state_of self) (line_of line.entry) }
@@ -121,7 +122,7 @@ pub fn replay_steps(text: &[u8]) -> Replay
     let mut replay = Replay::start();
     let mut at = 0;
     let mut n: u32 = 1;
-    // The place goes on by each line's length, so that there is nothing to count.
+    // The place goes on by each line's length; n only numbers the line.
     while at < text.len() {
         let line = line_from(text, at);
         replay = replay.take_line(n, line);

@@ -11,16 +11,6 @@ use Rattle.text.specs.Text.{Refusal, refusal, fine, or_else}
 use Rattle.text.proofs.Refusals.{or_else_fine, or_else_then, when_fine, only_fine}
 use Rattle.reply.specs.Refusals.{narrow_refusal, channel_refusal, broad_refusal, asked_refusal}
 
--- A SPREAD
-module _ (k : Stack) (s : ℕ) where
-  pub narrow_told : s < first_spread k.strips → refusal 7 0 0 ≡ narrow_refusal k s
-  unfolding narrow_refusal
-  narrow_told h = rw (lt-ltb s (first_spread k.strips) h)
-
-  pub wide_told : first_spread k.strips ≤ s → fine ≡ narrow_refusal k s
-  unfolding narrow_refusal
-  wide_told h = rw (le-ltb s (first_spread k.strips) h)
-
 -- WHAT MAY BE ASKED: a channel from 1 to k, and a spread from the first one to 63
 pub record Asked (k : Stack) (s n : ℕ) : Type 0 where
   pub some : 1 ≤ n

@@ -1,9 +1,10 @@
 // The refusals of a spread and of a channel, and how an output ends.
 #![tactic(auto)]
 
-ghost use Rattle.std.specs.Prelude.{◌≡◌, true};
+ghost use Rattle.std.specs.Prelude.{◌≡◌, true, cond, ltb};
 ghost use Rattle.stack.specs.Value.{stack_of};
 ghost use Rattle.stack.specs.Limits.{within_limits};
+ghost use Rattle.text.specs.Text.{refusal, fine};
 ghost use Rattle.text.specs.Outcome.{refusal_of};
 ghost use Rattle.reply.specs.Refusals.{narrow_refusal, asked_refusal};
 ghost use Rattle.reply.specs.Parts.{RefusedTable, Finished};
@@ -13,16 +14,22 @@ use stack::Stack;
 use text::{Refusal, Refused};
 use writing::clear_from;
 
+// Whether a spread can be asked for, where a first one is stated: not one below it.
+pub fn narrow_outcome(first: u64, spread: u32) -> Result<(), Refused>
+    ensures { refusal_of result ≡ cond (ltb spread first) (refusal 7 0 0) fine }
+{
+    if (spread as u64) < first {
+        return Err(Refused::new(Refusal::Narrow, 0, 0));
+    }
+    Ok(())
+}
+
 // Whether a stack can be asked for a spread: not one below the first.
 pub fn spread_outcome(stack: &Stack, spread: u32) -> Result<(), Refused>
     requires { within_limits (stack_of stack.now) ≡ true }
     ensures { refusal_of result ≡ narrow_refusal (stack_of stack.now) spread }
 {
-    let first = first_spread(stack);
-    if (spread as u64) < first {
-        return Err(Refused::new(Refusal::Narrow, 0, 0));
-    }
-    Ok(())
+    narrow_outcome(first_spread(stack), spread)
 }
 
 // A refused table or page: zeros in the whole output.

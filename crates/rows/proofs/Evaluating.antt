@@ -14,7 +14,7 @@ use Rattle.separations.specs.Separations.{SeparateAsks}
 use Rattle.solver.specs.Placing.{PlaceAsks, PlacementIs}
 use Rattle.scan.specs.Scan.{ScanIs}
 use Rattle.scan.specs.declared.Scan.{Scan}
-use Rattle.solver.specs.declared.Placement.{Placement}
+use Rattle.stack.specs.declared.Placement.{Placement}
 use Rattle.answer.specs.Solve.{answer_total}
 use Rattle.answer.specs.Arrays.{with_windows, Ready, WindowsIn, BelowGrowths, AnswerIs}
 use Rattle.answer.proofs.Standing.{held_on, held_stands, held_asks, cap_used, cap_small, found_place_asks, found_placed}

@@ -5,25 +5,17 @@ use mathlib.Core.List.{List, [], ◌∷◌}
 use Prim.Native.Nat.{ℕ, zero, suc, ◌+◌, ◌-◌, ◌≤◌, ◌<◌, min}
 use native.Mathlib.Omega.{arith}
 use lib.Dec.{ltb}
-use lib.ListN.{length, get_or, set, drop, drop_of_length-le}
+use lib.ListN.{length, get_or, drop, drop_of_length-le}
 use lib.Seq.{drop-cons}
 use borrow.Author.Tests.{ltb-false}
 use Rattle.stack.specs.Stack.{Window, free, held, Strip, no_strip, Stack}
 use Rattle.stack.specs.Limits.{within_limits}
-use Rattle.stack.specs.Value.{strip_at, stack_of}
-use Rattle.stack.specs.declared.Stack.{Stack as StackStruct}
-use Rattle.stack.proofs.Within.{stack_strip, strips_count}
+use Rattle.stack.proofs.Within.{strips_count}
 use Rattle.arrays.specs.Arrays.{bias, entry, window_of, taken}
 use Rattle.arrays.specs.declared.Given.{Given}
 use Rattle.answer.specs.Solve.{window_span, window_growth, growth}
 use Rattle.answer.specs.Arrays.{strip_in, WindowsIn, BelowGrowths}
-use Rattle.answer.proofs.Standing.{next_place}
 use Rattle.rows.specs.Growths.{growths_of, bottom_growth, upper_growths, GrowthsIn}
-
--- the loop that puts them into the array
-pub growths_step : (k : StackStruct) (n s end : ℕ) (growths : List ℕ) → n < suc k.count → n < length growths → GrowthsIn (stack_of k) n s growths → end ≡ growth bias s (strip_at k n) →
-    GrowthsIn (stack_of k) (n + 1) s (set growths n end)
-growths_step k n s end growths h room w e i m = next_place growths n i end 0 _ room w (rw (e, stack_strip k n h)) m
 
 -- without an array: the list of them
 pub growths_listed : (b s : ℕ) (ls : List Strip) (i : ℕ) → i < length ls → entry (growths_of b s ls) i ≡ growth b s (get_or ls i no_strip)

@@ -1,23 +1,31 @@
 -- The laws of the scan for the least total: of the loop over separations, of one cell, of the loop over strips and of the loop over totals. Assumes nothing.
-use mathlib.Core.Path.{◌≡◌, refl, sym, ap, ap₂, ◌∙◌}
+use mathlib.Core.Path.{◌≡◌, refl, sym, subst, ap, ap₂, ◌∙◌}
 use mathlib.Core.Bool.{Bool, true, false}
-use mathlib.Core.List.{List}
+use mathlib.Core.List.{List, [], ◌∷◌}
 use Prim.Native.Nat.{ℕ, zero, suc, ◌+◌, ◌-◌, ◌*◌, ◌≤◌, ◌<◌, min, max}
 use native.Mathlib.Nat.{add-zero}
 use native.Mathlib.Numerals.{add-one}
 use native.Mathlib.Omega.{arith}
 use borrow.Author.Tests.{le-ltb}
+use Rattle.std.specs.Prelude.{Option, Some, fold}
+use Rattle.std.specs.Iterator.{Yields, CallableAtEachTurn}
+use Rattle.std.proofs.iter.Serving.{same_first}
+use Rattle.std.proofs.iter.Yields.{nat_range_steps}
+use Rattle.std.specs.declared.ops.Range.{Range}
+use Rattle.std.specs.List.{range_with_len}
+use Rattle.stack.specs.Sizes.{separations_held, totals_held}
 use Rattle.spans.specs.Spans.{span, nonempty}
 use Rattle.spans.specs.declared.Span.{Span}
 use Rattle.spans.specs.Solver.{start, stop, cell}
 use Rattle.spans.specs.Jump.{min_if, max_if, nearest, furthest, between, shortfall, near_of, reach_of, cell_short}
-use Rattle.arrays.specs.Arrays.{bias, low_in, high_in, span_at, span_in, spans_of}
+use Rattle.arrays.specs.Arrays.{bias, unless_zero, low_in, high_in, span_at, span_in, spans_of}
 use Rattle.arrays.specs.declared.ChannelLimits.{ChannelLimits}
 use Rattle.arrays.specs.declared.StripSpans.{StripSpans}
-use Rattle.scan.specs.Scan.{put_span, EndsAre, EndsServe, Stretching, StripAsks, StripDone, none_in}
+use Rattle.scan.specs.Scan.{put_span, EndsAsk, EndsAre, EndsServe, StripAsks, StripDone, none_in}
 use Rattle.scan.specs.declared.Cell.{Cell}
 use Rattle.scan.specs.declared.Ends.{Ends}
-use Rattle.arrays.proofs.Searches.{one_left, none_left}
+use Rattle.arrays.proofs.Options.{some_number}
+use Rattle.arrays.proofs.Searches.{none_left}
 use Rattle.spans.proofs.Jump.{cell_ends}
 
 -- a start that is not raised
@@ -25,33 +33,81 @@ lowered : (b : ℕ) (v : Bool) (from high near x : ℕ) → x ≡ min_if v (from
 lowered b true from high near x e = omega arith
 lowered b false from high near x e = omega arith
 
--- the loop over separations
-module _ (b : ℕ) (low high : ℕ → ℕ) (f : ℕ → Span) (stop q : ℕ) where
-  module _ (near reach n r : ℕ) (s : Stretching b low high f stop q near reach n r) where
-    pub stretching_steps : (x y : ℕ) → q < stop → x ≡ min_if (nonempty (f q)) ((f q).from + b - high q) near → y ≡ max_if (nonempty (f q)) ((f q).upto + 2 * b - low q) reach →
-        Stretching b low high f stop (q + 1) x y n r
-    unfolding nearest furthest
-    stretching_steps x y h p e =
-        rw (add-one, p, e)
-        (record {
-          starts_left = ap (λ (m : ℕ). nearest b high f q m near) (one_left stop q h) ∙ s.starts_left;
-          ends_left = ap (λ (m : ℕ). furthest b low f q m reach) (one_left stop q h) ∙ s.ends_left;
-          near_small = small (nonempty (f q));
-        })
-      where
-        small : (v : Bool) → min_if v ((f q).from + b - high q) near ≤ b
-        small true = omega (arith, s.near_small)
-        small false = s.near_small
+-- what a range yields stands in it
+range_within : (xs : List ℕ) (s t : Range ℕ) → Yields nat_range_steps s xs t → (t.end ≡ s.end) × (s.start ≤ t.start)
+range_within [] s t y = (sym (ap (λ (r : Range ℕ). r.end) y), omega (arith, ap (λ (r : Range ℕ). r.start) y))
+range_within (x ∷ xs) s t y = let h = range_within xs y.0 t y.2 in (h.0 ∙ y.1.0, omega (arith, h.1, y.1.1.2))
 
-    pub stretching_raised : (from x y : ℕ) → q < stop → near ≡ from - b → x ≡ min_if (nonempty (f q)) ((f q).from + 2 * b - high q) from →
-        y ≡ max_if (nonempty (f q)) ((f q).upto + 2 * b - low q) reach → Stretching b low high f stop (q + 1) (x - b) y n r
-    stretching_raised from x y h m p e =
-        stretching_steps (x - b) y h (rw m (lowered b (nonempty (f q)) (f q).from (high q) from x p)) e
+next_within : (xs : List ℕ) (s t u : Range ℕ) (x : ℕ) → Yields nat_range_steps s xs t → nat_range_steps t (Some x) u → (s.start ≤ x) × (x < s.end)
+next_within xs s t u x y e = let w = range_within xs s t y in (omega (arith, w.1, e.1.1), omega (arith, w.0, e.1.0, e.1.1))
 
-    pub stretching_ends : stop ≤ q → (near ≡ n) × (reach ≡ r)
-    unfolding nearest furthest
-    stretching_ends h =
-        (ap (λ (m : ℕ). nearest b high f q m near) (none_left stop q h) ∙ s.starts_left, ap (λ (m : ℕ). furthest b low f q m reach) (none_left stop q h) ∙ s.ends_left)
+-- what a closure that changes no capture may be asked by `fold` over a range
+pub folds_over_range : {F B : Type 0} {R : F × B → ℕ → F × B → Type 0} {Q : F × B → ℕ → Type 0} {s : Range ℕ} {f : F} {e : B} →
+    ((p : F × B) (x : ℕ) (q : F × B) → R p x q → q.0 ≡ p.0) → ((e : B) (x : ℕ) → s.start ≤ x → x < s.end → Q (f, e) x) → CallableAtEachTurn nat_range_steps R Q s (f, e)
+folds_over_range {R = R} {Q = Q} {s = s} {f = f} {e = e} stays h =
+    record {
+      at = λ xs t q x u y c g.
+          let w = next_within xs s t u x y g in
+          subst (λ k. Q (k, q.1) x) (sym (same_first R stays xs (f, e) q c)) (h q.1 x w.0 w.1);
+    }
+
+-- what a span shifted back by a separation's limit asks
+pub record Asked (limits : ChannelLimits) (spans : StripSpans) (v q : ℕ) : Type 0 where
+  pub left : q ≤ v
+  pub total : v < totals_held
+  pub listed : q < separations_held
+  pub start : (span_at spans (v - q)).from ≤ bias
+  pub end : (span_at spans (v - q)).upto ≤ bias
+  pub low_small : low_in limits q ≤ 2 * bias
+  pub high_small : high_in limits q ≤ 2 * bias
+
+pub asked_at : (limits : ChannelLimits) (spans : StripSpans) (v start stop q : ℕ) → EndsAsk limits spans v start stop → start ≤ q → q < stop → Asked limits spans v q
+asked_at limits spans v start stop q e h k =
+    record {
+      left = omega (arith, e.within);
+      total = e.total;
+      listed = omega (arith, e.listed);
+      start = e.starts (v - q) (omega (arith, e.within));
+      end = e.ends (v - q) (omega (arith, e.within));
+      low_small = e.lows_small q k;
+      high_small = e.highs_small q k;
+    }
+
+-- ends stretched by separation after separation
+module _ (limits : ChannelLimits) (spans : StripSpans) (v : ℕ) where
+  abbrev pub stretched : Ends → ℕ → Ends
+  stretched e q = record {
+    near = min_if (nonempty (span_at spans (v - q))) ((span_at spans (v - q)).from + 2 * bias - high_in limits q) e.near;
+    reach = max_if (nonempty (span_at spans (v - q))) ((span_at spans (v - q)).upto + 2 * bias - low_in limits q) e.reach;
+  }
+
+  abbrev left_span : ℕ → Span
+  left_span q = span_at spans (v - q)
+
+  near_small : (z : Bool) (x near : ℕ) → near ≤ 2 * bias → min_if z x near ≤ 2 * bias
+  near_small true x near h = omega arith
+  near_small false x near h = h
+
+  -- what n separations from q on make of the ends e
+  record EndsOf (n q : ℕ) (e r : Ends) : Type 0 where
+    small : r.near ≤ 2 * bias
+    near_is : r.near - bias ≡ nearest bias (high_in limits) left_span q n (e.near - bias)
+    reach_is : r.reach ≡ furthest bias (low_in limits) left_span q n e.reach
+
+  folded : (n q : ℕ) (e : Ends) → e.near ≤ 2 * bias → EndsOf n q e (fold stretched e (range_with_len q n))
+  unfolding nearest furthest
+  folded zero q e h = record { small = h; near_is = refl; reach_is = refl }
+  folded (suc n) q e h =
+      let i = folded n (q + 1) (stretched e q) (near_small (nonempty (left_span q)) _ e.near h) in
+      record {
+        small = i.small;
+        near_is = i.near_is ∙ (rw add-one (ap (λ t. nearest bias (high_in limits) left_span (suc q) n t) (lowered bias (nonempty (left_span q)) (left_span q).from (high_in limits q) e.near _ refl)));
+        reach_is = i.reach_is ∙ ap (λ p. furthest bias (low_in limits) left_span p n (stretched e q).reach) (add-one q);
+      }
+
+  pub ends_folded : (start stop : ℕ) (before r : Ends) → before.near ≤ 2 * bias → r ≡ fold stretched before (range_with_len start (stop - start)) →
+      EndsAre limits spans v start stop before r
+  ends_folded start stop before r h e = let i = folded (stop - start) start before h in rw e (record { small = i.small; near_is = i.near_is; reach_is = i.reach_is })
 
 -- separations whose spans are empty may be left out at the end
 module _ (b : ℕ) (limit : ℕ → ℕ) (f : ℕ → Span) where
@@ -217,14 +273,14 @@ module _ (limits : ChannelLimits) (c : Cell) (t : List StripSpans) (first end : 
   reach_tried = rw (← s) (furthest_cut bias (low_in limits) (λ q. above_spans (c.v - q)) first (end - first) (stop c.last c.v - first) 0 (rw e (tried_less c.last c.v c.empty first)) left_empty)
 
   -- one cell, from ends whose span and shortfall are those of the separations tried
-  pub strip_done : (r : Ends) (x y z : ℕ) → EndsServe limits (spans_of t (c.i + 1)) c.v first end w r →
-      x ≡ max c.window.from (min c.window.upto (r.near - bias)) → y ≡ min c.window.upto (r.reach - bias) → z ≡ max c.window.from (r.near - bias) + 1 + bias - min (c.window.upto + bias) r.reach →
+  pub strip_done : (r : Ends) (x y : ℕ) (z : Option ℕ) → EndsServe limits (spans_of t (c.i + 1)) c.v first end w r →
+      x ≡ max c.window.from (min c.window.upto (r.near - bias)) → y ≡ min c.window.upto (r.reach - bias) → z ≡ unless_zero (max c.window.from (r.near - bias) + 1 + bias - min (c.window.upto + bias) r.reach) →
       StripDone limits c t (put_span t c.i c.v (span x y)) z
   unfolding cell_short
   strip_done r x y z f p q g =
       record {
         put_is = ap (put_span t c.i c.v) (ap₂ span p q ∙ cell_tried);
-        short_is = g ∙ (f.short_is ∙ ap₂ (shortfall bias w) near_tried reach_tried);
+        short_is = g ∙ ap unless_zero (f.short_is ∙ ap₂ (shortfall bias w) near_tried reach_tried);
       }
     where
       cell_tried : between bias w (r.near - bias) r.reach ≡ cell bias (low_in limits) (high_in limits) c.least c.last c.above above_spans w c.v
@@ -249,10 +305,10 @@ module _ (limits : ChannelLimits) (c : Cell) (t : List StripSpans) (first end : 
         sym (x ∙ ap₂ (shortfall bias w) n r),
       )
 
-  pub strip_none : (x : ℕ) → end ≤ first → x ≡ max c.window.from c.window.upto → StripDone limits c t (put_span t c.i c.v (span x 0)) (2 * bias + 1)
-  strip_none x h p =
+  pub strip_none : end ≤ first → StripDone limits c t (put_span t c.i c.v (none_in w)) (Some (2 * bias + 1))
+  strip_none h =
       let b = cell_none h in
-      record { put_is = ap (put_span t c.i c.v) (ap₂ span p refl ∙ sym b.0); short_is = sym b.1 }
+      record { put_is = ap (put_span t c.i c.v) (sym b.0); short_is = some_number (2 * bias + 1) _ (omega (arith, b.1)) (sym b.1) }
 
 -- a cell that is short is empty
 short_ends : (b from upto near reach : ℕ) → min (upto + b) reach < max from near + 1 + b → min upto (reach - b) ≤ max from near

@@ -1,27 +1,27 @@
 -- The laws of the scan over strips and totals. Assumes nothing.
 use mathlib.Core.Path.{◌≡◌, refl, sym, ap, ap₂, ◌∙◌}
-use mathlib.Core.Bool.{Bool, true, false}
+use mathlib.Core.Bool.{true}
 use mathlib.Core.Logic.{◌⊎◌, inl, inr}
 use mathlib.Core.List.{List}
 use Prim.Native.Nat.{ℕ, zero, suc, ◌+◌, ◌-◌, ◌*◌, ◌≤◌, ◌<◌, min, max}
 use native.Mathlib.Numerals.{add-one}
 use native.Mathlib.Omega.{arith}
-use lib.Dec.{eqb}
 use lib.ListN.{set, replicate, length-set, get_or-replicate}
 use lib.Seq.{get_or-set_same, get_or-set_other}
-use borrow.Author.Tests.{eqb-true, eqb-false}
+use Rattle.std.specs.Prelude.{Option, None, Some, is_some}
 use Rattle.numbers.proofs.Orders.{lt_or_eq, eq_or_not, le_or_lt}
 use Rattle.stack.specs.Sizes.{strips_held, totals_held}
 use Rattle.spans.specs.Spans.{nonempty}
 use Rattle.spans.specs.declared.Span.{Span}
 use Rattle.spans.specs.Solver.{opens, first_open, most, start, stop, cell, back, first_total}
 use Rattle.spans.specs.Jump.{nearest, furthest, shortfall, cell_short}
-use Rattle.arrays.specs.Arrays.{bias, entry, low_of, high_of, last_of, window_of, levels, Sized, span_in, StackAsks, Filled, limits_of}
+use Rattle.arrays.specs.Arrays.{bias, unless_zero, entry, low_of, high_of, last_of, window_of, levels, Sized, span_in, StackAsks, Filled, limits_of}
 use Rattle.arrays.specs.declared.StripSpans.{StripSpans}
 use Rattle.arrays.specs.declared.Given.{Given}
 use Rattle.scan.specs.declared.Cell.{Cell}
 use Rattle.scan.specs.Scan.{put_span, cell_of, StripAsks, StripDone, jump_if, short_of, EmptyOn, none_in, Cleared, OnlyAt, EmptiesAre, Scanning, TotalAsks, ScanAsks, ScanIs}
 use Rattle.arrays.specs.Search.{Searching}
+use Rattle.arrays.proofs.Options.{number_some}
 use Rattle.arrays.proofs.Searches.{searching_hit, searching_miss, searching_end, ends_full, ends_empty}
 use Rattle.scan.proofs.Tables.{put_same, put_apart, sized_put}
 use Rattle.spans.proofs.First.{first_upto}
@@ -109,10 +109,6 @@ module _ (g : Given) (table : List StripSpans) (a : ScanAsks g 0 table) where
             put_apart table a.sized g.channels 0 (window_of g g.channels) (omega (arith, a.stack.channels)) j u (λ p q. omega arith) ∙ c.cleared j u h m l;
       }
 
-positive : {j : ℕ} (n : ℕ) → (n ≡ 0 → ⊥) → 0 < j → 0 < min j n
-positive zero h l = absurd (h refl)
-positive (suc n) h l = omega arith
-
 pub nothing_tried : (least last above empty u : ℕ) → u < least + empty → min (last + 1) (u + 1 - empty) ≤ max least (u - above)
 nothing_tried least last above empty u h = let k : u + 1 - empty ≤ least = omega arith in omega arith
 
@@ -147,6 +143,28 @@ module _ (g : Given) (v i j : ℕ) (table : List StripSpans) (jump : ℕ) (a : S
   above_ends u l m =
       let r = above_is u l m in
       omega (arith, ap (λ (t : Span). t.from) r, ap (λ (t : Span). t.upto) r, back_ends bias (window_of g (suc j)) (levels g (suc j) n) u, a.starts (suc j) (omega arith), a.ends (suc j) (omega arith))
+
+  -- the table stays as it is, where strip j's span at the total v stands there, and is short by no less than the jump
+  scanning_kept : (v ≤ most (levels g j (suc n)) → span_in table j v ≡ back bias (window_of g j) (levels g j (suc n)) v) →
+      (v ≤ most (levels g j (suc n)) → 0 < short_of g j n v → jump ≤ short_of g j n v) → Scanning g v j table jump
+  scanning_kept b d =
+      record {
+        sized = s.sized;
+        earlier = s.earlier;
+        here = λ p m l e u. go p m e u (lt_or_eq j p l);
+        jump_some = s.jump_some;
+        jump_small = s.jump_small;
+        earlier_jump = s.earlier_jump;
+        here_jump = λ p m l e u x. jumps p m e u x (lt_or_eq j p l);
+      }
+    where
+      go : (p m : ℕ) → p + m ≡ g.channels → v ≤ most (levels g p m) → (j < p) ⊎ (j ≡ p) → span_in table p v ≡ back bias (window_of g p) (levels g p m) v
+      go p m e u (inl l) = s.here p m (omega arith) e u
+      go p m e u (inr l) = let z : m ≡ suc n = omega arith in rw (← l, z) (b (rw (← l, z) at u))
+
+      jumps : (p m : ℕ) → p + suc m ≡ g.channels → v ≤ most (levels g p (suc m)) → 0 < short_of g p m v → (j < p) ⊎ (j ≡ p) → jump ≤ short_of g p m v
+      jumps p m e u x (inl l) = s.here_jump p m (omega arith) e u x
+      jumps p m e u x (inr l) = let z : m ≡ n = omega arith in rw (← l, z) (d (rw (← l, z) at u) (rw (← l, z) at x))
 
   module _ (least above : ℕ) (le : least ≡ first_open (low_of g j) (high_of g j) (last_of g j)) (ab : above ≡ most (levels g (suc j) n)) where
     abbrev f : ℕ → Span
@@ -191,28 +209,8 @@ module _ (g : Given) (v i j : ℕ) (table : List StripSpans) (jump : ℕ) (a : S
       module _ (beyond : v < least + empty) (clear : span_in table j v ≡ none_in (window_of g j)) where
         pub scanning_none : Scanning g v j table jump
         scanning_none =
-            record {
-              sized = s.sized;
-              earlier = s.earlier;
-              here = λ p m l e u. go p m e u (lt_or_eq j p l);
-              jump_some = s.jump_some;
-              jump_small = s.jump_small;
-              earlier_jump = s.earlier_jump;
-              here_jump = λ p m l e u x. jumps p m e u x (lt_or_eq j p l);
-            }
-          where
-            go : (p m : ℕ) → p + m ≡ g.channels → v ≤ most (levels g p m) → (j < p) ⊎ (j ≡ p) → span_in table p v ≡ back bias (window_of g p) (levels g p m) v
-            go p m e u (inl l) = s.here p m (omega arith) e u
-            go p m e u (inr l) =
-                let z : m ≡ suc n = omega arith in
-                rw (← l, z) (clear ∙ sym (back_none v (omega arith) (omega (arith, most_here, rw (← l, z) at u)) beyond))
-
-            jumps : (p m : ℕ) → p + suc m ≡ g.channels → v ≤ most (levels g p (suc m)) → 0 < short_of g p m v → (j < p) ⊎ (j ≡ p) → jump ≤ short_of g p m v
-            jumps p m e u x (inl l) = s.here_jump p m (omega arith) e u x
-            jumps p m e u x (inr l) =
-                let z : m ≡ n = omega arith in
-                let o : v ≤ last_of g j + above = omega (arith, most_here, rw (← l, z) at u) in
-                rw (← l, z) (omega (arith, short_at_total o, (none_at v (omega arith) o beyond).1, s.jump_small))
+            scanning_kept (λ u. clear ∙ sym (back_none v (omega arith) (omega (arith, most_here)) beyond))
+            (λ u x. let o : v ≤ last_of g j + above = omega (arith, most_here) in omega (arith, short_at_total o, (none_at v (omega arith) o beyond).1, s.jump_small))
 
         -- it has an empty span for every total so far
         pub none_here : (u : ℕ) → u < suc v → u ≤ most (levels g j (suc n)) → (span_in table j u).upto ≤ (span_in table j u).from
@@ -229,12 +227,12 @@ module _ (g : Given) (v i j : ℕ) (table : List StripSpans) (jump : ℕ) (a : S
           StripAsks (limits_of g.limits j) (cell_of g j v least above (entry es (j + 1))) table
       strip_asks es m t = asks_at (entry es (j + 1)) (λ u l o. m.empty (j + 1) u (omega arith) l) t v (omega arith) used
 
-      module _ (empty : ℕ) (table' : List StripSpans) (short : ℕ) (d : StripDone (limits_of g.limits j) (cell_of g j v least above empty) table table' short) (t : v < totals_held) where
+      module _ (empty : ℕ) (table' : List StripSpans) (short : Option ℕ) (d : StripDone (limits_of g.limits j) (cell_of g j v least above empty) table table' short) (t : v < totals_held) where
         abbrev written_span : Span
         written_span = cell bias (low_of g j) (high_of g j) least (last_of g j) above f (window_of g j) v
 
-        short_is : short ≡ short_of g j n v
-        short_is = d.short_is ∙ short_at_total used
+        short_is : short ≡ unless_zero (short_of g j n v)
+        short_is = d.short_is ∙ ap unless_zero (short_at_total used)
 
         -- the other cells are as they were
         kept : (p u : ℕ) → (p ≡ j → u ≡ v → ⊥) → span_in table' p u ≡ span_in table p u
@@ -247,23 +245,23 @@ module _ (g : Given) (v i j : ℕ) (table : List StripSpans) (jump : ℕ) (a : S
         here_written : span_in table' j v ≡ back bias (window_of g j) (levels g j (suc n)) v
         here_written = cell_written ∙ cell_at v (omega arith) used
 
-        jump_less : (z : Bool) → jump_if z jump short ≤ jump
-        jump_less true = omega arith
-        jump_less false = omega arith
+        jump_less : (z : Option ℕ) → jump_if z jump ≤ jump
+        jump_less None = omega arith
+        jump_less (Some z) = omega arith
 
-        jump_short : (z : Bool) → eqb short 0 ≡ z → 0 < short → jump_if z jump short ≤ short
-        jump_short true e l = absurd (omega (arith, eqb-true short 0 e))
-        jump_short false e l = omega arith
+        jump_short : (x : ℕ) → 0 < x → jump_if (unless_zero x) jump ≤ x
+        jump_short zero l = absurd (omega arith)
+        jump_short (suc x) l = omega arith
 
-        pub scanning_strip : Scanning g v j table' (jump_if (eqb short 0) jump short)
+        pub scanning_strip : Scanning g v j table' (jump_if short jump)
         scanning_strip =
             record {
               sized = rw d.put_is (sized_put table s.sized j v written_span (omega (arith, a.channels)));
               earlier = λ p m u e l o. kept p u (λ q r. omega arith) ∙ s.earlier p m u e l o;
               here = λ p m l e o. go p m e o (lt_or_eq j p l);
-              jump_some = some (eqb short 0) refl;
-              jump_small = omega (arith, jump_less (eqb short 0), s.jump_small);
-              earlier_jump = λ p m u e l o x. omega (arith, jump_less (eqb short 0), s.earlier_jump p m u e l o x);
+              jump_some = rw short_is (some (short_of g j n v));
+              jump_small = omega (arith, jump_less short, s.jump_small);
+              earlier_jump = λ p m u e l o x. omega (arith, jump_less short, s.earlier_jump p m u e l o x);
               here_jump = λ p m l e o x. jumps p m e o x (lt_or_eq j p l);
             }
           where
@@ -271,23 +269,22 @@ module _ (g : Given) (v i j : ℕ) (table : List StripSpans) (jump : ℕ) (a : S
             go p m e o (inl l) = kept p v (λ q r. omega arith) ∙ s.here p m (omega arith) e o
             go p m e o (inr l) = let z : m ≡ suc n = omega arith in rw (← l, z) here_written
 
-            some : (z : Bool) → eqb short 0 ≡ z → 0 < jump_if z jump short
-            some true e = s.jump_some
-            some false e = positive short (eqb-false short 0 e) s.jump_some
+            some : (x : ℕ) → 0 < jump_if (unless_zero x) jump
+            some zero = s.jump_some
+            some (suc x) = omega (arith, s.jump_some)
 
-            jumps : (p m : ℕ) → p + suc m ≡ g.channels → v ≤ most (levels g p (suc m)) → 0 < short_of g p m v → (j < p) ⊎ (j ≡ p) → jump_if (eqb short 0) jump short ≤ short_of g p m v
-            jumps p m e o x (inl l) = omega (arith, jump_less (eqb short 0), s.here_jump p m (omega arith) e o x)
+            jumps : (p m : ℕ) → p + suc m ≡ g.channels → v ≤ most (levels g p (suc m)) → 0 < short_of g p m v → (j < p) ⊎ (j ≡ p) → jump_if short jump ≤ short_of g p m v
+            jumps p m e o x (inl l) = omega (arith, jump_less short, s.here_jump p m (omega arith) e o x)
             jumps p m e o x (inr l) =
                 let z : m ≡ n = omega arith in
-                let y : 0 < short = omega (arith, short_is, rw (← l, z) at x) in
-                rw (← l, z) (omega (arith, short_is, jump_short (eqb short 0) refl y))
+                rw (← l, z, short_is) (jump_short (short_of g j n v) (rw (← l, z) at x))
 
         pub only_strip : (table₀ : List StripSpans) → OnlyAt v i table₀ table → OnlyAt v j table₀ table'
         only_strip table₀ o = record { kept = λ p u m. kept p u (λ e q. m (omega arith) q) ∙ o.kept p u (λ l q. m (omega arith) q) }
 
-        short_here : 0 < short → (span_in table' j v).upto ≤ (span_in table' j v).from
+        short_here : is_some short ≡ true → (span_in table' j v).upto ≤ (span_in table' j v).from
         short_here x =
-            let e = short_empty (low_of g j) (high_of g j) least (last_of g j) above f (window_of g j) v (omega (arith, a.ends j (omega arith))) (rw d.short_is at x) in
+            let e = short_empty (low_of g j) (high_of g j) least (last_of g j) above f (window_of g j) v (omega (arith, a.ends j (omega arith))) (number_some _ (rw d.short_is at x)) in
             omega (arith, e, ap (λ (x : Span). x.from) cell_written, ap (λ (x : Span). x.upto) cell_written)
 
         pub empties_strip : (es : List ℕ) (x : ℕ) → EmptiesAre g.channels v i table es → least + entry es (j + 1) ≤ v → EmptyOn (max (entry es j) (least + entry es (j + 1))) v short x →
@@ -320,7 +317,7 @@ module _ (g : Given) (v i j : ℕ) (table : List StripSpans) (jump : ℕ) (a : S
             known u (inl q) w = beyond u (omega arith)
             known u (inr q) w = still j u (omega arith) q (λ y z. omega (arith, m.earlier j (omega arith)))
 
-            own : (u : ℕ) → (u < max (entry es j) (least + entry es (j + 1))) ⊎ ((u ≡ v) × (0 < short)) → (span_in table' j u).upto ≤ (span_in table' j u).from
+            own : (u : ℕ) → (u < max (entry es j) (least + entry es (j + 1))) ⊎ ((u ≡ v) × (is_some short ≡ true)) → (span_in table' j u).upto ≤ (span_in table' j u).from
             own u (inl q) = known u (le_or_lt (entry es j) u) q
             own u (inr q) = rw q.0 (short_here q.1)
 
@@ -334,24 +331,7 @@ module _ (g : Given) (v i j : ℕ) (table : List StripSpans) (jump : ℕ) (a : S
 
   -- a strip for which the total is beyond use
   pub scanning_skip : most (levels g j (suc n)) < v → Scanning g v j table jump
-  scanning_skip o =
-      record {
-        sized = s.sized;
-        earlier = s.earlier;
-        here = λ p m l e u. go p m e u (lt_or_eq j p l);
-        jump_some = s.jump_some;
-        jump_small = s.jump_small;
-        earlier_jump = s.earlier_jump;
-        here_jump = λ p m l e u x. jumps p m e u x (lt_or_eq j p l);
-      }
-    where
-      go : (p m : ℕ) → p + m ≡ g.channels → v ≤ most (levels g p m) → (j < p) ⊎ (j ≡ p) → span_in table p v ≡ back bias (window_of g p) (levels g p m) v
-      go p m e u (inl l) = s.here p m (omega arith) e u
-      go p m e u (inr l) = let z : m ≡ suc n = omega arith in absurd (omega (arith, rw (← l, z) at u))
-
-      jumps : (p m : ℕ) → p + suc m ≡ g.channels → v ≤ most (levels g p (suc m)) → 0 < short_of g p m v → (j < p) ⊎ (j ≡ p) → jump ≤ short_of g p m v
-      jumps p m e u x (inl l) = s.here_jump p m (omega arith) e u x
-      jumps p m e u x (inr l) = let z : m ≡ n = omega arith in absurd (omega (arith, rw (← l, z) at u))
+  scanning_skip o = scanning_kept (λ u. absurd (omega arith)) (λ u x. absurd (omega arith))
 
 -- the strips below strip i, if that has an empty span for every total so far
 pub scanning_bottom : (g : Given) (v i : ℕ) (table : List StripSpans) (jump : ℕ) → StackAsks g → v < totals_held → i ≤ g.channels → Scanning g v i table jump →
@@ -396,12 +376,17 @@ module _ (g : Given) (cap : ℕ) where
   bottom_span v = back bias (window_of g 0) (levels g 0 g.channels) v
 
   module _ (v jump : ℕ) (table : List StripSpans) (s : Scanning g v 0 table jump) where
+    -- the spans for totals up to v
+    upto_here : (j n u : ℕ) → j + n ≡ g.channels → u ≤ most (levels g j n) → (u < v) ⊎ (u ≡ v) → span_in table j u ≡ back bias (window_of g j) (levels g j n) u
+    upto_here j n u e m (inl l) = s.earlier j n u e l m
+    upto_here j n u e m (inr l) = rw l (s.here j n (omega arith) e (rw l at m))
+
     pub scanning_next : Scanning g (v + 1) g.channels table jump
     unfolding most levels
     scanning_next =
         record {
           sized = s.sized;
-          earlier = λ j n u e h m. before j n u e m (lt_or_eq u v (omega arith));
+          earlier = λ j n u e h m. upto_here j n u e m (lt_or_eq u v (omega arith));
           here = λ j n h e m. let z : n ≡ 0 = omega arith in absurd (omega (arith, rw z at m));
           jump_some = s.jump_some;
           jump_small = s.jump_small;
@@ -409,10 +394,6 @@ module _ (g : Given) (cap : ℕ) where
           here_jump = λ j n h e m x. absurd (omega arith);
         }
       where
-        before : (j n u : ℕ) → j + n ≡ g.channels → u ≤ most (levels g j n) → (u < v) ⊎ (u ≡ v) → span_in table j u ≡ back bias (window_of g j) (levels g j n) u
-        before j n u e m (inl l) = s.earlier j n u e l m
-        before j n u e m (inr l) = rw l (s.here j n (omega arith) e (rw l at m))
-
         jumps : (j n u : ℕ) → j + suc n ≡ g.channels → u ≤ most (levels g j (suc n)) → 0 < short_of g j n u → (u < v) ⊎ (u ≡ v) → jump ≤ short_of g j n u
         jumps j n u e m x (inl l) = s.earlier_jump j n u e l m x
         jumps j n u e m x (inr l) = rw l (s.here_jump j n (omega arith) e (rw l at m) (rw l at x))
@@ -422,15 +403,7 @@ module _ (g : Given) (cap : ℕ) where
     bottom_is m = s.here 0 g.channels (omega arith) (omega arith) m
 
     table_to : Filled g v 0 table
-    table_to =
-        record {
-          sized = s.sized;
-          filled = λ j n u h e c m. go j n u e m (lt_or_eq u v c);
-        }
-      where
-        go : (j n u : ℕ) → j + n ≡ g.channels → u ≤ most (levels g j n) → (u < v) ⊎ (u ≡ v) → span_in table j u ≡ back bias (window_of g j) (levels g j n) u
-        go j n u e m (inl l) = s.earlier j n u e l m
-        go j n u e m (inr l) = rw l (s.here j n (omega arith) e (rw l at m))
+    table_to = record { sized = s.sized; filled = λ j n u h e c m. upto_here j n u e m (lt_or_eq u v c) }
 
     module _ (of_use : cap ≤ most (levels g 0 g.channels)) (h : v ≤ cap) (found : ℕ) (q : Searching (λ u. nonempty (bottom_span u)) (suc cap) v found) where
       pub totals_miss : (span_in table 0 v).upto ≤ (span_in table 0 v).from → Searching (λ u. nonempty (bottom_span u)) (suc cap) (v + 1) found
@@ -502,9 +475,9 @@ module _ (g : Given) (v : ℕ) (es₀ : List ℕ) (table₀ : List StripSpans) (
   bound_room =
       omega (arith, t.total, least_of, first_upto (opens (low_of g j) (high_of g j)) 0 (suc (last_of g j)), t.stack.listed j (omega arith), m.here (j + 1) (omega arith))
 
-  pub total_strip : v ≤ entry g.plan.above j → bound ≤ v → (table' : List StripSpans) (short next empty : ℕ) →
+  pub total_strip : v ≤ entry g.plan.above j → bound ≤ v → (table' : List StripSpans) (short : Option ℕ) (next empty : ℕ) →
       StripDone (limits_of g.limits j) here table table' short →
-      EmptyOn (max (entry es j) bound) v short empty → next ≡ jump_if (eqb short 0) jump short →
+      EmptyOn (max (entry es j) bound) v short empty → next ≡ jump_if short jump →
       Scanning g v j table' next × EmptiesAre g.channels v j table' (set es j empty) × OnlyAt v j table₀ table'
   total_strip h b table' short next empty d x e = (
     rw e

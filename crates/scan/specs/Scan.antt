@@ -1,12 +1,12 @@
 -- The scan for the least total: total after total from 0 on, each strip's span from the top down, until the bottom strip's is not empty; and how far the
 -- spread may grow before a total below it can be had. Assumes nothing: these are definitions.
-use Rattle.std.specs.Prelude.{◌≡◌, Bool, true, false, ◌⊎◌, List, ℕ, suc, ◌+◌, ◌-◌, ◌*◌, ◌≤◌, ◌<◌, min, max, length, set}
+use Rattle.std.specs.Prelude.{◌≡◌, true, ◌⊎◌, Option, None, Some, is_some, List, ℕ, suc, ◌+◌, ◌-◌, ◌*◌, ◌≤◌, ◌<◌, min, max, length, set}
 use Rattle.stack.specs.Sizes.{channels_held, strips_held, separations_held, totals_held}
 use Rattle.spans.specs.Spans.{span}
 use Rattle.spans.specs.declared.Span.{Span}
 use Rattle.spans.specs.Solver.{most, cell, back, first_total}
 use Rattle.spans.specs.Jump.{nearest, furthest, between, shortfall, cell_short, short_at}
-use Rattle.arrays.specs.Arrays.{bias, greatest_end, entry, low_in, high_in, spans_of, span_at, span_put, window_at, last_of, window_of, level_of, levels, TwoRows, Sized, span_in, StackAsks, Filled}
+use Rattle.arrays.specs.Arrays.{bias, greatest_end, unless_zero, entry, low_in, high_in, spans_of, span_at, span_put, window_at, last_of, window_of, level_of, levels, TwoRows, Sized, span_in, StackAsks, Filled}
 use Rattle.arrays.specs.declared.ChannelLimits.{ChannelLimits}
 use Rattle.arrays.specs.declared.StripSpans.{StripSpans}
 use Rattle.arrays.specs.declared.Given.{Given}
@@ -44,12 +44,6 @@ pub record EndsServe (limits : ChannelLimits) (spans : StripSpans) (v start stop
       shortfall bias w (r.near - bias) r.reach
       ≡ shortfall bias w (nearest bias (high_in limits) (λ q. span_at spans (v - q)) start (stop - start) bias) (furthest bias (low_in limits) (λ q. span_at spans (v - q)) start (stop - start) 0)
 
--- ends found so far, at separation q
-pub record Stretching (b : ℕ) (low high : ℕ → ℕ) (f : ℕ → Span) (stop q near reach nearest_of furthest_of : ℕ) : Type 0 where
-  pub starts_left : nearest b high f q (stop - q) near ≡ nearest_of
-  pub ends_left : furthest b low f q (stop - q) reach ≡ furthest_of
-  pub near_small : near ≤ b
-
 -- strip i at the total v
 abbrev pub cell_of : Given → (i v least above empty : ℕ) → Cell
 cell_of g i v least above empty = record { i = i; v = v; least = least; last = last_of g i; above = above; empty = empty; window = window_of g i }
@@ -75,19 +69,19 @@ pub record StripAsks (limits : ChannelLimits) (c : Cell) (t : List StripSpans) :
   pub ends : (u : ℕ) → u ≤ c.v → u ≤ c.above → (span_in t (c.i + 1) u).upto ≤ bias
   pub empties : (u : ℕ) → u < c.empty → u ≤ c.above → (span_in t (c.i + 1) u).upto ≤ (span_in t (c.i + 1) u).from
 
--- the cell written, and its shortfall
-pub record StripDone (limits : ChannelLimits) (c : Cell) (t t' : List StripSpans) (short : ℕ) : Type 0 where
+-- the cell written, and its shortfall, if it is short
+pub record StripDone (limits : ChannelLimits) (c : Cell) (t t' : List StripSpans) (short : Option ℕ) : Type 0 where
   pub put_is : t' ≡ put_span t c.i c.v (cell bias (low_in limits) (high_in limits) c.least c.last c.above (span_in t (c.i + 1)) c.window c.v)
-  pub short_is : short ≡ cell_short bias bias (low_in limits) (high_in limits) c.least c.last c.above (span_in t (c.i + 1)) c.window c.v
+  pub short_is : short ≡ unless_zero (cell_short bias bias (low_in limits) (high_in limits) c.least c.last c.above (span_in t (c.i + 1)) c.window c.v)
 
 -- the lesser of a jump and a shortfall, if there is a shortfall
-abbrev pub jump_if : (none : Bool) → (jump short : ℕ) → ℕ
-jump_if true j s = j
-jump_if false j s = min j s
+abbrev pub jump_if : (short : Option ℕ) → (jump : ℕ) → ℕ
+jump_if None j = j
+jump_if (Some s) j = min j s
 
 -- totals below r are known to have empty spans, if those below n are, and v is if its span is short
-pub record EmptyOn (n v short r : ℕ) : Type 0 where
-  pub known : (u : ℕ) → u < r → (u < n) ⊎ ((u ≡ v) × (0 < short))
+pub record EmptyOn (n v : ℕ) (short : Option ℕ) (r : ℕ) : Type 0 where
+  pub known : (u : ℕ) → u < r → (u < n) ⊎ ((u ≡ v) × (is_some short ≡ true))
   pub at_most : n ≤ v → r ≤ suc v
 
 -- the span in the window w of a strip for which nothing is left above

@@ -1,7 +1,7 @@
 // The least total of a stack in a spread, from windows and limit lists: totals tried in rising order, with the jump to the next event.
 #![tactic(auto)]
 
-ghost use Rattle.std.specs.Prelude.{◌≡◌, ◌+◌, ◌-◌, ◌*◌, ◌≤◌, ◌<◌, min, max, eqb};
+ghost use Rattle.std.specs.Prelude.{◌≡◌, ◌+◌, ◌-◌, ◌*◌, ◌≤◌, ◌<◌, min, max};
 ghost use Rattle.stack.specs.Sizes.{channels_held, separations_held, totals_held};
 ghost use Rattle.spans.specs.Spans.{nonempty};
 ghost use Rattle.spans.specs.Jump.{min_if, max_if};
@@ -17,6 +17,14 @@ use stack::Stack;
 pub struct Ends {
     pub near: u64,
     pub reach: u64,
+}
+
+impl Ends {
+    // Of no span.
+    pub const NONE: Ends = Ends {
+        near: 2 * Stack::BIAS,
+        reach: 0,
+    };
 }
 
 // Strip i at total v: the separations of its channel from the least open one to the last of use, what the channels above can use, below which total the strip
@@ -57,7 +65,8 @@ impl Cell {
     }
 }
 
-// The first total that can be had, and how far the spread may grow before a smaller total can be had.
+// The first total that can be had, and how far the spread may grow before a smaller total can be had. Where no total up to the cap can be had, total is cap + 1, and
+// not None: callers compare it and go on with it as with any total.
 #[derive(Clone, Copy)]
 pub struct Scan {
     pub total: usize,
@@ -83,7 +92,8 @@ fn stretch(e: Ends, span: Span, low: u64, high: u64) -> Ends
     }
 }
 
-// The ends stretched by the spans of the strip above for what separations from start to below stop leave of total v, each shifted back by its limit.
+// The ends stretched by the spans of the strip above for what separations from start to below stop leave of total v, each shifted back by its limit. Limits, spans, total,
+// start and stop are what growth's `grow_back` takes too: a struct of them would be made anew for each call.
 pub fn reach_back(
     limits: &ChannelLimits,
     spans: &StripSpans,
@@ -96,11 +106,9 @@ pub fn reach_back(
     requires near { before.near ≤ 2 * bias }
     ensures { EndsAre limits.now spans.now v start stop before result }
 {
-    let mut e = before;
-    for q in start..stop {
-        e = stretch(e, spans.at(v - q), limits.low[q], limits.high[q]);
-    }
-    e
+    (start..stop).fold(before, |e, q| {
+        stretch(e, spans.at(v - q), limits.low[q], limits.high[q])
+    })
 }
 
 // Ends for a cell's window, from separations start to below stop. If those of the last one reach over the whole window, the others change nothing in it.
@@ -117,12 +125,13 @@ fn ends_in(
     requires upto { cell.window.upto ≤ bias }
     ensures { EndsServe limits.now spans.now cell.v start stop cell.window result }
 {
-    let none = Ends {
-        near: 2 * Stack::BIAS,
-        reach: 0,
-    };
     let q = stop - 1;
-    let e = stretch(none, spans.at(cell.v - q), limits.low[q], limits.high[q]);
+    let e = stretch(
+        Ends::NONE,
+        spans.at(cell.v - q),
+        limits.low[q],
+        limits.high[q],
+    );
     let from = cell.window.from + Stack::BIAS;
     let upto = cell.window.upto + Stack::BIAS;
     if e.near <= from && upto <= e.reach {
@@ -147,8 +156,18 @@ pub fn stop_above(last: usize, v: usize, empty: usize) -> usize
     (last + 1).min((v + 1).saturating_sub(empty))
 }
 
-// Writes the span of a cell, from the spans of the strip above, and answers by how much it is short.
-pub fn scan_strip(limits: &ChannelLimits, cell: Cell, table: &mut SpanTable) -> u64
+// The empty span, within its window, of a strip for which nothing is left above.
+fn none_in(window: Span) -> Span
+    ensures { result ≡ none_in window }
+{
+    Span {
+        from: window.from.max(window.upto),
+        upto: 0,
+    }
+}
+
+// Writes the span of a cell, from the spans of the strip above, and answers by how much it is short, if it is.
+pub fn scan_strip(limits: &ChannelLimits, cell: Cell, table: &mut SpanTable) -> Option<u64>
     requires { StripAsks limits.now cell table.old }
     ensures { StripDone limits.now cell table.old table.new result }
 {
@@ -156,12 +175,8 @@ pub fn scan_strip(limits: &ChannelLimits, cell: Cell, table: &mut SpanTable) -> 
     let first = start_above(cell.least, cell.above, cell.v);
     let end = stop_above(cell.last, cell.v, cell.empty);
     if end <= first {
-        let none = Span {
-            from: window.from.max(window.upto),
-            upto: 0,
-        };
-        table[cell.i].put(cell.v, none);
-        return 2 * Stack::BIAS + 1;
+        table[cell.i].put(cell.v, none_in(window));
+        return Some(2 * Stack::BIAS + 1);
     }
     let e = ends_in(limits, &table[cell.i + 1], cell, first, end);
     let near = e.near.saturating_sub(Stack::BIAS);
@@ -171,23 +186,28 @@ pub fn scan_strip(limits: &ChannelLimits, cell: Cell, table: &mut SpanTable) -> 
     };
     table[cell.i].put(cell.v, span);
     let reached = (window.upto + Stack::BIAS).min(e.reach);
-    (window.from.max(near) + 1 + Stack::BIAS).saturating_sub(reached)
+    let needed = window.from.max(near) + 1 + Stack::BIAS;
+    if reached < needed {
+        Some(needed - reached)
+    } else {
+        None
+    }
 }
 
 // The lesser of a jump and a shortfall, if there is a shortfall.
-fn shorter(jump: u64, short: u64) -> u64
-    ensures { result ≡ jump_if (eqb short 0) jump short }
+fn shorter(jump: u64, short: Option<u64>) -> u64
+    ensures { result ≡ jump_if short jump }
 {
-    if short == 0 { jump } else { jump.min(short) }
+    short.map_or(jump, |s| jump.min(s))
 }
 
 // How many first totals are known to have an empty span: those below count and below bound are, and v is if its span is short.
-pub fn count_empty(count: usize, bound: usize, v: usize, short: u64) -> usize
+pub fn count_empty(count: usize, bound: usize, v: usize, short: Option<u64>) -> usize
     requires { v < totals_held }
     ensures { EmptyOn (max count bound) v short result }
 {
     let known = count.max(bound);
-    if short == 0 || known < v {
+    if short.is_none() || known < v {
         known
     } else {
         v + 1
@@ -233,9 +253,8 @@ fn clear_row(spans: &mut StripSpans, none: Span, cap: usize)
     requires end { none.upto ≤ greatest_end }
     ensures { RowIs none (cap + 1) spans.new }
 {
-    for u in 0..cap + 1 {
-        spans.put(u, none);
-    }
+    spans.from[..cap + 1].fill(none.from as u32);
+    spans.upto[..cap + 1].fill(none.upto as u32);
 }
 
 // Gives each strip below the top one an empty span for the totals up to cap.
@@ -246,13 +265,8 @@ fn clear(given: &Given, cap: usize, table: &mut SpanTable)
     requires windows { EndsFit given.now.windows given.now.channels }
     ensures { Cleared given.now.windows given.now.channels 0 cap table.new }
 {
-    for i in 0..given.channels {
-        let window = given.windows[i];
-        let none = Span {
-            from: window.from.max(window.upto),
-            upto: 0,
-        };
-        clear_row(&mut table[i], none, cap);
+    for (i, spans) in table[..given.channels].iter_mut().enumerate() {
+        clear_row(spans, none_in(given.windows[i]), cap);
     }
 }
 
@@ -276,6 +290,7 @@ pub fn scan_totals(given: &Given, cap: usize, table: &mut SpanTable) -> Scan
     put_window(given, table);
     let mut empties = [0usize; Stack::STRIPS];
     let mut jump = Stack::BIAS;
+    // By number: a total is itself a number, and each goes on from the table, the jump and the empty spans of those before it.
     for v in 0..cap + 1 {
         let next = scan_total(given, v, jump, &mut empties, table);
         if table[0].from[v] < table[0].upto[v] {

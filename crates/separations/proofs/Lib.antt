@@ -1,3 +1,2 @@
--- The search for a separation, and the loop over channels.
-pub mod Serves
+-- The loop over channels.
 pub mod Separating

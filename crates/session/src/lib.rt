@@ -2,8 +2,8 @@
 // the same stack.
 #![tactic(auto)]
 
-ghost use Rattle.std.specs.Prelude.{◌≡◌, [], ◌∷◌, ◌≤◌, ◌<◌};
-ghost use Rattle.stack.specs.Stack.{free, strip, stack};
+ghost use Rattle.std.specs.Prelude.{◌≡◌, ◌≤◌, ◌<◌};
+ghost use Rattle.stack.specs.Stack.{free, strip};
 ghost use Rattle.stack.specs.Value.{free_strip, channel_of, stack_of};
 ghost use Rattle.text.specs.Outcome.{refusal_of};
 ghost use Rattle.spread.specs.Best.{BestTotal, BestPlacement};
@@ -13,12 +13,13 @@ ghost use Rattle.session.specs.Parts.{Chosen, TerminalsRead, StepMade, AddMade, 
 
 use kinds::{nets_content, part_content};
 use lines::KEPT;
-use solver::Placement;
 use spread::{placement_of, single_placement, single_total, total_of};
-use stack::{Columns, Stack, Strip, Terminals, Tracks};
+use stack::{Columns, Placement, Stack, Strip, Terminals, Tracks};
 use text::{Counts, Refusal, Refused, test_count};
 
 // One to nine free strips, strip 0 at the bottom, as their lengths, and the channels between them, or none. Places past them are unused.
+// Document 01 names an array over the channels, and nothing is allocated, so there are as many places as a stack may have, with the count of strips.
+// That steps have made a session (`Made`) is asked in contracts: an invariant of the type would ask more of callers (`begin`, `add` and `take_off` take any session).
 #[derive(Clone, Copy)]
 pub struct Session {
     pub count: usize,
@@ -188,6 +189,8 @@ impl Session {
     }
 
     // The least total in a spread of a session that steps have made, or 13, then 7.
+    // `place_total` has the same three cases. A function that tells them apart would hand back a strip or a stack by an enum of its own, with a contract, and a
+    // match would still stand in both.
     pub fn least_total(&self, spread: u32) -> Result<Tracks, Refused>
         requires { Made (held_of self.now) }
         ensures session_total_says { SessionTotalSays (held_of self.now) spread result }

@@ -15,7 +15,7 @@ use Rattle.arrays.specs.Arrays.{bias, window_of, levels, store, taken}
 use Rattle.arrays.specs.declared.Given.{Given}
 use Rattle.positions.specs.Positions.{PositionAsks}
 use Rattle.solver.specs.Placing.{separations_of, PlaceAsks, PlacementIs}
-use Rattle.solver.specs.declared.Placement.{Placement}
+use Rattle.stack.specs.declared.Placement.{Placement}
 use Rattle.solver.proofs.Stored.{store_padded, taken_padded}
 use Rattle.spans.proofs.Chosen.{chosen}
 

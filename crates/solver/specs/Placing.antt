@@ -8,7 +8,7 @@ use Rattle.spans.specs.Placed.{Exactly, Widening}
 use Rattle.arrays.specs.Arrays.{bias, window_of, levels, StackAsks}
 use Rattle.arrays.specs.declared.Given.{Given}
 use Rattle.positions.specs.Positions.{Narrow}
-use Rattle.solver.specs.declared.Placement.{Placement}
+use Rattle.stack.specs.declared.Placement.{Placement}
 
 abbrev pub separations_of : Given → (total : ℕ) → List ℕ
 separations_of g v = separations bias (window_of g 0) (levels g 0 g.channels) v

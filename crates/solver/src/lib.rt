@@ -7,15 +7,7 @@ ghost use Rattle.solver.specs.Placing.{PlaceAsks, PlacementIs};
 use arrays::{Given, SpanTable};
 use positions::positions_for;
 use separations::separations_for;
-use stack::{Columns, Stack, Tracks};
-
-// A placement: its total, its separations from channel 1 up, its positions from strip 0 up; zeros in unused places.
-#[derive(Clone, Copy)]
-pub struct Placement {
-    pub total: Tracks,
-    pub separations: [Tracks; Stack::MAX_CHANNELS],
-    pub positions: [Columns; Stack::STRIPS],
-}
+use stack::{Placement, Tracks};
 
 // The placement for a total that can be had, from the table of spans.
 pub fn place_in(given: &Given, total: usize, table: &SpanTable) -> Placement

@@ -20,7 +20,7 @@ use Rattle.text.specs.Outcome.{number_of, refusal_of, refused}
 use Rattle.text.specs.declared.Refused.{Refused}
 use Rattle.text.specs.declared.Refusal.TheVariants.{Unmet}
 use Rattle.text.proofs.Refusals.{word_not_fine, fine_number}
-use Rattle.solver.specs.declared.Placement.{Placement as PlacementStruct}
+use Rattle.stack.specs.declared.Placement.{Placement as PlacementStruct}
 use Rattle.answer.specs.Solve.{answer_total, separations_for, positions_for}
 use Rattle.answer.specs.Arrays.{PlacedIs}
 use Rattle.answer.proofs.Alone.{legal_lengths}

@@ -2,7 +2,7 @@
 use mathlib.Core.Path.{◌≡◌, refl, sym, ap, ◌∙◌}
 use mathlib.Core.Bool.{true, false, cond}
 use mathlib.Core.List.{List, [], ◌∷◌}
-use Prim.Native.Nat.{ℕ, zero, suc, ◌+◌, ◌≤◌, ◌<◌, max}
+use Prim.Native.Nat.{ℕ, zero, suc, ◌+◌, ◌≤◌, max}
 use native.Mathlib.Omega.{arith}
 use lib.Dec.{ltb}
 use lib.ListN.{replicate}
@@ -18,7 +18,7 @@ use Rattle.text.specs.Outcome.{refused}
 use Rattle.text.specs.declared.Refusal.TheVariants.{Unmet}
 use Rattle.text.specs.declared.Refused.{Refused}
 use Rattle.text.proofs.Refusals.{when_fine, fine_number}
-use Rattle.solver.specs.declared.Placement.{Placement as PlacementStruct}
+use Rattle.stack.specs.declared.Placement.{Placement as PlacementStruct}
 use Rattle.reply.specs.Refusals.{narrow_refusal}
 use Rattle.spread.specs.Answers.{total_told, TotalOr, PlacementOr}
 use Rattle.spread.specs.Single.{one_strip}
@@ -57,12 +57,9 @@ module _ (l s : ℕ) where
         first_place (suc y ∷ ys) h = rw (lt-ltb 0 (suc y) (omega arith))
 
 -- WHAT IS REFUSED of a spread: 7 below its length
-narrow_one : (l s : ℕ) → narrow_refusal (one_strip l) s ≡ cond (ltb s l) (refusal 7 0 0) fine
+pub narrow_one : (l s : ℕ) → narrow_refusal (one_strip l) s ≡ cond (ltb s l) (refusal 7 0 0) fine
 unfolding narrow_refusal first_spread greatest_of least_position stack
 narrow_one l s = let e : max (l + 0) 0 ≡ l = omega arith in rw e
-
-pub narrow_told : (l s : ℕ) → s < l → refusal 7 0 0 ≡ narrow_refusal (one_strip l) s
-narrow_told l s h = rw (narrow_one l s, lt-ltb s l h)
 
 pub wide_told : (l s : ℕ) → l ≤ s → fine ≡ narrow_refusal (one_strip l) s
 wide_told l s h = rw (narrow_one l s, le-ltb s l h)

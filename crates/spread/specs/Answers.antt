@@ -8,7 +8,7 @@ use Rattle.stack.specs.declared.Tracks.{Tracks}
 use Rattle.text.specs.Text.{Refusal, refusal, fine, or_else, text_refusal, stack_in}
 use Rattle.text.specs.Outcome.{refusal_of}
 use Rattle.text.specs.declared.Refused.{Refused}
-use Rattle.solver.specs.declared.Placement.{Placement as PlacementStruct}
+use Rattle.stack.specs.declared.Placement.{Placement as PlacementStruct}
 use Rattle.reply.specs.Refusals.{narrow_refusal}
 
 -- what is answered of a total, and of a placement

@@ -10,9 +10,8 @@ ghost use Rattle.spread.specs.Answers.{TotalOr, PlacementOr};
 ghost use Rattle.spread.specs.Single.{one_strip};
 
 use answer::{placement_in, total_in};
-use reply::spread_outcome;
-use solver::Placement;
-use stack::{Columns, Stack, Strip, Tracks};
+use reply::{narrow_outcome, spread_outcome};
+use stack::{Columns, Placement, Stack, Strip, Tracks};
 use text::{Refusal, Refused};
 
 // The least total of a stack in a spread, or 7. Nothing is placed.
@@ -37,10 +36,7 @@ pub fn placement_of(stack: &Stack, spread: u32, total: Tracks) -> Result<Placeme
 fn single_outcome(strip: Strip, spread: u32) -> Result<(), Refused>
     ensures { refusal_of result ≡ narrow_refusal (one_strip strip.length.0) spread }
 {
-    if spread < strip.length.0 {
-        return Err(Refused::new(Refusal::Narrow, 0, 0));
-    }
-    Ok(())
+    narrow_outcome(strip.length.0 as u64, spread)
 }
 
 // The least total of a single strip in a spread, 0, or 7.

@@ -3,16 +3,18 @@
 use mathlib.Core.Path.{◌≡◌, refl, ap, sym, ◌∙◌}
 use mathlib.Core.Bool.{Bool, true, false, cond}
 use mathlib.Core.List.{List, [], ◌∷◌, ◌++◌}
-use Prim.Native.Nat.{ℕ, zero, suc, ◌+◌, ◌*◌, ◌-◌, ◌≤◌, ◌<◌}
-use native.Mathlib.Nat.{zero-add}
+use Prim.Native.Nat.{ℕ, zero, suc, ◌+◌, ◌*◌, ◌-◌, ◌/◌, ◌≤◌, ◌<◌}
+use native.Mathlib.Nat.{zero-add, zero-mul, suc-mul}
 use native.Mathlib.Numerals.{add-one}
 use native.Mathlib.Omega.{arith}
 use lib.Dec.{ltb, leb}
-use lib.ListN.{length, get_or, drop, drop_of_length-le}
+use lib.ListN.{length, get_or, take, drop, drop_of_length-le}
 use lib.Seq.{drop-cons}
+use Rattle.std.proofs.lemmas.List.{drop-drop, length-take, get_or-take, get_or-drop}
 use borrow.Author.Tests.{ltb-false, lt-ltb, le-ltb, le-leb}
 use Rattle.std.specs.Prelude.{Option, None, Some, Ok, Err}
 use Rattle.std.specs.Option.{option_or}
+use Rattle.std.specs.Simd.{first_chunks}
 use Rattle.numbers.specs.Lists.{tabulate}
 use Rattle.numbers.proofs.Lists.{length_tabulate, get_or_tabulate, tabulate_snoc}
 use Rattle.stack.specs.Stack.{Pair, pair, p_at, q_at}
@@ -56,6 +58,28 @@ pairs_in_more xs j =
 pub pairs_in_length : (xs : List ℕ) (n : ℕ) → length (pairs_in xs n) ≡ n
 unfolding pairs_in
 pairs_in_length xs n = length_tabulate n 0 (λ j. pair (get_or xs (2 * j) 0) (get_or xs (2 * j + 1) 0))
+
+-- std's chunks of two are the pairs
+chunk_at : (n k i : ℕ) (xs : List ℕ) (d : List ℕ) → i < k → get_or (first_chunks n k xs) i d ≡ take n (drop (i * n) xs)
+chunk_at n zero i xs d h = absurd (omega arith)
+chunk_at n (suc k) zero xs d h = rw zero-mul
+chunk_at n (suc k) (suc i) xs d h =
+    let e : n + i * n ≡ suc i * n = rw suc-mul (omega arith) in
+    chunk_at n k i (drop n xs) d (omega arith) ∙ ap (take n) (drop-drop (i * n) n xs ∙ rw e)
+
+module _ (xs : List ℕ) (n j : ℕ) (cs : List (List ℕ)) (long : length xs ≡ 64) (is : cs ≡ first_chunks 2 (length xs / 2) xs) (few : n ≤ 32) (more : j < length (take n cs)) where
+  pub chunk_less : j < n
+  chunk_less = omega (arith, more, length-take n cs)
+
+  chunk_places : (i : ℕ) → i < 2 → get_or (get_or (take n cs) j []) i 0 ≡ get_or xs (j * 2 + i) 0
+  chunk_places i h =
+      rw (get_or-take n cs j [] chunk_less, is, long, chunk_at 2 32 j xs [] (omega (arith, chunk_less)), get_or-take 2 (drop (j * 2) xs) i 0 h, get_or-drop (j * 2) xs i 0)
+
+  pub chunk_p : get_or (get_or (take n cs) j []) 0 0 ≡ get_or xs (2 * j) 0
+  chunk_p = let place : j * 2 + 0 ≡ 2 * j = omega arith in rw (← place) (chunk_places 0 (omega arith))
+
+  pub chunk_q : get_or (get_or (take n cs) j []) 1 0 ≡ get_or xs (2 * j + 1) 0
+  chunk_q = let place : j * 2 + 1 ≡ 2 * j + 1 = omega arith in rw (← place) (chunk_places 1 (omega arith))
 
 pairs_in_rest : (xs : List ℕ) (n j : ℕ) → j < n →
     drop j (pairs_in xs n) ≡ pair (get_or xs (2 * j) 0) (get_or xs (2 * j + 1) 0) ∷ drop (j + 1) (pairs_in xs n)

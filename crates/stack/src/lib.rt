@@ -4,13 +4,12 @@
 ghost use Rattle.std.specs.Prelude.{◌≡◌, [], ◌∷◌, ◌++◌, ◌-◌, ◌≤◌, ◌<◌, get_or, OnOk};
 ghost use Rattle.std.specs.Result.{result_err};
 ghost use Rattle.stack.specs.Stack.{pair, free, held, reach};
-ghost use Rattle.stack.specs.Value.{columns, strip_of, channel_of, stack_of};
+ghost use Rattle.stack.specs.Value.{columns, strip_of, channel_of};
 ghost use Rattle.stack.specs.Made.{
   strip_made,
   not_above,
   pair_fault,
   IsTerminalsMade,
-  bare,
   IsStackMade,
   StripSet,
   ChannelSet,
@@ -100,6 +99,9 @@ impl Strip {
 }
 
 // The terminals of a channel's pairs: pair j joins lower[j] to upper[j]; places from count on are unused.
+// Two arrays and not one of pairs: limits are worked out and order is tested an edge at a time (`narrowed` in channel, `is_not_above`). Document 01 names terminals
+// as arrays by value, and nothing is allocated, so they have 32 places and their count. That the count is at most 32 is asked in contracts: an invariant of the type
+// would ask more of callers (`set_terminals` takes any terminals).
 #[derive(Clone, Copy)]
 pub struct Terminals {
     pub lower: [Columns; Terminals::MAX_PAIRS],
@@ -175,6 +177,8 @@ impl Terminals {
     }
 
     // The pairs of terminals that stand in the order p(0), q(0), p(1), q(1) and so on, on strips of these lengths.
+    // `lower` and `upper` stay two parameters: they are lengths here and positions in feasibility and plot, which one struct would not tell apart, and each is used
+    // alone, `lower` with p and `upper` with q.
     #[tactic(auto, using(crate::proofs::Found::making))]
     pub fn new(
         values: &[u32; 2 * Terminals::MAX_PAIRS],
@@ -188,8 +192,9 @@ impl Terminals {
             return Err(TerminalsFault::Crowd);
         }
         let mut terminals = Terminals::none();
-        for j in 0..pairs {
-            terminals.push(values[2 * j], values[2 * j + 1], lower, upper)?;
+        let (all, _) = values.as_chunks::<2>();
+        for [p, q] in &all[..pairs] {
+            terminals.push(*p, *q, lower, upper)?;
         }
         Ok(terminals)
     }
@@ -205,6 +210,10 @@ fn is_not_above(before: &[Columns; Terminals::MAX_PAIRS], n: usize, x: u32) -> b
 }
 
 // k channels and k + 1 strips, strip 0 at the bottom; of each channel its terminals and its floor. Places past them are unused.
+// Document 01 names an array over the channels, and nothing is allocated, so there are as many places as a stack may have, with the count of channels.
+// `floors` stands beside `channels`, since a session, which has no floors, hands its channels over as they are (`Session::stack`).
+// That a stack is within the limits (`within_limits`), or its count within its own, is asked in contracts: an invariant of the type would ask more of callers
+// (`set_strip` and its like take stacks that are not within the limits, and the fields are public, so that any count can be put).
 #[derive(Clone, Copy)]
 pub struct Stack {
     pub count: usize,
@@ -278,4 +287,12 @@ impl Stack {
     {
         self.floors[i] = floor;
     }
+}
+
+// A placement of a stack's strips: its total, its separations from channel 1 up, its positions from strip 0 up; zeros in unused places. Document 01 has both by value.
+#[derive(Clone, Copy)]
+pub struct Placement {
+    pub total: Tracks,
+    pub separations: [Tracks; Stack::MAX_CHANNELS],
+    pub positions: [Columns; Stack::STRIPS],
 }

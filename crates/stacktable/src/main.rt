@@ -1,4 +1,4 @@
-// The program stacktable: the function of crate program, whose answer is the exit status, 0, 1 or 2.
+// The program stacktable: the function of crate program, whose answer is a `Status`; its number, 0, 1 or 2, is the exit status.
 #![tactic(auto)]
 
 ghost use Rattle.std.specs.Prelude.{◌≤◌};
@@ -6,6 +6,7 @@ ghost use Rattle.std.specs.Prelude.{◌≤◌};
 use program::run;
 use std::process::ExitCode;
 
+// A number, since it is the exit status that the system is handed.
 pub fn stacktable_run(rt: &HostRuntime) -> u32
     ensures { result ≤ 2 }
 {

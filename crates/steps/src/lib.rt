@@ -7,7 +7,7 @@ ghost use Rattle.lines.specs.Numbers.{in_places};
 ghost use Rattle.steps.specs.Steps.{word_line, is_line, length_kind, list_kind, length_in};
 ghost use Rattle.steps.specs.Parts.{IsStepLineRead};
 
-use lines::{KEPT, Line, is_word};
+use lines::{KEPT, Line};
 use text::{Counts, read_kind};
 
 // What a line of a step is behind another: the first line of a step, or the first two, with the length of the second; or the last, which makes the step whole,
@@ -23,7 +23,7 @@ pub enum StepLine {
 }
 
 // The first line of a step, if it is one.
-#[tactic(auto, unfolding(crate::specs::Steps::word_line, crate::specs::Steps::begin_word, crate::specs::Steps::add_word, crate::specs::Steps::off_word, lines::specs::Lines::line))]
+#[tactic(auto, using(lines::proofs::Digits::same_pointwise), unfolding(crate::specs::Steps::word_line, crate::specs::Steps::begin_word, crate::specs::Steps::add_word, crate::specs::Steps::off_word, lines::specs::Lines::line))]
 fn word_line(line: Line) -> Option<StepLine>
     ensures { result ≡ word_line (line_of line.entry) }
 {
@@ -31,19 +31,20 @@ fn word_line(line: Line) -> Option<StepLine>
         return None;
     }
     // A match on these byte strings was tried, and the proof did not close.
-    if is_word(line.bytes, b"BEGIN") {
+    if line.bytes == b"BEGIN".as_slice() {
         return Some(StepLine::BeginPart);
     }
-    if is_word(line.bytes, b"ADD") {
+    if line.bytes == b"ADD".as_slice() {
         return Some(StepLine::AddPart);
     }
-    if is_word(line.bytes, b"OFF") {
+    if line.bytes == b"OFF".as_slice() {
         return Some(StepLine::Off);
     }
     None
 }
 
 // The length of a PART line with a length alone, if it is one by its layout.
+// That a line has at most 8,192 bytes, as a text has, and that the places are zeros is asked in contracts: types with these invariants would ask more of callers.
 fn part_length(line: Line) -> Option<u32>
     requires { length line.bytes.now ≤ 8192 }
     ensures { result ≡ cond (is_line length_kind (line_of line.entry)) (Some (length_in (line_of line.entry))) None }

@@ -9,7 +9,7 @@ use Rattle.stack.specs.Limits.{within_limits}
 use Rattle.stack.specs.Value.{stack_of, tracks_of}
 use Rattle.stack.specs.declared.Stack.{Stack as StackStruct}
 use Rattle.stack.proofs.Within.{stack_channels, strips_count, few_channels}
-use Rattle.solver.specs.declared.Placement.{Placement}
+use Rattle.stack.specs.declared.Placement.{Placement}
 use Rattle.answer.specs.Solve.{answer_separations, answer_positions}
 use Rattle.answer.specs.Arrays.{AnswerIs}
 use Rattle.answer.proofs.Alone.{legal_lengths}

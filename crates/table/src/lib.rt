@@ -15,12 +15,11 @@ use answer::fill_held;
 use arrays::{Given, SpanTable, StripSpans};
 use extent::{first_spread, last_position, lengths_sum};
 use rows::{evaluate, place_row};
-use solver::Placement;
-use stack::Stack;
+use stack::{Placement, Stack};
 use writing::{put_head, put_row_at};
 
 // A spread, its least total, how far the spread may grow before a smaller total can be had, and where the text ends. Before the first row: the first spread, a
-// total above all, and a jump of 0.
+// total above all, and a jump of 0. That total is one more than any of use, and not None: the next cap is a track less, as behind any row.
 #[derive(Clone, Copy)]
 struct Walk {
     spread: u32,
@@ -34,11 +33,7 @@ fn put_placed(stack: &Stack, spread: u32, placement: &Placement, out: &mut [u8],
     requires { (at ≤ 2 ^ 32) × (within_limits (stack_of stack.now) ≡ true) × (first_spread (stack_of stack.now).strips ≤ spread) × AnswerIs (stack_of stack.now) spread placement.now }
     ensures { LinePutAt at (row_text (row_at (stack_of stack.now) spread)) out.old out.new result }
 {
-    let k = stack.count;
-    let total = placement.total;
-    let separations = placement.separations;
-    let positions = placement.positions;
-    put_row_at(out, at, k, spread, total.0, &separations, &positions)
+    put_row_at(out, at, stack.count, spread, *placement)
 }
 
 // The next event's spread, with its row if the total falls there.

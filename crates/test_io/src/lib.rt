@@ -16,20 +16,18 @@ pub struct Scan {
 fn to_digit(text: &[u8], from: usize) -> usize
     ensures { from ≤ result }
 {
-    for at in from..text.len() {
-        if text[at].is_ascii_digit() {
-            return at;
-        }
-    }
-    from.max(text.len())
+    (from..text.len())
+        .find(|at| text[*at].is_ascii_digit())
+        .unwrap_or(from.max(text.len()))
 }
 
-// The next number of a text, of which the last nine digits count.
+// The next number of a text, of which the last nine digits count, so that every text is answered: `parse` refuses a number that is too long.
 pub fn next_number(text: &[u8], from: usize) -> Scan
     ensures { from ≤ result.at }
 {
     let start = to_digit(text, from);
     let mut value: u32 = 0;
+    // Each digit changes the value, and the first byte that is none ends it: its place is answered too, which a fold of the digits would have to count.
     for at in start..text.len() {
         let byte = text[at];
         if !byte.is_ascii_digit() {

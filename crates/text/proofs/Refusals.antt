@@ -8,7 +8,7 @@ use native.Mathlib.Omega.{arith}
 use lib.Dec.{eqb}
 use borrow.Author.Tests.{eqb-true, eqb-false, ne_eqb}
 use Rattle.text.specs.Text.{Refusal, refusal, fine, or_else, Check, in_turn}
-use Rattle.std.specs.Prelude.{Result, Ok, Err, is_ok, IsErrAnd}
+use Rattle.std.specs.Prelude.{Result, Ok, Err, IsErrAnd}
 use Rattle.std.proofs.lemmas.Result.{err_from_is_err_and}
 use Rattle.text.specs.Outcome.{number_of, refusal_of}
 use Rattle.text.specs.Kinds.{line_refusal}
@@ -54,15 +54,6 @@ pub or_else_next : (a b : Refusal) → a ≡ fine → or_else a b ≡ b
 unfolding or_else fine refusal
 or_else_next a b h = rw h
 
--- the second counts only where the first is none
-pub or_else_same : (a b c : Refusal) → (a.number ≡ 0 → b ≡ c) → or_else a b ≡ or_else a c
-unfolding or_else
-or_else_same a b c h = go (eqb a.number 0) refl
-  where
-    go : (v : Bool) → eqb a.number 0 ≡ v → cond v b a ≡ cond v c a
-    go true e = h (eqb-true a.number 0 e)
-    go false e = refl
-
 pub or_else_assoc : (a b c : Refusal) → or_else a (or_else b c) ≡ or_else (or_else a b) c
 unfolding or_else
 or_else_assoc a b c = go (eqb a.number 0) refl
@@ -94,15 +85,6 @@ word_number Count h = omega arith
 word_number IllFormed h = omega arith
 word_number Empty h = omega arith
 word_number Inverted h = omega arith
-
-pub refused_number : {A : Type 0} (o : Result A RefusedStruct) → is_ok o ≡ false → (refusal_of o).number ≡ 0 → ⊥
-unfolding refusal fine
-refused_number (Ok a) h z = cc
-refused_number (Err r) h z = word_number r.why z
-
-pub accepted_fine : {A : Type 0} (o : Result A RefusedStruct) → is_ok o ≡ true → refusal_of o ≡ fine
-accepted_fine (Ok a) h = refl
-accepted_fine (Err r) h = cc
 
 pub number_fine : {A : Type 0} (o : Result A RefusedStruct) → (refusal_of o).number ≡ 0 → refusal_of o ≡ fine
 unfolding refusal fine

@@ -1,7 +1,7 @@
 // The refusals of documents 01 and 02 with their lines and fields, and the layout of a line of any kind.
 #![tactic(auto)]
 
-ghost use Rattle.std.specs.Prelude.{◌≡◌, ◌^◌, ◌≤◌, ◌<◌, length, replicate, IfSome};
+ghost use Rattle.std.specs.Prelude.{◌≡◌, true, ◌^◌, ◌≤◌, ◌<◌, length, replicate, IfSome};
 ghost use Rattle.lines.specs.Lines.{line_of};
 ghost use Rattle.lines.specs.Numbers.{field_if_any};
 ghost use Rattle.text.specs.Text.{exactly, one_or_three, in_pairs, misplaced};
@@ -40,7 +40,7 @@ impl Refusal {
     }
 }
 
-// A refusal at its line and field, both from 1, and 0 where it concerns none.
+// A refusal at its line and field, both from 1, and 0 where it concerns none: document 01 has line 0 and field 0 there, and they are printed.
 #[derive(Clone, Copy, Debug, PartialEq, Eq)]
 pub struct Refused {
     pub why: Refusal,
@@ -116,21 +116,13 @@ impl Counts {
     }
 }
 
-// The layout of line n: whether it has its word, then the field at which its count of numbers is at fault, then the first that is no number.
+// The layout of line n behind its word: the field at which its count of numbers is at fault, then the first that is no number.
 #[tactic(auto, unfolding(crate::specs::Kinds::layout_found, crate::specs::Text::or_else, crate::specs::Text::fine, crate::specs::Text::refusal))]
-fn test_layout(
-    worded: bool,
-    fault: Option<usize>,
-    ill: Option<usize>,
-    n: u32,
-) -> Result<(), Refused>
+fn test_layout(fault: Option<usize>, ill: Option<usize>, n: u32) -> Result<(), Refused>
     requires fault_small { IfSome fault (λ field. field < 2 ^ 32) }
     requires ill_small { IfSome ill (λ field. field < 2 ^ 32) }
-    ensures { refusal_of result ≡ layout_found worded fault ill n }
+    ensures { refusal_of result ≡ layout_found true fault ill n }
 {
-    if !worded {
-        return Err(Refused::new(Refusal::Layout, n, 0));
-    }
     if let Some(field) = fault {
         return Err(Refused::new(Refusal::Count, n, field as u32));
     }
@@ -144,10 +136,12 @@ fn test_layout(
 pub fn test_count(counts: Counts, count: u16, n: u32) -> Result<(), Refused>
     ensures { refusal_of result ≡ misplaced 11 n 0 (fault_of counts count) }
 {
-    test_layout(true, counts.fault(usize::from(count)), None, n)
+    test_layout(counts.fault(usize::from(count)), None, n)
 }
 
 // Line n as a line of a kind, by its word and how many numbers it may have: how many it has. The first numbers come into these places, which are zeros before.
+// That a line has at most 8,192 bytes, as a text has, and that the places are zeros, is asked in the contract: types with these invariants would ask more of callers.
+// A line and its number stay two parameters: the number is told in refusals alone; `read_line` has a line without one, and `test_count` a number without a line.
 pub fn read_kind(
     line: Line,
     n: u32,
@@ -159,6 +153,10 @@ pub fn read_kind(
     ensures { IsKindRead word.now (λ c. fault_of counts c) n (line_of line.entry) result values.new }
 {
     let read = read_line(line, word, values);
-    test_layout(read.worded, counts.fault(read.count), read.ill, n)?;
+    let fault = counts.fault(read.count);
+    if !read.worded {
+        return Err(Refused::new(Refusal::Layout, n, 0));
+    }
+    test_layout(fault, read.ill, n)?;
     Ok(read.count)
 }

@@ -1,7 +1,7 @@
 // A track's row of characters: the points of each path on it, by the column at which the path comes to the track and the column at which it leaves.
 #![tactic(auto)]
 
-ghost use Rattle.std.specs.Prelude.{◌≡◌, false, ◌*◌, ◌≤◌, ◌<◌, length, get_or};
+ghost use Rattle.std.specs.Prelude.{◌≡◌, false, ◌<◌, length, get_or};
 ghost use Rattle.numbers.specs.Lists.{tabulate};
 ghost use Rattle.page.specs.Page.{arms_character};
 ghost use Rattle.page.specs.Arrivals.{drawn, painted};
@@ -24,7 +24,7 @@ const NEITHER: Arms = Arms {
     down: false,
 };
 
-// The character for each set of arms of a point on a path: left 1, right 2, up 4, down 8.
+// The character for each set of arms of a point on a path: left 1, right 2, up 4, down 8. A table of sixteen, as document 02 names it.
 const CHARACTERS: [u8; 16] = *b"ooo-o++#o++#|###";
 
 // Document 02, P1: the character of a point on a path by its arms.
@@ -84,7 +84,8 @@ fn put_uprights(row: &mut [u8], columns: &[u8; EIGHT], character: u8)
     }
 }
 
-// Eight paths; where all of them only pass upward, one character each.
+// Eight paths; where all of them only pass upward, one character each. With `put_paths` alone a page on which paths run side by side takes 33,034 instructions for 29,846, one of
+// stairs 41,016 for 40,132.
 fn put_eight(row: &mut [u8], starts: &[u8; EIGHT], ends: &[u8; EIGHT], arms: Arms)
     requires { RowAsks row.old starts.now ends.now }
     ensures { row.new ≡ tabulate 64 0 (λ c. painted (λ j. get_or starts.now j 0) (λ j. get_or ends.now j 0) arms.up arms.down 8 c (get_or row.old c 0)) }
@@ -96,7 +97,9 @@ fn put_eight(row: &mut [u8], starts: &[u8; EIGHT], ends: &[u8; EIGHT], arms: Arm
     }
 }
 
-// The characters of a track on which each path is from its column in starts to its column in ends.
+// The characters of a track on which each path is from its column in starts to its column in ends. The row is a part of a line of the page, so a slice that is asked to
+// have 64 bytes: an array would come of it by `as_mut_array` as an option, whose `None` never comes. Starts and ends are parts of two arrays, since one track's starts
+// are the ends of the track below.
 pub fn put_row(row: &mut [u8], starts: &[u8], ends: &[u8], arms: Arms)
     requires { RowAsks row.old starts.now ends.now }
     ensures { row.new ≡ tabulate 64 0 (λ c. painted (λ j. get_or starts.now j 0) (λ j. get_or ends.now j 0) arms.up arms.down (length starts.now) c 46) }

@@ -70,7 +70,7 @@ fn are_channels_feasible(
     })
 }
 
-// Document 01, "Choosing among equals": the trial.
+// Document 01, "Choosing among equals": the trial. Separations and positions are two arguments there, and so here.
 #[tactic(auto, using(stack::proofs::Within::few_channels, crate::proofs::Verdict::legal_parts))]
 pub fn is_placement_legal(
     stack: &Stack,

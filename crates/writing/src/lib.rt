@@ -13,7 +13,7 @@ ghost use Rattle.writing.specs.Output.{
 };
 
 use itoa::Buffer;
-use stack::{Columns, Stack, Tracks};
+use stack::Placement;
 use std::marker::Model;
 
 const TAB: u8 = b'\t';
@@ -124,23 +124,16 @@ pub fn put_head(out: &mut [u8], k: usize) -> usize
     put_line(out, line.as_slice())
 }
 
-// A row over the output's first bytes, where there is space for it; its length. The total is the separations' sum.
-pub fn put_row(
-    out: &mut [u8],
-    k: usize,
-    spread: u32,
-    total: u32,
-    separations: &[Tracks; Stack::MAX_CHANNELS],
-    positions: &[Columns; Stack::STRIPS],
-) -> usize
-    requires { RowAsks k total separations.now }
-    ensures { LinePut (row_text (row_of k spread separations.now positions.now)) out.old out.new result }
+// The row of a placement of k channels over the output's first bytes, where there is space for it; its length. The total is the separations' sum.
+pub fn put_row(out: &mut [u8], k: usize, spread: u32, placement: Placement) -> usize
+    requires { RowAsks k placement.total.0 placement.separations }
+    ensures { LinePut (row_text (row_of k spread placement.separations placement.positions)) out.old out.new result }
 {
     let mut line: Line<LINE_BYTES> = Line::new();
     line.push_word(b"ROW");
-    line.push_tabbed(&[spread, total]);
-    line.push_tabbed(&separations.map(|t| t.0)[..k]);
-    line.push_tabbed(&positions.map(|x| x.0)[..k + 1]);
+    line.push_tabbed(&[spread, placement.total.0]);
+    line.push_tabbed(&placement.separations.map(|t| t.0)[..k]);
+    line.push_tabbed(&placement.positions.map(|x| x.0)[..k + 1]);
     line.push(LINE_FEED);
     put_line(out, line.as_slice())
 }
@@ -169,20 +162,12 @@ pub fn put_refusal(out: &mut [u8], number: u32, line: u32, field: u32) -> usize
 }
 
 // A row directly behind the line that ends at a place: the output's part from there on is lent on to the row's writer. Where the row ends, space or not.
-pub fn put_row_at(
-    out: &mut [u8],
-    at: usize,
-    k: usize,
-    spread: u32,
-    total: u32,
-    separations: &[Tracks; Stack::MAX_CHANNELS],
-    positions: &[Columns; Stack::STRIPS],
-) -> usize
-    requires { (at ≤ 2 ^ 32) × RowAsks k total separations.now }
-    ensures { LinePutAt at (row_text (row_of k spread separations.now positions.now)) out.old out.new result }
+pub fn put_row_at(out: &mut [u8], at: usize, k: usize, spread: u32, placement: Placement) -> usize
+    requires { (at ≤ 2 ^ 32) × RowAsks k placement.total.0 placement.separations }
+    ensures { LinePutAt at (row_text (row_of k spread placement.separations placement.positions)) out.old out.new result }
 {
     let from = at.min(out.len());
-    at + put_row(&mut out[from..], k, spread, total, separations, positions)
+    at + put_row(&mut out[from..], k, spread, placement)
 }
 
 // Zeros from a place on.

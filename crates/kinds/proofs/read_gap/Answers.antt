@@ -1,5 +1,6 @@
 -- read_gap meets its contract. Assumes nothing.
 use Rattle.std.proofs.lemmas.Result.{err_from_is_err_and}
+use Rattle.std.specs.Prelude.{unwrap_or}
 use Rattle.lines.specs.Lines.{line_of}
 use Rattle.text.specs.Text.{gap_word}
 use Rattle.kinds.proofs.Gaps.{gap_ill, gap_there}
@@ -9,8 +10,8 @@ pub returns-in_err-read_kind : goal.returns-in_err-read_kind
 unfolding gap_word
 returns-in_err-read_kind c =
     let p = err_from_is_err_and c.from_residual.result c.from_residual.ensures.1 in
-    rw (p.1, p.2) (gap_ill c.args.k c.args.before c.args.n (line_of c.args.line) _ _ c.in_err-read_kind.ensures)
+    rw (p.1, p.2) (gap_ill c.args.k (unwrap_or c.args.before 0) c.args.n (line_of c.args.line) _ _ c.in_err-read_kind.ensures)
 
 pub returns : goal.returns
 unfolding gap_word
-returns c = gap_there c.args.k c.args.before c.args.n (line_of c.args.line) _ _ c.in_ok-read_kind.ensures c.gap_content.result c.gap_content.ensures.outcome c.gap_content.ensures.content
+returns c = gap_there c.args.k (unwrap_or c.args.before 0) c.args.n (line_of c.args.line) _ _ c.in_ok-read_kind.ensures c.gap_content.result c.gap_content.ensures.outcome c.gap_content.ensures.content

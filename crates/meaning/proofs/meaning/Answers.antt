@@ -1,4 +1,5 @@
--- Each arm's text is, by computation, the meaning of its refusal. Assumes nothing.
+-- Each arm's text is, by computation, the meaning of its refusal. One answer for each: a tactic on the function that unfolds both definitions, and with a lemma that
+-- puts one variant for another, was tried and leaves all fourteen open. Assumes nothing.
 use Rattle.meaning.specs.Meaning.{bytes, meaning}
 use Rattle.meaning.proofs.meaning.Goals as goal
 

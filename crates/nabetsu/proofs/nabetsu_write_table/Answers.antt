@@ -1,10 +1,8 @@
 -- nabetsu_write_table meets its contract. Assumes nothing.
-use mathlib.Core.Path.{refl}
-use Rattle.std.specs.Prelude.{Ok}
-use Rattle.text.specs.Text.{refusal, fine}
-use Rattle.nabetsu.specs.Entry.{code}
+use Rattle.reply.specs.Told.{written_in}
+use Rattle.std.proofs.Common.{rules}
+use Rattle.nabetsu.proofs.Codes.{answer_coded}
 use Rattle.nabetsu.proofs.nabetsu_write_table.Goals as goal
 
-pub returns-in-Ok : goal.returns-in-Ok
-unfolding code fine refusal
-returns-in-Ok c = record { answer = Ok c.in-Ok.written; says = c.in-Ok.ensures.table_says; coded = refl }
+pub returns : goal.returns
+returns c = record { answer = c.write_table.result; says = c.write_table.ensures.table_says; coded = answer_coded written_in c.write_table.result _ _ _ c.map_or_else.ensures (λ x p. search rules) (λ e q v. search rules) }

@@ -1,16 +1,17 @@
-use Rattle.std.proofs.Common.{◌≡◌, ◌+◌, arith}
-use borrow.Author.Tests.{le-leb, lt-leb}
-use Rattle.arrays.proofs.Searches.{opening_start, searching_hit, searching_miss, searching_end}
+-- least_open meets its contract: what is found is the first open separation. Assumes nothing.
+use Rattle.std.proofs.Common.{rules, tests, refl, ◌+◌, suc, ◌∙◌, arith}
+use Rattle.std.proofs.lemmas.Iterator.{YieldsList-from_range}
+use Rattle.std.proofs.lemmas.Iterator.Search.{find_from_yields_List}
+use Rattle.spans.specs.Solver.{opens, first_open}
+use Rattle.arrays.specs.Arrays.{low_in, high_in}
+use Rattle.arrays.proofs.Searches.{found_first}
 use Rattle.plan.proofs.least_open.Goals as goal
 
-pub loop-q-init : goal.loop-q-init
-loop-q-init c = opening_start _ _ _
-
-pub returns-then-limits-q : goal.returns-then-limits-q
-returns-then-limits-q c = searching_hit _ _ _ _ c.loop-q.invariant (omega arith) (le-leb _ _ c.if-limits-q.true)
-
-pub loop-q-preserved : goal.loop-q-preserved
-loop-q-preserved c = searching_miss _ _ _ _ c.loop-q.invariant (omega arith) (lt-leb _ _ c.if-limits-q.false)
-
 pub returns : goal.returns
-returns c = let e : c.args.last + 1 ≡ c.loop-q.q = omega arith in rw e (searching_end _ _ _ _ c.loop-q.invariant (omega arith))
+unfolding first_open
+returns c =
+    let a = c.args in
+    c.unwrap_or.ensures
+    ∙ found_first (opens (low_in a.limits.now) (high_in a.limits.now)) 0 (suc a.last) (a.last + 1) c.find.result
+    (find_from_yields_List (opens (low_in a.limits.now) (high_in a.limits.now)) _ _ _ c.find.ensures.ran (YieldsList-from_range 0 (a.last + 1) (suc a.last) refl (omega arith)) (λ x b q k. search (rules, tests)))
+    (omega arith)

@@ -1,6 +1,6 @@
--- At every turn a line more is read, and what is held steps have made. Assumes nothing.
+-- At every turn the next line begins among what is read, and what is held steps have made. Assumes nothing.
 use Rattle.program.specs.Input.{Running}
 use Rattle.program.proofs.run_steps.Given as goal
 
 abbrev pub invariant-loop-n : goal.invariant-loop-n
-invariant-loop-n g l = Running l.text l.replay l.at l.length
+invariant-loop-n l = Running l.space.filled l.replay l.at

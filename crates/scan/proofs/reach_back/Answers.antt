@@ -1,16 +1,20 @@
-use Rattle.std.proofs.Common.{◌-◌, refl, arith}
-use Rattle.arrays.specs.Arrays.{bias, low_in, high_in, span_at}
-use Rattle.scan.proofs.Scanning.{stretching_raised, stretching_ends}
+-- reach_back meets its contract: the ends are stretched by separation after separation. Assumes nothing.
+use Rattle.std.proofs.iter.Serving.{serving}
+use Rattle.std.proofs.Common.{rules, ◌-◌, refl}
+use Rattle.std.proofs.lemmas.Iterator.{YieldsList-from_range}
+use Rattle.std.proofs.lemmas.Iterator.Consumers.{fold_from_yields_List}
+use Rattle.scan.proofs.Scanning.{folds_over_range, asked_at, stretched, ends_folded}
 use Rattle.scan.proofs.reach_back.Goals as goal
 
-pub loop-q-preserved : goal.loop-q-preserved
-loop-q-preserved c =
+pub fold-requires-clause-callable : goal.fold-requires-clause-callable
+fold-requires-clause-callable c =
     let a = c.args in
-    let b = c.loop-q in
-    stretching_raised bias (low_in a.limits.now) (high_in a.limits.now) (λ q. span_at a.spans.now (a.v - q)) a.stop b.q (b.e.near - bias) b.e.reach _ _ b.invariant b.e.near c.stretch-e.result.near c.stretch-e.result.reach c.loop-q-test.true refl (rw c.at.ensures at c.stretch-e.ensures.near) (rw c.at.ensures at c.stretch-e.ensures.reach)
+    let e = c.requires.ends in
+    folds_over_range (λ p x q k. search rules) (λ r x l h. let asked = asked_at a.limits.now a.spans.now a.v a.start a.stop x e l h in
+    (grind (serving, asked), grind (serving, asked), grind (serving, asked), grind (serving, asked), grind (serving, asked), grind (serving, asked), grind (serving, asked)))
 
 pub returns : goal.returns
 returns c =
     let a = c.args in
-    let e = stretching_ends bias (low_in a.limits.now) (high_in a.limits.now) (λ q. span_at a.spans.now (a.v - q)) a.stop c.loop-q.q _ _ _ _ c.loop-q.invariant (omega arith) in
-    record { small = omega arith; near_is = e.0; reach_is = e.1 }
+    ends_folded a.limits.now a.spans.now a.v a.start a.stop a.before c.fold.result c.requires.near
+    (fold_from_yields_List _ (stretched a.limits.now a.spans.now a.v) _ _ c.fold.ensures.ran (YieldsList-from_range a.start a.stop (a.stop - a.start) refl refl) (λ e q r g k. search rules))

@@ -8,7 +8,7 @@ overflow_cast-ts c = omega (arith, separation_small _ _ _ _ _ _ _ c.requires c.l
 
 pub loop-i-preserved : goal.loop-i-preserved
 loop-i-preserved c = rw map_set
-    (separating_step _ _ _ _ _ _ _ c.requires c.loop-i.invariant (omega arith) _ _ _ c.serving-q.ensures c.pass_on-s.ensures c.saturating_sub-v.ensures)
+    (separating_step _ _ _ _ _ _ _ c.requires c.loop-i.invariant (omega arith) _ _ _ c.serving-q.ensures (rw c.min.ensures at c.forward-s.ensures) c.saturating_sub-v.ensures)
 
 pub returns : goal.returns
 returns c =

@@ -1,9 +1,7 @@
--- single_outcome meets its contract. Assumes nothing.
-use Rattle.spread.proofs.Single.{narrow_told, wide_told}
+-- single_outcome meets its contract: the first spread of a single strip is its length. Assumes nothing.
+use mathlib.Core.Path.{sym, ◌∙◌}
+use Rattle.spread.proofs.Single.{narrow_one}
 use Rattle.spread.proofs.single_outcome.Goals as goal
 
-pub returns-then-spread-strip : goal.returns-then-spread-strip
-returns-then-spread-strip c = rw c.new.ensures (narrow_told _ _ c.if-spread-strip.true)
-
 pub returns : goal.returns
-returns c = wide_told _ _ c.if-spread-strip.false
+returns c = c.narrow_outcome.ensures ∙ sym (narrow_one _ _)

@@ -13,7 +13,7 @@ pub overflow_add-widest : goal.overflow_add-widest
 overflow_add-widest c = omega (arith, sum_widest c.args.stack.now c.last_position.result c.lengths_sum.result c.last_position.ensures.is c.lengths_sum.ensures, widest_small (stack_of c.args.stack.now) c.requires)
 
 pub loop-w-init : goal.loop-w-init
-loop-w-init c = let held = c.fill_held.ensures in
+loop-w-init c = let held = c.fill_held.ensures.held in
     let fits = spread_fits (stack_of c.args.stack.now) c.first_spread-first.result c.requires c.first_spread-first.ensures.is in
     let most = total_capped c.args.stack.now c.first_spread-first.result _ fits (omega (arith, c.first_spread-first.ensures.is)) held in
     record {

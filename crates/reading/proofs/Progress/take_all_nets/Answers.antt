@@ -1,18 +1,26 @@
 use Rattle.std.proofs.lemmas.Result.{err_from_is_err_and}
 use native.Mathlib.Omega.{arith}
+use Rattle.reading.specs.Driver.{Wiring}
+use Rattle.reading.proofs.Stages.{same_text}
 use Rattle.reading.proofs.Whole.{nets_start, nets_step, nets_refuse, nets_end}
 use Rattle.reading.proofs.Progress.take_all_nets.Goals as goal
 
 pub loop-c-init : goal.loop-c-init
-loop-c-init c = nets_start c.args.text.now c.args.self.now c.requires
+loop-c-init c = nets_start c.args.self.now.text.now c.args.self.now c.requires
+
+pub take_nets-requires : goal.take_nets-requires
+take_nets-requires c = let m = c.loop-c.invariant in (same_text (λ bs. Wiring bs c.loop-c.c c.loop-c.self) _ _ m.going.text m, omega (arith, m.going.count, c.requires.count, c.loop-c-test.true))
 
 pub returns-in_err-take_nets : goal.returns-in_err-take_nets
 returns-in_err-take_nets c =
     let p = err_from_is_err_and c.from_residual.result c.from_residual.ensures.1 in
-    rw (p.1, p.2) (nets_refuse c.args.text.now c.loop-c.c c.loop-c.self c.loop-c.invariant _ (omega (arith, c.requires.count)) _ c.in_err-take_nets.ensures)
+    let m = c.loop-c.invariant in
+    rw (p.1, p.2) (nets_refuse c.args.self.now.text.now c.loop-c.c c.loop-c.self m _ (omega (arith, c.requires.count)) _ (rw m.going.text at c.in_err-take_nets.ensures))
 
 pub loop-c-preserved : goal.loop-c-preserved
-loop-c-preserved c = nets_step c.args.text.now c.loop-c.c c.loop-c.self c.loop-c.invariant _ (omega (arith, c.requires.count)) _ c.in_ok-take_nets.ensures
+loop-c-preserved c =
+    let m = c.loop-c.invariant in
+    nets_step c.args.self.now.text.now c.loop-c.c c.loop-c.self m _ (omega (arith, c.requires.count)) _ (rw m.going.text at c.in_ok-take_nets.ensures)
 
 pub returns : goal.returns
-returns c = nets_end c.args.text.now c.loop-c.c c.loop-c.self c.loop-c.invariant (omega (arith, c.requires.count))
+returns c = nets_end c.args.self.now.text.now c.loop-c.c c.loop-c.self c.loop-c.invariant (omega (arith, c.requires.count))

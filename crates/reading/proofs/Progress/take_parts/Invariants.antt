@@ -3,4 +3,4 @@ use Rattle.reading.specs.Driver.{Parting}
 use Rattle.reading.proofs.Progress.take_parts.Given as goal
 
 abbrev pub invariant-loop-i : goal.invariant-loop-i
-invariant-loop-i l = Parting l.text l.i l.self
+invariant-loop-i l = Parting l.initial.self.text.now l.i l.self
