@@ -27,7 +27,7 @@ use Rattle.spans.specs.Spans.{span, nonempty}
 use Rattle.spans.specs.declared.Span.{Span}
 use Rattle.spans.specs.Solver.{level, most, back, least_total}
 use Rattle.spans.proofs.Total.{span_from_least}
-use Rattle.plan.specs.Plan.{LastsAsk, Planned}
+use Rattle.plan.specs.Plan.{LastsAsk}
 use Rattle.scan.specs.Scan.{ScanAsks, ScanIs}
 use Rattle.scan.specs.declared.Scan.{Scan}
 use Rattle.scan.proofs.Tables.{sized_zeros, zeros_empty}
@@ -37,7 +37,6 @@ use Rattle.arrays.proofs.Levels.{most_small, most_fewer, above_at}
 use Rattle.arrays.specs.Arrays.{bias, entry, low_of, high_of, last_of, window_of, limits_from, level_of, levels, Sized, span_in, PlanIs, StackAsks, Filled, InBand, Banded}
 use Rattle.arrays.specs.declared.ChannelLimits.{ChannelLimits}
 use Rattle.arrays.specs.declared.Given.{Given}
-use Rattle.arrays.specs.declared.Plan.{Plan}
 use Rattle.arrays.specs.declared.StripSpans.{StripSpans}
 use Rattle.separations.specs.Separations.{SeparateAsks}
 use Rattle.solver.specs.Placing.{separations_of, PlaceAsks, PlacementIs}
@@ -269,9 +268,6 @@ module _ (k : StackStruct) (limits : List ChannelLimits) (lasts : List ℕ) (e :
             rw (stack_channel k i h, channel_length (get_or k.channels i no_terminals)) at (l.lasts_are i h) in
             omega (arith, few_pairs k e i h, small_floor k e i h);
       }
-
-  pub held_made : (plan : Plan) (windows : List Span) → Planned limits lasts k.count plan → Held k (record { limits = limits; plan = plan; windows = windows; channels = k.count })
-  held_made plan windows p = record { good = e; filled = rw p.kept l; planned = p.plan_is; counted = refl }
 
 -- limits and plan serve for every spread
 pub held_on : (k : StackStruct) (g : Given) (ws : List Span) → Held k g → Held k (with_windows g ws)

@@ -248,9 +248,6 @@ module _ (f : Refusal) (k : Stack) (s v : ℕ) (a : PlacementStruct) where
       go (suc m) e t = record { none_refused = fine_number f t.0; added = absurd (omega (arith, fine_number f t.0)) }
 
 -- THE PLACEMENT FOR A TOTAL
-pub placement_unput : (bs : List ℕ) (s v : ℕ) (o x : List ℕ) (e : RefusedStruct) → PlacementSays bs s v (Err e) → PlacementPut bs s v o x (Err e)
-placement_unput bs s v o x e says = record { answer = Err e; says = says; line = record { refused = refl; put = tt } }
-
 module _ (bs : List ℕ) (s v : ℕ) (a : PlacementStruct) (says : PlacementSays bs s v (Ok a)) where
   in_row : PlacedRow (spread_refusal bs s) (stack_in bs) a
   unfolding PlacementSays

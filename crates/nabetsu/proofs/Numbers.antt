@@ -20,7 +20,7 @@ use Rattle.stack.specs.Value.{tracks, columns, tracks_of, columns_of}
 use Rattle.stack.specs.declared.Tracks.{Tracks}
 use Rattle.stack.specs.declared.Columns.{Columns}
 use Rattle.writing.proofs.Rows.{array_mapped}
-use Rattle.stack.proofs.Values.{track_at, column_at, tracks_long, columns_long}
+use Rattle.stack.proofs.Values.{column_at, tracks_long, columns_long}
 use Rattle.text.specs.Text.{Refusal, refusal, fine, or_else, text_refusal, stack_in}
 use Rattle.text.specs.Outcome.{number_of, refused}
 use Rattle.text.specs.declared.Refused.{Refused}
@@ -104,12 +104,6 @@ front (x ∷ xs) ys zero h = refl
 front (x ∷ xs) ys (suc i) h = front xs ys i (omega arith)
 
 module _ (v : ℕ) (ts : List Tracks) (xs : List Columns) (sized : length ts ≡ 8) (sized_columns : length xs ≡ 9) where
-  pub number_track : (i : ℕ) → (i ≡ 0 → ⊥) → i ≤ 8 → (get_or ts (i - 1) (record { 0 = 0 })).0 ≡ get_or (v ∷ (tracks_of ts ++ columns_of xs)) i 0
-  number_track zero n h = absurd (n refl)
-  number_track (suc j) n h =
-      let e : suc j - 1 ≡ j = omega arith in
-      rw e (sym (track_at ts j) ∙ sym (front (tracks_of ts) (columns_of xs) j (omega (arith, tracks_long ts 8 sized))))
-
   pub number_column : (i : ℕ) → 8 < i → (get_or xs (i - 8 - 1) (record { 0 = 0 })).0 ≡ get_or (v ∷ (tracks_of ts ++ columns_of xs)) i 0
   number_column zero h = absurd (omega arith)
   number_column (suc j) h =
@@ -117,9 +111,6 @@ module _ (v : ℕ) (ts : List Tracks) (xs : List Columns) (sized : length ts ≡
       let e : j ≡ length (tracks_of ts) + n = omega (arith, tracks_long ts 8 sized) in
       let r : get_or (tracks_of ts ++ columns_of xs) j 0 ≡ get_or (columns_of xs) n 0 = ap (λ i. get_or (tracks_of ts ++ columns_of xs) i 0) e ∙ get_or-append-add (tracks_of ts) (columns_of xs) n 0 in
       sym (column_at xs n) ∙ sym r
-
-  pub number_past : (i : ℕ) → 18 ≤ i → 0 ≡ get_or (v ∷ (tracks_of ts ++ columns_of xs)) i 0
-  number_past i h = sym (get_or-eq_default (v ∷ (tracks_of ts ++ columns_of xs)) 0 {n = i} (omega (arith, length-append (tracks_of ts) (columns_of xs), tracks_long ts 8 sized, columns_long xs 9 sized_columns)))
 
 -- put one by one into an output
 pub numbers_put : (p : Placement) (n : ℕ) (o : List ℕ) → length o ≡ n → ((j : ℕ) → j < n → get_or o j 0 ≡ get_or (numbers_placed p) j 0) → o ≡ numbers_in n (Ok p)

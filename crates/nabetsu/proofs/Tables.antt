@@ -13,8 +13,6 @@ use Rattle.stack.specs.Stack.{Stack}
 use Rattle.stack.specs.Value.{stack_of}
 use Rattle.stack.specs.declared.Stack.{Stack as StackStruct}
 use Rattle.text.specs.Text.{Refusal, refusal, fine, text_refusal, stack_in}
-use Rattle.text.specs.Outcome.{number_of}
-use Rattle.text.specs.declared.Refused.{Refused}
 use Rattle.text.proofs.Refusals.{word_not_fine, fine_number}
 use Rattle.reading.proofs.Within.{accepted_within}
 use Rattle.rows.specs.Walk.{rows_of}
@@ -64,10 +62,6 @@ pub table_said : (bs : List ℕ) (r : TableResult) (o x : List ℕ) → Settled 
 unfolding TableSays Tabled table_in fine refusal
 table_said bs r o x (fits q p) = let w = accepted_within bs (fine_number (text_refusal bs) (sym q)) in rw q (rows_of (stack_in bs), rows_are (stack_in bs) w, p)
 table_said bs r o x (sent_back n t z) = tabled_refused (text_refusal bs).number (text_refusal bs) (stack_in bs) r o x n t z
-
--- the table of the stack that is read
-pub table_refused : (bs : List ℕ) (m : List ℕ) (e : Refused) → refusal (number_of e.why) e.line e.field ≡ text_refusal bs → TextPut (text_refusal bs) (table_in bs) m m (Err e)
-table_refused bs m e q = record { refused = q; counted = tt; written = tt }
 
 pub table_put : (bs : List ℕ) (k : StackStruct) (m : List ℕ) (n : ℕ) → StackRead bs (Ok k) → TablePut (stack_of k) m n → TextPut (text_refusal bs) (table_in bs) m m (Ok n)
 unfolding table_in

@@ -7,13 +7,13 @@ use Prim.Native.Nat.{ℕ, zero, suc, ◌+◌, ◌-◌, ◌≤◌, ◌<◌, min, 
 use native.Mathlib.Omega.{arith}
 use borrow.Author.Tests.{lt-ltb, le-ltb, le-leb, lt-leb}
 use lib.Dec.{ltb, leb}
-use lib.ListN.{length, get_or, set, replicate, length-set, length-replicate, get_or-replicate, get_or-eq_default}
+use lib.ListN.{length, get_or, set, replicate, length-replicate, get_or-replicate, get_or-eq_default}
 use lib.Seq.{get_or-set_same, get_or-set_other}
 use Rattle.numbers.specs.Lists.{tabulate}
 use Rattle.numbers.proofs.Lists.{get_or_tabulate, zeros_at}
 use Rattle.numbers.proofs.Orders.{le_or_lt, eq_or_not}
 use Rattle.stack.specs.Stack.{p_at}
-use Rattle.stack.specs.Value.{columns, channel_of}
+use Rattle.stack.specs.Value.{channel_of}
 use Rattle.stack.specs.declared.Terminals.{Terminals}
 use Rattle.stack.proofs.Values.{channel_length, channel_p_at, channel_q_at}
 use Rattle.stack.proofs.Rising.{rising_before}
@@ -25,7 +25,7 @@ use Rattle.plot.specs.declared.Levels.{Levels}
 use Rattle.plot.specs.Drawing.{passing, reached, track_drawn, ArrivalsShown, EndsAsk, LevelsFilled}
 use denote.Param.Members.{Mut, Called}
 use Rattle.std.specs.Array.{IsFromFnResult, IsFromFnResultFrom}
-use Rattle.track.proofs.Rows.{front_step, front_end, painted_same}
+use Rattle.track.proofs.Rows.{front_end, painted_same}
 
 -- what the code works out
 pub reached_by : (levels : Levels) (y j n h v : ℕ) → n ≡ y - 1 → h ≡ min n 32
@@ -58,13 +58,6 @@ low_copies n v b i h = go (le_or_lt n i)
     go (inl l) = rw (get_or-eq_default (replicate n v) 0 {n = i} (rw length-replicate l)) (omega arith)
     go (inr l) = rw (get_or-replicate n i v 0 l) h
 
-low_stored : (xs : List ℕ) (k v b : ℕ) → k < length xs → v ≤ b → ((i : ℕ) → get_or xs i 0 ≤ b) → (i : ℕ) → get_or (set xs k v) i 0 ≤ b
-low_stored xs k v b l h f i = go (eq_or_not i k)
-  where
-    go : (i ≡ k) ⊎ (i ≡ k → ⊥) → get_or (set xs k v) i 0 ≤ b
-    go (inl e) = rw (e, get_or-set_same xs k v 0 l) h
-    go (inr n) = rw (get_or-set_other xs k i v 0 n) (f i)
-
 -- PAIR BY PAIR
 pub levels_start : (k : Terminals) (a b : ℕ) → LevelsFilled k a b 0 (record { ahead = replicate 96 64; back = replicate 64 0; upto = replicate 32 0; count = k.count })
 levels_start k a b =
@@ -84,31 +77,6 @@ levels_start k a b =
         upto_low = λ i. let h = low_copies 32 0 63 i (omega arith) in omega arith;
       };
     }
-
-pub levels_step : (k : Terminals) (a b n : ℕ) (levels : Levels) (v x : ℕ) → n < 32 → v ≡ a + (get_or k.lower n (columns 0)).0 - n → v ≤ 64
-    → x ≡ b + (get_or k.upper n (columns 0)).0 → x < 64 → LevelsFilled k a b n levels
-    → LevelsFilled k a b (n + 1) (record { ahead = set levels.ahead n v; back = set levels.back (32 + n) v; upto = set levels.upto n x; count = levels.count })
-levels_step k a b n levels v x l d small e shown f =
-    record {
-      counted = f.counted;
-      sized_ahead = length-set levels.ahead n v ∙ f.sized_ahead;
-      sized_back = length-set levels.back (32 + n) v ∙ f.sized_back;
-      sized_upto = length-set levels.upto n x ∙ f.sized_upto;
-      ahead_are = front_step (λ j. a + (get_or k.lower j (columns 0)).0 - j) levels.ahead n v (omega (arith, f.sized_ahead)) d f.ahead_are;
-      ahead_none = λ j o m. get_or-set_other levels.ahead n j v 0 (omega arith) ∙ f.ahead_none j (omega arith) m;
-      back_are = λ j o. back_at j o (eq_or_not j n);
-      back_none = λ j o. get_or-set_other levels.back (32 + n) j v 0 (omega arith) ∙ f.back_none j o;
-      upto_are = front_step (λ j. b + (get_or k.upper j (columns 0)).0) levels.upto n x (omega (arith, f.sized_upto)) e f.upto_are;
-      low = record {
-        ahead_low = low_stored levels.ahead n v 64 (omega (arith, f.sized_ahead)) small f.low.ahead_low;
-        back_low = low_stored levels.back (32 + n) v 64 (omega (arith, f.sized_back)) small f.low.back_low;
-        upto_low = λ i. let h = low_stored levels.upto n x 63 (omega (arith, f.sized_upto)) (omega arith) (λ j. let o = f.low.upto_low j in omega arith) i in omega arith;
-      };
-    }
-  where
-    back_at : (j : ℕ) → j < n + 1 → (j ≡ n) ⊎ (j ≡ n → ⊥) → get_or (set levels.back (32 + n) v) (32 + j) 0 ≡ a + (get_or k.lower j (columns 0)).0 - j
-    back_at j o (inl i) = rw i (get_or-set_same levels.back (32 + n) v 0 (omega (arith, f.sized_back)) ∙ d)
-    back_at j o (inr i) = get_or-set_other levels.back (32 + n) (32 + j) v 0 (omega arith) ∙ f.back_are j (omega arith)
 
 -- THE CHANNEL'S
 module _ (k : Terminals) (t a b : ℕ) (p : ChannelPlaced 63 (channel_of k) t a b) where

@@ -107,9 +107,6 @@ rule_shown levels xs y s l h e j i =
     rw (get_or-take levels.count xs j 0 k, e, get_or_tabulate 32 j (λ j. reached levels y j) 0 (omega arith)) (s j y k h)
 
 -- THE LINES OF A PAGE
-pub lines_start : (f : ℕ → ℕ → ℕ) (t : ℕ) (o : List ℕ) → LinesPut f t 0 (t + 1) o o
-lines_start f t o = record { place = omega arith; same_length = refl; stands = rw add-one }
-
 lines_step : (f : ℕ → ℕ → ℕ) (t at y : ℕ) (before now part : List ℕ) → t < 1000 → 69 * suc t ≤ length before → LinesPut f t at (suc y) before now
     → part ≡ over (line_of y (f y)) (take (length now - at) (drop at now)) → LinesPut f t (at + 69) y before (take at now ++ (part ++ drop (length now - at) (drop at now)))
 unfolding over lines_below

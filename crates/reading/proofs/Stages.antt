@@ -16,10 +16,6 @@ use Rattle.reading.specs.Driver.{Going, ReadTo, ReadingLines}
 use Rattle.reading.specs.declared.Progress.{Progress}
 use Rattle.text.proofs.Refusals.{or_else_refused, or_else_next, word_not_fine}
 
--- what holds of a text holds of the same text in a struct
-pub same_text : (P : List ℕ → Type 0) (own bs : List ℕ) → own ≡ bs → P bs → P own
-same_text P own bs e x = rw e x
-
 -- THE LINES OF A KIND
 module _ (bs : List ℕ) (kind : ℕ → Check) (i n : ℕ) where
   pub lines_start : (k : Stack) (p : Progress) → Going bs i k p → ReadingLines bs kind i n 0 k p

@@ -20,7 +20,7 @@ use Rattle.text.specs.Text.{Refusal, refusal, fine, or_else, k_of, part_check, n
 use Rattle.text.specs.Outcome.{refusal_of, refused}
 use Rattle.text.specs.declared.Refused.{Refused}
 use Rattle.text.specs.declared.Refusal.TheVariants as why
-use Rattle.reading.specs.Driver.{upto_head, HeadStands, HeadTaken, strip_read, Parting, PartTaken, parts_refusal, upto_parts, nets_pairs, PartsStand, PartsTaken, Wiring, NetsTaken, nets_refusal, upto_nets, NetsStand, AllNetsTaken, Gapping, IsGapTaken, tail_refusal, upto_gaps, GapsTaken, StackRead}
+use Rattle.reading.specs.Driver.{upto_head, HeadStands, HeadTaken, strip_read, Parting, PartTaken, parts_refusal, upto_parts, nets_pairs, PartsTaken, Wiring, NetsTaken, nets_refusal, upto_nets, NetsStand, AllNetsTaken, Gapping, IsGapTaken, tail_refusal, upto_gaps, GapsTaken, StackRead}
 use Rattle.reading.specs.declared.Progress.{Progress}
 use Rattle.text.proofs.Refusals.{or_else_refused, or_else_next, word_not_fine}
 use Rattle.reading.proofs.Within.{checks_in_turn, stack_by_lines, accepted_within}
@@ -58,9 +58,6 @@ module _ (bs : List ℕ) where
 
 -- NETS LINES behind them
 module _ (bs : List ℕ) where
-  pub nets_start : (p : Progress) → PartsStand bs p → Wiring bs 0 p
-  nets_start p g = lines_start bs (λ i. nets_check (lines bs) i) (k_of (lines bs) + 2) (k_of (lines bs)) _ p g
-
   module _ (c : ℕ) (p : Progress) (m : Wiring bs c p) (q : Progress) (less : c < k_of (lines bs)) where
     pub nets_step : (x : ⊤) → NetsTaken bs c (Ok x) q → Wiring bs (c + 1) q
     nets_step x u = lines_step bs (λ i. nets_check (lines bs) i) (k_of (lines bs) + 2) (k_of (lines bs)) c _ p m less _ q x u

@@ -26,7 +26,7 @@ use Rattle.steps.specs.declared.StepLine.TheVariants.{BeginPart, AddPart, AddNet
 use Rattle.session.specs.Session.{nothing, Made}
 use Rattle.session.specs.Value.{held_of}
 use Rattle.session.specs.declared.Session.{Session}
-use Rattle.replay.specs.Replay.{State, state, start, stepped, told, line_taken, replay, replayed, ReplayedMade}
+use Rattle.replay.specs.Replay.{State, state, stepped, told, line_taken, replay, replayed, ReplayedMade}
 use Rattle.replay.specs.Value.{state_of}
 use Rattle.replay.specs.Parts.{Replaying}
 use Rattle.replay.specs.declared.Replay.{Replay}
@@ -93,9 +93,6 @@ unfolding replayed state_of
 overlong_answered bs s e h q g = answered bs (record { session = s; outcome = Err e; line = None }) (rw (lt-ltb 8192 (length bs) h, q, g))
 
 -- THE LOOP
-pub replaying_starts : (bs : List ℕ) (r : Replay) → length bs ≤ 8192 → state_of r ≡ start → Replaying bs 0 1 r
-replaying_starts bs r h e = record { short = h; few = omega arith; rest = rw e }
-
 module _ (bs : List ℕ) (at n : ℕ) (r : Replay) (m : Replaying bs at n r) where
   replaying_answered : (a : Replay) → state_of a ≡ replay n (state_of r) (lines (drop at bs)) → (state_of a ≡ replayed bs) × Made (held_of a.session)
   unfolding replayed

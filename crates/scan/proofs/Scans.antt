@@ -362,10 +362,6 @@ pub empties_next : (k v : ℕ) (table : List StripSpans) (es : List ℕ) → Emp
 empties_next k v table es m =
     record { size = m.size; empty = m.empty; earlier = λ j l. omega (arith, m.here j (omega arith)); here = λ j l. omega (arith, m.here j l) }
 
-pub cleared_here : (windows : List Span) (k v cap : ℕ) (table : List StripSpans) → v ≤ cap → Cleared windows k v cap table → Cleared windows k v v table
-cleared_here windows k v cap table h c =
-    record { sized = c.sized; cleared = λ j u l m o. c.cleared j u l m (omega arith) }
-
 pub cleared_next : (windows : List Span) (k v cap : ℕ) (table table' : List StripSpans) → Sized table' → OnlyAt v 0 table table' →
     Cleared windows k v cap table → Cleared windows k (v + 1) cap table'
 cleared_next windows k v cap table table' s o c =

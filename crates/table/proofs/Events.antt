@@ -18,7 +18,7 @@ use Rattle.answer.specs.Solve.{answer_total}
 use Rattle.rows.specs.Walk.{widest}
 use Rattle.answer.specs.Arrays.{Ready}
 use Rattle.answer.proofs.Standing.{held_stands, cap_used}
-use Rattle.rows.specs.Evaluate.{Evaluated, PlaceRowAsks}
+use Rattle.rows.specs.Evaluate.{Evaluated}
 use Rattle.rows.proofs.Settled.{widest_small, first_widest}
 use Rattle.rows.proofs.Steps.{scan_passes, scan_stays, scan_most}
 use Rattle.rows.proofs.Evaluating.{found_total}
@@ -52,9 +52,6 @@ module _ (k : StackStruct) (s cap : ℕ) (g : Given) (t : List StripSpans) (r : 
       let over = scan_passes (stack_of k) s g st fits wide cap t _ e.scanned (cap_used k s g ready cap c) l in
       let most = scan_most (stack_of k) s g st fits wide cap t _ e.scanned in
       (omega arith, omega arith)
-
-  pub event_place_asks : cap ≤ entry g.plan.above 0 → r.total ≤ cap → PlaceRowAsks k s g t r
-  event_place_asks c f = record { wide = wide; cap = cap; capped = c; found = f; evaluated = e }
 
 -- the first spread is small
 pub spread_fits : (k : Stack) (s : ℕ) → within_limits k ≡ true → s ≡ first_spread k.strips → s < 4294967296

@@ -14,13 +14,13 @@ use Rattle.arrays.specs.declared.StripSpans.{StripSpans}
 use Rattle.answer.specs.Arrays.{with_windows}
 use Rattle.scan.specs.declared.Scan.{Scan}
 use Rattle.rows.specs.Walk.{row_at}
-use Rattle.rows.specs.Evaluate.{EvaluateAsks, Evaluated, PlaceRowAsks}
+use Rattle.rows.specs.Evaluate.{Evaluated}
 use Rattle.rows.proofs.Settled.{widest_small}
 use Rattle.writing.specs.Output.{LinePutAt}
 use Rattle.writing.specs.TableText.{row_text}
 use Rattle.table.specs.Walking.{StepAsks, Stepping}
 use Rattle.table.specs.declared.Walk.{Walk}
-use Rattle.table.proofs.Events.{holds_on, event_stays, event_least, event_passed, event_place_asks}
+use Rattle.table.proofs.Events.{holds_on, event_stays, event_least, event_passed}
 use Rattle.table.proofs.Walks.{stepped_on, stepped_down}
 
 module _ (k : StackStruct) (w : Walk) (g : Given) (t : List StripSpans) (out : List ℕ) (asks : StepAsks k w g t out) where
@@ -39,9 +39,6 @@ module _ (k : StackStruct) (w : Walk) (g : Given) (t : List StripSpans) (out : L
   capped : w.total - 1 ≤ entry g.plan.above 0
   capped = omega (arith, asks.here.capped, asks.some)
 
-  pub step_evaluate_asks : EvaluateAsks k next (w.total - 1) g t
-  step_evaluate_asks = record { held = asks.here.holding.held; wide = wide; capped = capped; sized = asks.here.holding.sized }
-
   -- the next event's spread worked out, with other windows
   module _ (f : Given) (u : List StripSpans) (r : Scan) (kept : f ≡ with_windows g f.windows) (e : Evaluated k next (w.total - 1) f u r) where
     same_above : entry f.plan.above 0 ≡ entry g.plan.above 0
@@ -57,9 +54,6 @@ module _ (k : StackStruct) (w : Walk) (g : Given) (t : List StripSpans) (out : L
         }
 
     module _ (found : r.total ≤ w.total - 1) where
-      pub step_place_asks : PlaceRowAsks k next f u r
-      step_place_asks = event_place_asks k next _ f u r step_fits wide e (omega (arith, capped, same_above)) found
-
       pub step_down : (at : ℕ) (after : List ℕ) → LinePutAt w.at (row_text (row_at (stack_of k) next)) out after at →
           Stepping k f u after (record { spread = next; total = r.total; jump = r.jump; at = at })
       step_down at after row =

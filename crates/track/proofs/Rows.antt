@@ -331,12 +331,5 @@ module _ (e : ℕ → ℕ) (v : ℕ) where
       (λ j n. rw (ne_eqb j (e i) n)) h)
 
 -- A LIST FILLED by a rule from its front
-pub front_step : (f : ℕ → ℕ) (xs : List ℕ) (n v : ℕ) → n < length xs → v ≡ f n → ((j : ℕ) → j < n → get_or xs j 0 ≡ f j) → (j : ℕ) → j < n + 1 → get_or (set xs n v) j 0 ≡ f j
-front_step f xs n v l e h j m = go (lt_or_eq j n (omega arith))
-  where
-    go : (j < n) ⊎ (j ≡ n) → get_or (set xs n v) j 0 ≡ f j
-    go (inl k) = get_or-set_other xs n j v 0 (omega arith) ∙ h j k
-    go (inr k) = rw k (get_or-set_same xs n v 0 l ∙ e)
-
 pub front_end : (f : ℕ → ℕ) (xs : List ℕ) (n k : ℕ) → n ≤ k → length xs ≡ n → ((j : ℕ) → j < k → get_or xs j 0 ≡ f j) → xs ≡ tabulate n 0 f
 front_end f xs n k l e h = ext_get_or 0 xs (tabulate n 0 f) (e ∙ sym (length_tabulate n 0 f)) (λ i m. h i (omega arith) ∙ sym (get_or_tabulate n i f 0 (omega arith)))

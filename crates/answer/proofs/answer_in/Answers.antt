@@ -1,11 +1,7 @@
 -- answer_in meets its contract: the scan finds the least total, and what the solver places in its table is the answer. Assumes nothing.
 use mathlib.Core.Path.{refl}
-use Rattle.scan.proofs.Tables.{sized_zeros}
 use Rattle.answer.proofs.Standing.{whole_place_asks, whole_placed}
 use Rattle.answer.proofs.answer_in.Goals as goal
-
-pub scan_in-scan-requires-clause-sized : goal.scan_in-scan-requires-clause-sized
-scan_in-scan-requires-clause-sized c = sized_zeros
 
 pub place_in-requires : goal.place_in-requires
 place_in-requires c = whole_place_asks _ _ _ c.scan_in-scan.ensures.ready _ _ c.scan_in-scan.result c.scan_in-scan.ensures.scanned refl

@@ -1,11 +1,7 @@
 -- total_in meets its contract: the arrays stand for the stack, and the scan finds its least total. Assumes nothing.
 use mathlib.Core.Path.{refl}
-use Rattle.scan.proofs.Tables.{sized_zeros}
 use Rattle.answer.proofs.Standing.{whole_least, whole_small}
 use Rattle.answer.proofs.total_in.Goals as goal
-
-pub scan_in-scan-requires-clause-sized : goal.scan_in-scan-requires-clause-sized
-scan_in-scan-requires-clause-sized c = sized_zeros
 
 pub overflow_cast-result : goal.overflow_cast-result
 overflow_cast-result c = record { fits = whole_small _ _ _ c.scan_in-scan.ensures.ready _ _ c.scan_in-scan.result c.scan_in-scan.ensures.scanned refl }

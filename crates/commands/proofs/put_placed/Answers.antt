@@ -1,10 +1,6 @@
 -- put_placed meets its contract: the placement's row, or the refusal. Assumes nothing.
-use Rattle.text.proofs.Refusals.{exit_is}
-use Rattle.commands.proofs.Printing.{placement_unput, placed_read, row_asked, placement_put}
+use Rattle.commands.proofs.Printing.{placed_read, row_asked, placement_put}
 use Rattle.commands.proofs.put_placed.Goals as goal
-
-pub returns-in_err-placement : goal.returns-in_err-placement
-returns-in_err-placement c = rw (exit_is c.from_residual.result _ c.from_residual.ensures.1) (placement_unput _ _ _ _ _ _ c.in_err-placement.ensures.placement_says)
 
 pub returns-in_err-stack : goal.returns-in_err-stack
 returns-in_err-stack c = absurd (placed_read _ _ _ _ c.in_ok-placement.ensures.placement_says _ c.in_err-stack.ensures)

@@ -9,9 +9,6 @@ use Rattle.commands.proofs.Printing.{trial_refused, trial_misfit, trial_verdict}
 use Rattle.commands.proofs.Trials.{separations_put, positions_put}
 use Rattle.commands.proofs.put_tried.Goals as goal
 
-pub returns-in_err-stack : goal.returns-in_err-stack
-returns-in_err-stack c = rw (exit_is c.from_residual.result _ c.from_residual.ensures.1) c.in_err-stack.ensures.outcome
-
 pub overflow_mul-k : goal.overflow_mul-k
 overflow_mul-k c = omega (arith, few_channels c.in_ok-stack.stack c.in_ok-stack.ensures.within)
 

@@ -2,11 +2,8 @@ use mathlib.Core.Path.{◌≡◌, sym, ◌∙◌}
 use Prim.Native.Nat.{◌+◌, ◌-◌}
 use native.Mathlib.Omega.{arith}
 use lib.ListN.{length-take, length-drop}
-use Rattle.plot.proofs.Lines.{lines_start, lines_end, track_step, rule_shown, taken_long}
+use Rattle.plot.proofs.Lines.{lines_end, track_step, rule_shown, taken_long}
 use Rattle.plot.proofs.put_tracks.Goals as goal
-
-pub loop-y-init : goal.loop-y-init
-loop-y-init c = record { lines = lines_start _ _ _; above = c.arrivals-ends.ensures }
 
 pub put_track-requires : goal.put_track-requires
 put_track-requires c = let inv = c.loop-y.invariant in

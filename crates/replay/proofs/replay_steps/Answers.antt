@@ -2,16 +2,13 @@ use mathlib.Core.Path.{ap, ◌∙◌}
 use mathlib.Core.Bool.{not}
 use lib.ListN.{length}
 use Rattle.lines.specs.Lines.{Line, line}
-use Rattle.replay.proofs.Going.{overlong_answered, replaying_starts, replaying_ends, line_short, replaying_stops, replaying_steps}
+use Rattle.replay.proofs.Going.{overlong_answered, replaying_ends, line_short, replaying_stops, replaying_steps}
 use Rattle.replay.proofs.replay_steps.Goals as goal
 
 pub returns-then-text-gt-MAX_BYTES : goal.returns-then-text-gt-MAX_BYTES
 returns-then-text-gt-MAX_BYTES c =
     let all = overlong_answered c.args.text.now c.empty.result c.new.result c.if-text-gt-MAX_BYTES.true c.empty.ensures c.new.ensures in
     record { is_replayed = all.0; made = all.1 }
-
-pub loop-at-init : goal.loop-at-init
-loop-at-init c = replaying_starts c.args.text.now c.start-replay.result c.if-text-gt-MAX_BYTES.false c.start-replay.ensures
 
 pub take_line-replay-requires : goal.take_line-replay-requires
 unfolding line

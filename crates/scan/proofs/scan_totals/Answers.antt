@@ -1,22 +1,12 @@
 use Rattle.std.proofs.Common.{◌≡◌, ◌+◌, refl, arith}
 use Rattle.arrays.proofs.Searches.{totalling_start}
-use Rattle.scan.proofs.Scans.{none_yet, scanning_start, empties_start, cleared_start, cleared_here, scan_found, scanning_next, empties_next, cleared_next, totals_miss, scan_none}
+use Rattle.scan.proofs.Scans.{none_yet, scanning_start, empties_start, cleared_start, scan_found, scanning_next, empties_next, cleared_next, totals_miss, scan_none}
 use Rattle.scan.proofs.scan_totals.Goals as goal
 
 pub loop-v-init : goal.loop-v-init
 loop-v-init c = let none = none_yet _ _ _ _ c.requires c.clear.ensures in
     rw c.put_window.ensures
     (scanning_start _ _ none, totalling_start _ c.args.cap, empties_start _ _ none, cleared_start _ _ none c.args.cap c.clear.ensures)
-
-pub scan_total-next-requires : goal.scan_total-next-requires
-scan_total-next-requires c = let b = c.loop-v in
-    record {
-      stack = c.requires.stack;
-      total = omega (arith, c.requires.total);
-      tables = b.invariant.0;
-      empties = b.invariant.2;
-      clear = cleared_here _ _ _ c.args.cap _ (omega arith) b.invariant.3;
-    }
 
 pub returns-then-table-v : goal.returns-then-table-v
 returns-then-table-v c = let b = c.loop-v in

@@ -22,16 +22,6 @@ loop-w-init c = let held = c.fill_held.ensures.held in
       capped = omega arith;
     }
 
-pub step-w-requires : goal.step-w-requires
-step-w-requires c = record {
-  here = c.loop-w.invariant;
-  some = c.loop-w-test.true;
-  inside = omega (arith, c.loop-w.invariant.walking.upto, sum_widest c.args.stack.now c.last_position.result c.lengths_sum.result c.last_position.ensures.is c.lengths_sum.ensures, c.if-w-widest.true);
-}
-
-pub loop-w-preserved : goal.loop-w-preserved
-loop-w-preserved c = c.step-w.ensures.0
-
 pub returns-else-w-widest : goal.returns-else-w-widest
 returns-else-w-widest c = ended_past (stack_of c.args.stack.now) c.requires _ _ c.loop-w.invariant.walking (omega (arith, c.loop-w.invariant.walking.upto, sum_widest c.args.stack.now c.last_position.result c.lengths_sum.result c.last_position.ensures.is c.lengths_sum.ensures, c.if-w-widest.false))
 

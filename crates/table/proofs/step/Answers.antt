@@ -2,7 +2,7 @@
 use mathlib.Core.Path.{refl}
 use native.Mathlib.Omega.{arith}
 use Rattle.stack.specs.Value.{stack_of}
-use Rattle.table.proofs.Steps.{step_fits, step_evaluate_asks, step_on, step_place_asks, step_down}
+use Rattle.table.proofs.Steps.{step_fits, step_on, step_down}
 use Rattle.table.proofs.Walks.{at_fits}
 use Rattle.table.proofs.step.Goals as goal
 
@@ -12,14 +12,8 @@ overflow_add-next c = omega (arith, step_fits _ _ _ _ _ c.requires)
 pub overflow_cast-next-2 : goal.overflow_cast-next-2
 overflow_cast-next-2 c = omega (arith, step_fits _ _ _ _ _ c.requires)
 
-pub evaluate-scan-requires : goal.evaluate-scan-requires
-evaluate-scan-requires c = step_evaluate_asks _ _ _ _ _ c.requires
-
 pub returns-then-cap-scan : goal.returns-then-cap-scan
 returns-then-cap-scan c = (step_on _ _ _ _ _ c.requires _ _ _ c.evaluate-scan.ensures.kept c.evaluate-scan.ensures.evaluated c.if-cap-scan.true, refl, c.evaluate-scan.ensures.evaluated.jump_some)
-
-pub place_row-placement-requires : goal.place_row-placement-requires
-place_row-placement-requires c = step_place_asks _ _ _ _ _ c.requires _ _ _ c.evaluate-scan.ensures.kept c.evaluate-scan.ensures.evaluated c.if-cap-scan.false
 
 pub put_placed-at-requires : goal.put_placed-at-requires
 put_placed-at-requires c = (

@@ -1,15 +1,7 @@
 use Rattle.std.proofs.lemmas.Result.{err_from_is_err_and}
 use native.Mathlib.Omega.{arith}
-use Rattle.reading.specs.Driver.{Wiring}
-use Rattle.reading.proofs.Stages.{same_text}
-use Rattle.reading.proofs.Whole.{nets_start, nets_step, nets_refuse, nets_end}
+use Rattle.reading.proofs.Whole.{nets_step, nets_refuse, nets_end}
 use Rattle.reading.proofs.Progress.take_all_nets.Goals as goal
-
-pub loop-c-init : goal.loop-c-init
-loop-c-init c = nets_start c.args.self.now.text.now c.args.self.now c.requires
-
-pub take_nets-requires : goal.take_nets-requires
-take_nets-requires c = let m = c.loop-c.invariant in (same_text (λ bs. Wiring bs c.loop-c.c c.loop-c.self) _ _ m.going.text m, omega (arith, m.going.count, c.requires.count, c.loop-c-test.true))
 
 pub returns-in_err-take_nets : goal.returns-in_err-take_nets
 returns-in_err-take_nets c =

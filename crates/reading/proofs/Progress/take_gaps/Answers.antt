@@ -1,15 +1,10 @@
 use Rattle.std.proofs.lemmas.Result.{err_from_is_err_and}
 use Rattle.std.specs.Prelude.{unwrap_or}
-use Rattle.reading.specs.Driver.{Gapping}
-use Rattle.reading.proofs.Stages.{same_text}
 use Rattle.reading.proofs.Whole.{gaps_start, gaps_step, gaps_refuse, gaps_end}
 use Rattle.reading.proofs.Progress.take_gaps.Goals as goal
 
 pub loop-self-init : goal.loop-self-init
 loop-self-init c = gaps_start c.args.self.now.text.now c.args.self.now c.requires
-
-pub take_gap-requires : goal.take_gap-requires
-take_gap-requires c = let m = c.loop-self.invariant in same_text (λ bs. Gapping bs c.loop-self.g (unwrap_or c.loop-self.before 0) c.loop-self.self) _ _ m.read.going.text m
 
 pub returns-in_err-take_gap : goal.returns-in_err-take_gap
 returns-in_err-take_gap c =

@@ -1,15 +1,10 @@
 use Rattle.std.proofs.lemmas.Result.{err_from_is_err_and}
 use native.Mathlib.Omega.{arith}
-use Rattle.reading.specs.Driver.{Parting}
-use Rattle.reading.proofs.Stages.{same_text}
 use Rattle.reading.proofs.Whole.{parts_start, parts_step, parts_refuse, parts_end}
 use Rattle.reading.proofs.Progress.take_parts.Goals as goal
 
 pub loop-i-init : goal.loop-i-init
 loop-i-init c = parts_start c.args.self.now.text.now c.args.self.now c.requires
-
-pub take_part-requires : goal.take_part-requires
-take_part-requires c = let m = c.loop-i.invariant in (same_text (λ bs. Parting bs c.loop-i.i c.loop-i.self) _ _ m.going.text m, omega (arith, m.going.count, c.requires.count, c.loop-i-test.true))
 
 pub returns-in_err-take_part : goal.returns-in_err-take_part
 returns-in_err-take_part c =
