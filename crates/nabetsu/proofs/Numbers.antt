@@ -1,26 +1,24 @@
 -- The numbers of a placement, and the laws of the entries for callers in other languages. Assumes nothing.
-use mathlib.Core.Path.{◌≡◌, refl, sym, ap, ◌∙◌}
+use mathlib.Core.Path.{◌≡◌, refl, sym, ap, ap₂, ◌∙◌}
 use mathlib.Core.Bool.{Bool, true, false}
 use mathlib.Core.List.{List, [], ◌∷◌, ◌++◌, map}
-use mathlib.Core.Logic.{◌⊎◌, inl, inr}
 use Prim.Native.Nat.{ℕ, zero, suc, ◌+◌, ◌-◌, ◌≤◌, ◌<◌, min}
 use native.Mathlib.Omega.{arith}
 use lib.Dec.{leb}
-use lib.ListN.{length, get_or, take, drop, replicate, length-append, length-replicate, length-take, length-drop, get_or-eq_default}
+use lib.ListN.{length, get_or, take, drop, replicate, length-take, length-drop}
 use lib.Seq.{get_or-append-add}
 use borrow.Author.Tests.{le-leb, lt-leb, ne_eqb, eq-eqb}
 use denote.Param.Members.{Mut, Called}
 use Rattle.std.specs.Array.{IsMapOf}
 use Rattle.std.specs.Prelude.{Ok, Err}
-use Rattle.std.proofs.lemmas.List.{take_all, take_min, drop-replicate}
+use Rattle.std.proofs.lemmas.List.{append-nil, take_all, take_min, drop-replicate}
 use Rattle.numbers.specs.Lists.{tabulate, padded}
 use Rattle.numbers.proofs.Lists.{length_tabulate, get_or_tabulate, tabulate_same, tabulate_constant, zeros_at}
-use Rattle.numbers.proofs.Orders.{le_or_lt}
 use Rattle.stack.specs.Value.{tracks, columns, tracks_of, columns_of}
 use Rattle.stack.specs.declared.Tracks.{Tracks}
 use Rattle.stack.specs.declared.Columns.{Columns}
 use Rattle.writing.proofs.Rows.{array_mapped}
-use Rattle.stack.proofs.Values.{column_at, tracks_long, columns_long}
+use Rattle.stack.proofs.Values.{column_at, tracks_long}
 use Rattle.text.specs.Text.{Refusal, refusal, fine, or_else, text_refusal, stack_in}
 use Rattle.text.specs.Outcome.{number_of, refused}
 use Rattle.text.specs.declared.Refused.{Refused}
@@ -41,28 +39,7 @@ same_places (x ∷ xs) (y ∷ ys) n l m h =
     let r : ys ≡ xs = same_places xs ys (n - 1) (omega arith) (omega arith) (λ j k. h (suc j) (omega arith)) in
     rw (e, r)
 
--- NUMBERS with zeros behind them, place by place
-padded_long : (n : ℕ) (ns : List ℕ) → length ns ≤ n → length (padded n ns) ≡ n
-unfolding padded
-padded_long n ns h = omega (arith, length-append ns (replicate (n - length ns) 0), length-replicate {A = ℕ} (n - length ns) 0)
-
-behind : (ns : List ℕ) (m j : ℕ) → get_or (ns ++ replicate m 0) j 0 ≡ get_or ns j 0
-behind [] m j = zeros_at m j
-behind (x ∷ ns) m zero = refl
-behind (x ∷ ns) m (suc j) = behind ns m j
-
-padded_at : (n : ℕ) (ns : List ℕ) (j : ℕ) → get_or (padded n ns) j 0 ≡ get_or ns j 0
-unfolding padded
-padded_at n ns j = behind ns (n - length ns) j
-
-pub padded_by : (n : ℕ) (ns xs : List ℕ) → length ns ≤ n → length xs ≡ n → ((j : ℕ) → j < length ns → get_or xs j 0 ≡ get_or ns j 0) → ((j : ℕ) → length ns ≤ j → j < n → get_or xs j 0 ≡ 0) →
-    xs ≡ padded n ns
-padded_by n ns xs h l first rest = same_places (padded n ns) xs n (padded_long n ns h) l (λ j k. at j k (le_or_lt (length ns) j) ∙ sym (padded_at n ns j))
-  where
-    at : (j : ℕ) → j < n → (length ns ≤ j) ⊎ (j < length ns) → get_or xs j 0 ≡ get_or ns j 0
-    at j k (inl a) = rest j a k ∙ sym (get_or-eq_default ns 0 {n = j} a)
-    at j k (inr a) = first j a
-
+-- NUMBERS with zeros behind them
 -- the first of the numbers over zeros
 pub padded_first : (n : ℕ) (ns xs : List ℕ) (given : ℕ) → given ≡ min (length ns) n → xs ≡ take given ns → xs ++ drop given (replicate n 0) ≡ padded n (take n ns)
 unfolding padded
@@ -73,36 +50,28 @@ padded_first n ns xs given e p =
     rw (p ∙ first, drop-replicate {X = ℕ} given n 0, left)
 
 -- as many as there are places
-pub padded_whole : (n : ℕ) (ns : List ℕ) → length ns ≡ n → padded n ns ≡ ns
-padded_whole n ns e = sym (padded_by n ns ns (omega arith) e (λ j h. refl) (λ j h k. absurd (omega arith)))
+padded_whole : (n : ℕ) (ns : List ℕ) → length ns ≡ n → padded n ns ≡ ns
+unfolding padded
+padded_whole n ns e = let none : n - length ns ≡ 0 = omega arith in rw none (append-nil ns)
 
 -- as many as there are places, of which the first so many are all
 padded_part : (n : ℕ) (ns : List ℕ) → length ns ≡ n → padded n (take n ns) ≡ ns
 padded_part n ns e = ap (padded n) (take_all n ns (omega arith)) ∙ padded_whole n ns e
 
 -- numbers made separations or positions, one by one
-tracks_numbers : (ns : List ℕ) → tracks_of (map tracks ns) ≡ ns
-tracks_numbers [] = refl
-tracks_numbers (x ∷ ns) = ap (λ xs. x ∷ xs) (tracks_numbers ns)
-
-columns_numbers : (ns : List ℕ) → columns_of (map columns ns) ≡ ns
-columns_numbers [] = refl
-columns_numbers (x ∷ ns) = ap (λ xs. x ∷ xs) (columns_numbers ns)
+numbers_back : {B : Type 0} (number : B → ℕ) (made : ℕ → B) → ((x : ℕ) → number (made x) ≡ x) → (ns : List ℕ) → map number (map made ns) ≡ ns
+numbers_back number made same [] = refl
+numbers_back number made same (x ∷ ns) = ap₂ (λ y ys. y ∷ ys) (same x) (numbers_back number made same ns)
 
 pub tracks_mapped : {F : Type 0} (g : Mut F (ℕ × Unit {0}) Tracks) {f : F} {ns : List ℕ} {ts : List Tracks} (n : ℕ) → IsMapOf g f ns ts n → length ns ≡ n →
     ((p : F) (x : ℕ) (r : Tracks) (q : F) → Called g p (x, tt) r q → r ≡ tracks x) → tracks_of ts ≡ ns
-tracks_mapped g {ns = ns} n m l gives = ap tracks_of (array_mapped g tracks 0 l gives m) ∙ tracks_numbers ns
+tracks_mapped g {ns = ns} n m l gives = ap tracks_of (array_mapped g tracks 0 l gives m) ∙ numbers_back (λ (t : Tracks). t.0) tracks (λ x. refl) ns
 
 pub columns_mapped : {F : Type 0} (g : Mut F (ℕ × Unit {0}) Columns) {f : F} {ns : List ℕ} {xs : List Columns} (n : ℕ) → IsMapOf g f ns xs n → length ns ≡ n →
     ((p : F) (x : ℕ) (r : Columns) (q : F) → Called g p (x, tt) r q → r ≡ columns x) → columns_of xs ≡ ns
-columns_mapped g {ns = ns} n m l gives = ap columns_of (array_mapped g columns 0 l gives m) ∙ columns_numbers ns
+columns_mapped g {ns = ns} n m l gives = ap columns_of (array_mapped g columns 0 l gives m) ∙ numbers_back (λ (x : Columns). x.0) columns (λ x. refl) ns
 
 -- THE EIGHTEEN NUMBERS of a placement, place by place
-front : (xs ys : List ℕ) (i : ℕ) → i < length xs → get_or (xs ++ ys) i 0 ≡ get_or xs i 0
-front [] ys i h = absurd (omega arith)
-front (x ∷ xs) ys zero h = refl
-front (x ∷ xs) ys (suc i) h = front xs ys i (omega arith)
-
 module _ (v : ℕ) (ts : List Tracks) (xs : List Columns) (sized : length ts ≡ 8) (sized_columns : length xs ≡ 9) where
   pub number_column : (i : ℕ) → 8 < i → (get_or xs (i - 8 - 1) (record { 0 = 0 })).0 ≡ get_or (v ∷ (tracks_of ts ++ columns_of xs)) i 0
   number_column zero h = absurd (omega arith)

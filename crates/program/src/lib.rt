@@ -543,37 +543,26 @@ fn print_step(rt: &HostRuntime, replay: &Replay, spread: u32) -> Result<Status, 
     })
 }
 
-// A session behind a line, and the status of that line.
-#[derive(Clone, Copy)]
-struct LineRun {
-    replay: Replay,
-    status: Status,
-}
-
-// Line n: prints the row behind a step, and says where there is none. It fails where the output cannot be written. Lines have at most 8,192 bytes since the space that they
-// are read into has one byte more, for the line feed.
+// Line n: prints the row behind a step, or says that the line is none of a step; answers the line's status, and fails where the output cannot be written. What is held
+// then steps have made in either case. Lines have at most 8,192 bytes since the space that they are read into has one byte more, for the line feed.
 fn run_line(
     rt: &HostRuntime,
-    replay: Replay,
+    replay: &mut Replay,
     n: u32,
     bytes: &[u8],
     spread: u32,
-) -> Result<LineRun, Said>
-    requires { (length bytes.now ≤ 8192) × Made (held_of replay.session) }
-    ensures { IfOk result (λ run. Made (held_of run.replay.session)) }
+) -> Result<Status, Said>
+    requires { (length bytes.now ≤ 8192) × Made (held_of replay.old.session) }
+    ensures { Made (held_of replay.new.session) }
 {
-    let next = replay.take_line(n, Line { bytes, ended: true });
-    let status = if next.line.is_none() {
-        say_no_step(rt, n)
-    } else if awaits(next.line) {
-        Status::Answered
-    } else {
-        print_step(rt, &next, spread)?
-    };
-    Ok(LineRun {
-        replay: next,
-        status,
-    })
+    replay.take_line(n, Line { bytes, ended: true });
+    if replay.line.is_none() {
+        return Ok(say_no_step(rt, n));
+    }
+    if awaits(replay.line) {
+        return Ok(Status::Answered);
+    }
+    print_step(rt, replay, spread)
 }
 
 // The end of the input at line n, of which so many bytes are there: what is begun of a line or of a step is no step.
@@ -597,9 +586,8 @@ fn run_steps(mut source: Source, spread: u32) -> Result<Status, Said> {
         if !line.ended {
             return Ok(run_end(rt, &replay, n, space.filled, status));
         }
-        let run = run_line(rt, replay, n, &space.bytes[line.at..line.end], spread)?;
-        replay = run.replay;
-        status = status.max(run.status);
+        let bytes = &space.bytes[line.at..line.end];
+        status = status.max(run_line(rt, &mut replay, n, bytes, spread)?);
         at = line.end + 1;
     }
     Ok(say_no_step(rt, u32::MAX))

@@ -1,9 +1,8 @@
 // A session's steps replayed from their text, line by line.
 #![tactic(auto)]
 
-ghost use Rattle.std.specs.Prelude.{◌≡◌, [], None, Some, ◌≤◌, length};
+ghost use Rattle.std.specs.Prelude.{◌≡◌, [], ◌≤◌, length};
 ghost use Rattle.lines.specs.Lines.{line_of};
-ghost use Rattle.text.specs.Text.{refusal};
 ghost use Rattle.text.specs.Outcome.{refusal_of};
 ghost use Rattle.session.specs.Session.{Made};
 ghost use Rattle.session.specs.Value.{held_of};
@@ -46,64 +45,46 @@ impl Replay {
         }
     }
 
-    // Line n is no line of a step, or is missing: the session stays.
+    // What a step makes is taken over: its session, and what it is refused for. The line stays.
     #[tactic(auto, unfolding(crate::specs::Value::state_of))]
-    fn no_step(session: Session, n: u32) -> Replay
-        ensures { state_of result ≡ state (held_of session) (refusal 2 n 0) None }
+    fn take_step(&mut self, step: SessionStep)
+        ensures { state_of self.new ≡ state (held_of step.session) (refusal_of step.outcome) self.old.line }
     {
-        Replay {
-            session,
-            outcome: Err(Refused::new(Refusal::Layout, n, 0)),
-            line: None,
-        }
+        self.session = step.session;
+        self.outcome = step.outcome;
     }
 
-    // A line that makes a step whole.
-    #[tactic(auto, unfolding(crate::specs::Value::state_of))]
-    fn stepped(step: SessionStep, line: StepLine) -> Replay
-        ensures { state_of result ≡ state (held_of step.session) (refusal_of step.outcome) (Some line) }
-    {
-        Replay {
-            session: step.session,
-            outcome: step.outcome,
-            line: Some(line),
-        }
-    }
-
-    // Line n: a step that it makes whole is taken; behind another line of a step the session stays.
+    // Line n: a step that it makes whole is taken; where it is another line of a step, or no line of a step, the session stays.
     // That a line has at most 8,192 bytes, as a text has, is asked in contracts: a type with that invariant would ask more of callers.
-    pub fn take_line(self, n: u32, line: Line) -> Replay
+    pub fn take_line(&mut self, n: u32, line: Line)
         requires { length line.bytes.now ≤ 8192 }
-        ensures { state_of result ≡ line_taken n (state_of self) (line_of line.entry) }
+        ensures { state_of self.new ≡ line_taken n (state_of self.old) (line_of line.entry) }
     {
-        let session = self.session;
         let mut values = [0; KEPT];
-        let Some(read) = read_step_line(self.line, line, &mut values) else {
-            return Replay::no_step(session, n);
+        self.line = read_step_line(self.line, line, &mut values);
+        let Some(read) = self.line else {
+            self.outcome = Err(Refused::new(Refusal::Layout, n, 0));
+            return;
         };
         match read {
-            StepLine::BeginPart | StepLine::AddPart | StepLine::AddNets(_) => Replay {
-                session,
-                outcome: Ok(()),
-                line: Some(read),
-            },
-            StepLine::Begin(length) => Replay::stepped(session.begin(length), read),
+            StepLine::BeginPart | StepLine::AddPart | StepLine::AddNets(_) => self.outcome = Ok(()),
+            StepLine::Begin(length) => self.take_step(self.session.begin(length)),
             StepLine::Add { length, count } => {
-                Replay::stepped(session.add(length, &values, count), read)
+                self.take_step(self.session.add(length, &values, count));
             }
-            StepLine::Off => Replay::stepped(session.take_off(), read),
+            StepLine::Off => self.take_step(self.session.take_off()),
         }
     }
 
     // The end of the text, where line n would be.
     #[tactic(auto, unfolding(crate::specs::Replay::replay, crate::specs::Replay::state, crate::specs::Value::state_of))]
-    fn finished(self, n: u32) -> Replay
-        ensures { state_of result ≡ replay n (state_of self) [] }
+    fn finish(&mut self, n: u32)
+        ensures { state_of self.new ≡ replay n (state_of self.old) [] }
     {
         if awaits(self.line) {
-            return Replay::no_step(self.session, n);
+            self.outcome = Err(Refused::new(Refusal::Layout, n, 0));
+            self.line = None;
         }
-        self
     }
 }
 
@@ -125,12 +106,13 @@ pub fn replay_steps(text: &[u8]) -> Replay
     // The place goes on by each line's length; n only numbers the line.
     while at < text.len() {
         let line = line_from(text, at);
-        replay = replay.take_line(n, line);
+        replay.take_line(n, line);
         if replay.line.is_none() {
             return replay;
         }
         at += line.bytes.len() + 1;
         n += 1;
     }
-    replay.finished(n)
+    replay.finish(n);
+    replay
 }

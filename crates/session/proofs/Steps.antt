@@ -17,20 +17,20 @@ use Rattle.text.specs.declared.Refused.{Refused}
 use Rattle.text.proofs.Refusals.{not_fine, word_not_fine, fine_number, first_refused, or_else_then}
 use Rattle.kinds.specs.Readers.{PartContent, NetsContent, NetsSupplied}
 use Rattle.kinds.proofs.Nets.{pairs_even}
-use Rattle.session.specs.Session.{Step, begin, room_refusal, top_length, length_refusal, nets_refusal, step_refusal, taken, left, after}
-use Rattle.session.specs.Value.{held_of, Stepped, Given}
-use Rattle.session.specs.Parts.{Chosen, LengthRead, PairsRead, TerminalsRead, StepMade, AddMade, topped}
+use Rattle.session.specs.Session.{nothing, Step, begin, add, room_refusal, top_length, length_refusal, nets_refusal, step_refusal, taken, left, after}
+use Rattle.session.specs.Value.{held_of, Stepped, Given, Added}
+use Rattle.session.specs.Parts.{session_step, LengthRead, PairsRead, TerminalsRead, topped}
 use Rattle.session.specs.declared.Session.{Session}
-use Rattle.session.specs.declared.SessionStep.{SessionStep}
 
--- A STEP: what is made where nothing is refused, else what is left
-pub stepped : (k : Stack) (a : Step) (m : Result Session Refused) (u : Session) (r : SessionStep) → StepMade k a m → held_of u ≡ left k a → Chosen m u r → Stepped k a r
+-- A STEP that is refused leaves what it leaves; one that is not makes what is taken
+pub step_refused : (k : Stack) (a : Step) (e : Refused) (s : Session) → refusal (number_of e.why) e.line e.field ≡ step_refusal k a → held_of s ≡ left k a → Stepped k a (session_step (Err e) s)
 unfolding after
-stepped k a (Ok t) u r s g c =
-    let z : (step_refusal k a).number ≡ 0 = fine_number (step_refusal k a) s.refused in
-    record { outcome = rw c.0 s.refused; session = rw (c.1, z) s.made }
-stepped k a (Err e) u r s g c =
-    record { outcome = rw c.0 s.refused; session = rw (c.1, ne_eqb (step_refusal k a).number 0 (λ z. word_not_fine e (rw (← s.refused) at z))) g }
+step_refused k a e s q g =
+    record { outcome = q; session = rw (ne_eqb (step_refusal k a).number 0 (λ z. word_not_fine e (rw (← q) at z))) g }
+
+pub step_made : (k : Stack) (a : Step) (s : Session) → fine ≡ step_refusal k a → held_of s ≡ taken k a → Stepped k a (session_step (Ok tt) s)
+unfolding after
+step_made k a s q m = let z : (step_refusal k a).number ≡ 0 = fine_number (step_refusal k a) q in record { outcome = q; session = rw z m }
 
 -- A LENGTH
 pub length_read : (l : ℕ) (r : Result StripStruct Refused) → PartContent 0 (l ∷ []) r → LengthRead l r
@@ -65,40 +65,44 @@ module _ (lo hi : ℕ) (vs : List ℕ) (c : ℕ) where
     nets_read ns g = record { refused = or_else_then _ _ _ (of_list fine ns g q) (supplied ns g).outcome; pairs = (supplied ns g).pairs }
 
 -- BEGIN
-pub begin_refused : (k : Stack) (l : ℕ) (e : Refused) → LengthRead l (Err e) → StepMade k (begin l) (Err e)
-unfolding step_refusal
-begin_refused k l e r = record { refused = r.refused; made = tt }
+pub begin_refused : (k : Stack) (l : ℕ) (e : Refused) (s : Session) → PartContent 0 (l ∷ []) (Err e) → held_of s ≡ nothing → Stepped k (begin l) (session_step (Err e) s)
+unfolding step_refusal left
+begin_refused k l e s r h = step_refused k (begin l) e s (length_read l (Err e) r).refused h
 
-pub begin_made : (k : Stack) (l : ℕ) (x : StripStruct) (s : Session) → LengthRead l (Ok x) → held_of s ≡ taken k (begin x.length.0) → StepMade k (begin l) (Ok s)
+pub begin_made : (k : Stack) (l : ℕ) (x : StripStruct) (s : Session) → PartContent 0 (l ∷ []) (Ok x) → held_of s ≡ taken nothing (begin x.length.0) → Stepped k (begin l) (session_step (Ok tt) s)
 unfolding step_refusal taken
-begin_made k l x s r h = record { refused = r.refused; made = rw r.length at h }
+begin_made k l x s r h = let read = length_read l (Ok x) r in step_made k (begin l) s read.refused (rw read.length at h)
 
 -- ADD: the refusals in their order
-module _ (k : Stack) (l : ℕ) (vs : List ℕ) (c : ℕ) where
-  pub no_room : (e : Refused) → refusal (number_of e.why) e.line e.field ≡ room_refusal k → AddMade k l vs c (Err e)
+module _ (u : Session) (l : ℕ) (vs : List ℕ) (c : ℕ) where
+  not_added : (ns : List ℕ) (e : Refused) → refusal (number_of e.why) e.line e.field ≡ step_refusal (held_of u) (add l ns) → Stepped (held_of u) (add l ns) (session_step (Err e) u)
+  unfolding left
+  not_added ns e q = step_refused (held_of u) (add l ns) e u q refl
+
+  pub no_room : (e : Refused) → refusal (number_of e.why) e.line e.field ≡ room_refusal (held_of u) → Added (held_of u) l vs c (session_step (Err e) u)
   unfolding step_refusal
-  no_room e q ns g = record { refused = first_refused e _ _ (first_refused e _ _ q); made = tt }
+  no_room e q ns g = not_added ns e (first_refused e _ _ (first_refused e _ _ q))
 
-  module _ (roomy : fine ≡ room_refusal k) where
-    pub no_length : (e : Refused) → LengthRead l (Err e) → AddMade k l vs c (Err e)
+  module _ (roomy : fine ≡ room_refusal (held_of u)) where
+    pub no_length : (e : Refused) → LengthRead l (Err e) → Added (held_of u) l vs c (session_step (Err e) u)
     unfolding step_refusal
-    no_length e r ns g = record { refused = first_refused e _ _ (or_else_then _ _ _ roomy r.refused); made = tt }
+    no_length e r ns g = not_added ns e (first_refused e _ _ (or_else_then _ _ _ roomy r.refused))
 
-    module _ (x : StripStruct) (r : LengthRead l (Ok x)) (top : ℕ) (t : top ≡ top_length k) (q : Result Terminals Refused) (n : TerminalsRead top x.length.0 vs c q) where
-      sized : fine ≡ or_else (room_refusal k) (length_refusal l)
+    module _ (x : StripStruct) (r : LengthRead l (Ok x)) (top : ℕ) (t : top ≡ top_length (held_of u)) (q : Result Terminals Refused) (n : TerminalsRead top x.length.0 vs c q) where
+      sized : fine ≡ or_else (room_refusal (held_of u)) (length_refusal l)
       sized = or_else_then _ _ _ roomy r.refused
 
-      pairs_read : (ns : List ℕ) → Given ns vs c → PairsRead (top_length k) l ns q
+      pairs_read : (ns : List ℕ) → Given ns vs c → PairsRead (top_length (held_of u)) l ns q
       pairs_read ns g = rw (t, r.length) at (n ns g)
 
-      pub no_pairs : (e : Refused) → q ≡ Err e → AddMade k l vs c (Err e)
+      pub no_pairs : (e : Refused) → q ≡ Err e → Added (held_of u) l vs c (session_step (Err e) u)
       unfolding step_refusal
       no_pairs e h ns g =
-          let m : PairsRead (top_length k) l ns (Err e) = rw h at (pairs_read ns g) in
-          record { refused = or_else_then _ _ _ sized m.refused; made = tt }
+          let m : PairsRead (top_length (held_of u)) l ns (Err e) = rw h at (pairs_read ns g) in
+          not_added ns e (or_else_then _ _ _ sized m.refused)
 
-      pub taller_made : (ts : Terminals) (s : Session) → q ≡ Ok ts → held_of s ≡ topped k (strip x.length.0 free) (channel_of ts) → AddMade k l vs c (Ok s)
+      pub strip_added : (ts : Terminals) (s : Session) → q ≡ Ok ts → held_of s ≡ topped (held_of u) (strip x.length.0 free) (channel_of ts) → Added (held_of u) l vs c (session_step (Ok tt) s)
       unfolding step_refusal taken
-      taller_made ts s h e ns g =
-          let m : PairsRead (top_length k) l ns (Ok ts) = rw h at (pairs_read ns g) in
-          record { refused = or_else_then _ _ _ sized m.refused; made = e ∙ rw (r.length, m.pairs) }
+      strip_added ts s h e ns g =
+          let m : PairsRead (top_length (held_of u)) l ns (Ok ts) = rw h at (pairs_read ns g) in
+          step_made (held_of u) (add l ns) s (or_else_then _ _ _ sized m.refused) (e ∙ rw (r.length, m.pairs))

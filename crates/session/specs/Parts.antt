@@ -1,5 +1,5 @@
 -- What the parts of a step answer. Assumes nothing: these are definitions.
-use Rattle.std.specs.Prelude.{◌≡◌, List, [], ◌∷◌, ◌++◌, map, ℕ, Result, Ok, Err, IfOk}
+use Rattle.std.specs.Prelude.{◌≡◌, ⊤, List, [], ◌∷◌, ◌++◌, map, ℕ, Result, IfOk}
 use Rattle.stack.specs.Stack.{Pair, channel, Strip, Stack, stack}
 use Rattle.stack.specs.Value.{free_strip, channel_of}
 use Rattle.stack.specs.declared.Columns.{Columns}
@@ -8,15 +8,14 @@ use Rattle.stack.specs.declared.Terminals.{Terminals}
 use Rattle.text.specs.Text.{pairs_of}
 use Rattle.text.specs.Outcome.{refusal_of}
 use Rattle.text.specs.declared.Refused.{Refused}
-use Rattle.session.specs.Session.{Step, add, length_refusal, nets_refusal, step_refusal, taken}
-use Rattle.session.specs.Value.{held_of, Given}
+use Rattle.session.specs.Session.{length_refusal, nets_refusal}
+use Rattle.session.specs.Value.{Given}
 use Rattle.session.specs.declared.Session.{Session}
 use Rattle.session.specs.declared.SessionStep.{SessionStep}
 
--- the session that a step makes, or its refusal and the session that it leaves
-abbrev pub Chosen : (made : Result Session Refused) → (left : Session) → SessionStep → Type 0
-Chosen (Ok s) left r = (r.outcome ≡ Ok tt) × (r.session ≡ s)
-Chosen (Err e) left r = (r.outcome ≡ Err e) × (r.session ≡ left)
+-- what a step is refused for, and the session after it
+abbrev pub session_step : Result ⊤ Refused → Session → SessionStep
+session_step r s = record { outcome = r; session = s }
 
 -- a strip of the length that is given, or its refusal
 pub record LengthRead (l : ℕ) (r : Result StripStruct Refused) : Type 0 where
@@ -30,14 +29,6 @@ pub record PairsRead (lower upper : ℕ) (ns : List ℕ) (r : Result Terminals R
 
 abbrev pub TerminalsRead : (lower upper : ℕ) → (values : List ℕ) → (count : ℕ) → Result Terminals Refused → Type 0
 TerminalsRead lo hi vs c r = (ns : List ℕ) → Given ns vs c → PairsRead lo hi ns r
-
--- what is held after a step, or its refusal
-pub record StepMade (k : Stack) (a : Step) (r : Result Session Refused) : Type 0 where
-  pub refused : refusal_of r ≡ step_refusal k a
-  pub made : IfOk r (λ s. held_of s ≡ taken k a)
-
-abbrev pub AddMade : Stack → (length : ℕ) → (values : List ℕ) → (count : ℕ) → Result Session Refused → Type 0
-AddMade k l vs c r = (ns : List ℕ) → Given ns vs c → StepMade k (add l ns) r
 
 -- the free strips of these lengths
 abbrev pub free_strips : List Columns → List StripStruct

@@ -7,9 +7,9 @@ ghost use Rattle.stack.specs.Stack.{free, strip};
 ghost use Rattle.stack.specs.Value.{free_strip, channel_of, stack_of};
 ghost use Rattle.text.specs.Outcome.{refusal_of};
 ghost use Rattle.spread.specs.Best.{BestTotal, BestPlacement};
-ghost use Rattle.session.specs.Session.{begin, off, nothing, room_refusal, top_length, Made, session_refusal, SessionTotalSays, SessionPlacementSays};
+ghost use Rattle.session.specs.Session.{begin, off, nothing, room_refusal, top_length, taken, Made, session_refusal, SessionTotalSays, SessionPlacementSays};
 ghost use Rattle.session.specs.Value.{held_of, Stepped, Added};
-ghost use Rattle.session.specs.Parts.{Chosen, TerminalsRead, StepMade, AddMade, topped};
+ghost use Rattle.session.specs.Parts.{TerminalsRead, session_step, topped};
 
 use kinds::{nets_content, part_content};
 use lines::KEPT;
@@ -32,24 +32,6 @@ pub struct Session {
 pub struct SessionStep {
     pub outcome: Result<(), Refused>,
     pub session: Session,
-}
-
-impl SessionStep {
-    // The session that a step makes, or why not, and then the session that it leaves.
-    fn new(made: Result<Session, Refused>, left: Session) -> SessionStep
-        ensures { Chosen made left result }
-    {
-        match made {
-            Ok(session) => SessionStep {
-                outcome: Ok(()),
-                session,
-            },
-            Err(why) => SessionStep {
-                outcome: Err(why),
-                session: left,
-            },
-        }
-    }
 }
 
 // The terminals between two strips of these lengths, or why not: an odd list, then as in a NETS line.
@@ -86,24 +68,31 @@ impl Session {
         }
     }
 
-    // A single strip, or why not.
-    fn single(length: u32) -> Result<Session, Refused>
-        ensures { StepMade nothing (begin length) result }
+    // The session of one strip.
+    fn single(length: Columns) -> Session
+        ensures { held_of result ≡ taken nothing (begin length.0) }
     {
-        let strip = part_content(length, 0)?;
-        Ok(Session {
+        Session {
             count: 1,
-            lengths: [strip.length; Stack::STRIPS],
+            lengths: [length; Stack::STRIPS],
             channels: [Terminals::none(); Stack::MAX_CHANNELS],
-        })
+        }
     }
 
     // Begin with one strip, whatever is held; where it is refused, the session is empty.
     pub fn begin(self, length: u32) -> SessionStep
         ensures { Stepped (held_of self) (begin length) result }
     {
-        let none = Session::empty();
-        SessionStep::new(Session::single(length), none)
+        match part_content(length, 0) {
+            Ok(strip) => SessionStep {
+                outcome: Ok(()),
+                session: Session::single(strip.length),
+            },
+            Err(why) => SessionStep {
+                outcome: Err(why),
+                session: Session::empty(),
+            },
+        }
     }
 
     // Whether there is room for one strip more.
@@ -127,52 +116,55 @@ impl Session {
         self.lengths[self.count - 1]
     }
 
-    // The session with one strip more.
-    fn with_top(mut self, length: Columns, terminals: Terminals) -> Session
-        requires { (1 ≤ self.count) × (self.count < 9) }
-        ensures { held_of result ≡ topped (held_of self) (strip length.0 free) (channel_of terminals) }
+    // Puts a strip on top, with the terminals of the channel below it.
+    fn put_top(&mut self, length: Columns, terminals: Terminals)
+        requires { (1 ≤ self.old.count) × (self.old.count < 9) }
+        ensures { held_of self.new ≡ topped (held_of self.old) (strip length.0 free) (channel_of terminals) }
     {
         let n = self.count;
         self.lengths[n] = length;
         self.channels[n - 1] = terminals;
         self.count = n + 1;
-        self
     }
 
-    // The session with one strip more, or why not.
-    fn taller(self, length: u32, terminals: &[u32; KEPT], count: u16) -> Result<Session, Refused>
-        ensures { AddMade (held_of self) length terminals.now count result }
+    // Adds a strip on top, or says why not: then the session stays.
+    fn try_add(&mut self, length: u32, terminals: &[u32; KEPT], count: u16) -> Result<(), Refused>
+        ensures { Added (held_of self.old) length terminals.now count (session_step result self.new) }
     {
         self.room()?;
         let below = self.top();
         let strip = part_content(length, 0)?;
         let pairs = read_terminals(terminals, count, below, strip.length)?;
-        Ok(self.with_top(strip.length, pairs))
+        self.put_top(strip.length, pairs);
+        Ok(())
     }
 
     // Add a strip on top with the channel below it: so many terminals, of which the first stand in these places. Where it is refused, the session stays.
-    pub fn add(self, length: u32, terminals: &[u32; KEPT], count: u16) -> SessionStep
+    pub fn add(mut self, length: u32, terminals: &[u32; KEPT], count: u16) -> SessionStep
         ensures { Added (held_of self) length terminals.now count result }
     {
-        SessionStep::new(self.taller(length, terminals, count), self)
-    }
-
-    // The session without its top strip, or why not.
-    fn lower(mut self) -> Result<Session, Refused>
-        ensures { StepMade (held_of self) off result }
-    {
-        if self.count <= 1 {
-            return Err(Refused::new(Refusal::Empty, 0, 0));
+        let outcome = self.try_add(length, terminals, count);
+        SessionStep {
+            outcome,
+            session: self,
         }
-        self.count -= 1;
-        Ok(self)
     }
 
     // Take the top strip off, with the channel below it. Where it is refused, the session stays.
-    pub fn take_off(self) -> SessionStep
+    pub fn take_off(mut self) -> SessionStep
         ensures { Stepped (held_of self) off result }
     {
-        SessionStep::new(self.lower(), self)
+        if self.count <= 1 {
+            return SessionStep {
+                outcome: Err(Refused::new(Refusal::Empty, 0, 0)),
+                session: self,
+            };
+        }
+        self.count -= 1;
+        SessionStep {
+            outcome: Ok(()),
+            session: self,
+        }
     }
 
     // The strips and channels as a stack, every floor 0.

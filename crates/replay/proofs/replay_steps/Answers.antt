@@ -10,30 +10,30 @@ returns-then-text-gt-MAX_BYTES c =
     let all = overlong_answered c.args.text.now c.empty.result c.new.result c.if-text-gt-MAX_BYTES.true c.empty.ensures c.new.ensures in
     record { is_replayed = all.0; made = all.1 }
 
-pub take_line-replay-requires : goal.take_line-replay-requires
+pub take_line-requires : goal.take_line-requires
 unfolding line
-take_line-replay-requires c =
+take_line-requires c =
     line_short c.args.text.now c.loop-at.at c.loop-at.n c.loop-at.replay c.loop-at.invariant c.loop-at-test.true c.line_from-line.result.bytes.now
     (ap (λ (l : Line). length l.bytes) c.line_from-line.ensures)
 
 pub returns-then-is_none-clause-is_replayed : goal.returns-then-is_none-clause-is_replayed
 returns-then-is_none-clause-is_replayed c =
-    (replaying_stops c.args.text.now c.loop-at.at c.loop-at.n c.loop-at.replay c.loop-at.invariant c.take_line-replay.result c.loop-at-test.true
-    (c.take_line-replay.ensures ∙ rw c.line_from-line.ensures) (c.is_none.ensures ∙ ap not c.if-is_none.true)).0
+    (replaying_stops c.args.text.now c.loop-at.at c.loop-at.n c.loop-at.replay c.loop-at.invariant c.take_line.new.self c.loop-at-test.true
+    (c.take_line.ensures ∙ rw c.line_from-line.ensures) (c.is_none.ensures ∙ ap not c.if-is_none.true)).0
 
 pub returns-then-is_none-clause-made : goal.returns-then-is_none-clause-made
 returns-then-is_none-clause-made c =
-    (replaying_stops c.args.text.now c.loop-at.at c.loop-at.n c.loop-at.replay c.loop-at.invariant c.take_line-replay.result c.loop-at-test.true
-    (c.take_line-replay.ensures ∙ rw c.line_from-line.ensures) (c.is_none.ensures ∙ ap not c.if-is_none.true)).1
+    (replaying_stops c.args.text.now c.loop-at.at c.loop-at.n c.loop-at.replay c.loop-at.invariant c.take_line.new.self c.loop-at-test.true
+    (c.take_line.ensures ∙ rw c.line_from-line.ensures) (c.is_none.ensures ∙ ap not c.if-is_none.true)).1
 
 pub loop-at-preserved : goal.loop-at-preserved
 unfolding line
 loop-at-preserved c =
-    replaying_steps c.args.text.now c.loop-at.at c.loop-at.n c.loop-at.replay c.loop-at.invariant c.take_line-replay.result c.loop-at-test.true
-    (c.take_line-replay.ensures ∙ rw c.line_from-line.ensures) (c.is_none.ensures ∙ ap not c.if-is_none.false) c.line_from-line.result.bytes.now
+    replaying_steps c.args.text.now c.loop-at.at c.loop-at.n c.loop-at.replay c.loop-at.invariant c.take_line.new.self c.loop-at-test.true
+    (c.take_line.ensures ∙ rw c.line_from-line.ensures) (c.is_none.ensures ∙ ap not c.if-is_none.false) c.line_from-line.result.bytes.now
     (ap (λ (l : Line). length l.bytes) c.line_from-line.ensures)
 
 pub returns : goal.returns
 returns c =
-    let all = replaying_ends c.args.text.now c.loop-at.at c.loop-at.n c.loop-at.replay c.loop-at.invariant c.finished.result c.loop-at-test.false c.finished.ensures in
+    let all = replaying_ends c.args.text.now c.loop-at.at c.loop-at.n c.loop-at.replay c.loop-at.invariant c.finish.new.self c.loop-at-test.false c.finish.ensures in
     record { is_replayed = all.0; made = all.1 }

@@ -1,8 +1,10 @@
--- begin meets its contract. Assumes nothing.
-use Rattle.session.specs.Session.{step_refusal, taken, left}
-use Rattle.session.proofs.Steps.{stepped}
+-- begin meets its contract. That nothing is held where it is refused, and what `single` makes, is left to the search, so that an edit is refused for that fact.
+use borrow.Author.Rules.{rules}
+use Rattle.session.proofs.Steps.{begin_refused, begin_made}
 use Rattle.session.proofs.Session.begin.Goals as goal
 
-pub returns : goal.returns
-unfolding step_refusal taken left
-returns c = stepped _ _ c.single.result c.empty-none.result c.new.result (record { refused = c.single.ensures.refused; made = c.single.ensures.made }) c.empty-none.ensures c.new.ensures
+pub returns-in-Ok : goal.returns-in-Ok
+returns-in-Ok c = begin_made _ _ c.in-Ok.strip _ c.in-Ok.ensures (search rules)
+
+pub returns-in-Err : goal.returns-in-Err
+returns-in-Err c = begin_refused _ _ c.in-Err.why _ c.in-Err.ensures (search rules)
