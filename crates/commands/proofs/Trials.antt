@@ -5,16 +5,15 @@ use Prim.Native.Nat.{ℕ, ◌+◌, ◌*◌, ◌-◌, ◌≤◌, ◌<◌}
 use native.Mathlib.Omega.{arith}
 use lib.ListN.{length, get_or, take, drop, length-take, length-drop}
 use lib.Seq.{get_or-take, get_or-drop}
-use Rattle.std.proofs.lemmas.List.{take_all}
+use Rattle.std.proofs.lemmas.List.{ext_get_or, take_all}
 use Rattle.numbers.specs.Lists.{tabulate, filled, padded}
 use Rattle.numbers.proofs.Lists.{length_tabulate, get_or_tabulate}
-use Rattle.nabetsu.proofs.Numbers.{same_places}
 use Rattle.commands.specs.Output.{separations_in, positions_in}
 
 padded_filled : (n t : ℕ) (us : List ℕ) (rule : ℕ → ℕ) → length us ≡ t → ((j : ℕ) → j < t → get_or us j 0 ≡ rule j) → padded n us ≡ filled n t rule 0
 unfolding padded filled
 padded_filled n t us rule l at =
-    let e : us ≡ tabulate t 0 rule = same_places (tabulate t 0 rule) us t (length_tabulate t 0 rule) l (λ j h. at j h ∙ sym (get_or_tabulate t j rule 0 h)) in
+    let e : us ≡ tabulate t 0 rule = ext_get_or 0 us (tabulate t 0 rule) (l ∙ sym (length_tabulate t 0 rule)) (λ j h. let m : j < t = omega (arith, l) in at j m ∙ sym (get_or_tabulate t j rule 0 m)) in
     rw (e, length_tabulate t 0 rule)
 
 -- behind the spread

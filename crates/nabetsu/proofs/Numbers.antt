@@ -1,7 +1,7 @@
 -- The numbers of a placement, and the laws of the entries for callers in other languages. Assumes nothing.
-use mathlib.Core.Path.{◌≡◌, refl, sym, ap, ap₂, ◌∙◌}
+use mathlib.Core.Path.{◌≡◌, sym, ap, ◌∙◌}
 use mathlib.Core.Bool.{Bool, true, false}
-use mathlib.Core.List.{List, [], ◌∷◌, ◌++◌, map}
+use mathlib.Core.List.{List, ◌∷◌, ◌++◌}
 use Prim.Native.Nat.{ℕ, zero, suc, ◌+◌, ◌-◌, ◌≤◌, ◌<◌, min}
 use native.Mathlib.Omega.{arith}
 use lib.Dec.{leb}
@@ -11,7 +11,8 @@ use borrow.Author.Tests.{le-leb, lt-leb, ne_eqb, eq-eqb}
 use denote.Param.Members.{Mut, Called}
 use Rattle.std.specs.Array.{IsMapOf}
 use Rattle.std.specs.Prelude.{Ok, Err}
-use Rattle.std.proofs.lemmas.List.{append-nil, take_all, take_min, drop-replicate}
+use Rattle.std.proofs.lemmas.List.{append-nil, map-id, ext_get_or, take_all, take_min, drop-replicate}
+use Rattle.std.proofs.lemmas.Simd.{map-map}
 use Rattle.numbers.specs.Lists.{tabulate, padded}
 use Rattle.numbers.proofs.Lists.{length_tabulate, get_or_tabulate, tabulate_same, tabulate_constant, zeros_at}
 use Rattle.stack.specs.Value.{tracks, columns, tracks_of, columns_of}
@@ -28,16 +29,6 @@ use Rattle.stack.specs.declared.Placement.{Placement}
 use Rattle.reply.specs.Told.{zeros}
 use Rattle.nabetsu.specs.Entry.{TrialResult, code, numbers_placed, numbers, numbers_in, NumbersPut, verdict, is_legal_numbers, TrialSays}
 use Rattle.nabetsu.specs.Parts.{NumbersTried}
-
--- lists that agree at every place are the same
-pub same_places : (xs ys : List ℕ) (n : ℕ) → length xs ≡ n → length ys ≡ n → ((j : ℕ) → j < n → get_or ys j 0 ≡ get_or xs j 0) → ys ≡ xs
-same_places [] [] n l m h = refl
-same_places [] (y ∷ ys) n l m h = absurd (omega arith)
-same_places (x ∷ xs) [] n l m h = absurd (omega arith)
-same_places (x ∷ xs) (y ∷ ys) n l m h =
-    let e : y ≡ x = h 0 (omega arith) in
-    let r : ys ≡ xs = same_places xs ys (n - 1) (omega arith) (omega arith) (λ j k. h (suc j) (omega arith)) in
-    rw (e, r)
 
 -- NUMBERS with zeros behind them
 -- the first of the numbers over zeros
@@ -59,20 +50,16 @@ padded_part : (n : ℕ) (ns : List ℕ) → length ns ≡ n → padded n (take n
 padded_part n ns e = ap (padded n) (take_all n ns (omega arith)) ∙ padded_whole n ns e
 
 -- numbers made separations or positions, one by one
-numbers_back : {B : Type 0} (number : B → ℕ) (made : ℕ → B) → ((x : ℕ) → number (made x) ≡ x) → (ns : List ℕ) → map number (map made ns) ≡ ns
-numbers_back number made same [] = refl
-numbers_back number made same (x ∷ ns) = ap₂ (λ y ys. y ∷ ys) (same x) (numbers_back number made same ns)
-
 pub tracks_mapped : {F : Type 0} (g : Mut F (ℕ × Unit {0}) Tracks) {f : F} {ns : List ℕ} {ts : List Tracks} (n : ℕ) → IsMapOf g f ns ts n → length ns ≡ n →
     ((p : F) (x : ℕ) (r : Tracks) (q : F) → Called g p (x, tt) r q → r ≡ tracks x) → tracks_of ts ≡ ns
-tracks_mapped g {ns = ns} n m l gives = ap tracks_of (array_mapped g tracks 0 l gives m) ∙ numbers_back (λ (t : Tracks). t.0) tracks (λ x. refl) ns
+tracks_mapped g {ns = ns} n m l gives = ap tracks_of (array_mapped g tracks 0 l gives m) ∙ map-map (λ (t : Tracks). t.0) tracks ns ∙ map-id ns
 
 pub columns_mapped : {F : Type 0} (g : Mut F (ℕ × Unit {0}) Columns) {f : F} {ns : List ℕ} {xs : List Columns} (n : ℕ) → IsMapOf g f ns xs n → length ns ≡ n →
     ((p : F) (x : ℕ) (r : Columns) (q : F) → Called g p (x, tt) r q → r ≡ columns x) → columns_of xs ≡ ns
-columns_mapped g {ns = ns} n m l gives = ap columns_of (array_mapped g columns 0 l gives m) ∙ numbers_back (λ (x : Columns). x.0) columns (λ x. refl) ns
+columns_mapped g {ns = ns} n m l gives = ap columns_of (array_mapped g columns 0 l gives m) ∙ map-map (λ (x : Columns). x.0) columns ns ∙ map-id ns
 
 -- THE EIGHTEEN NUMBERS of a placement, place by place
-module _ (v : ℕ) (ts : List Tracks) (xs : List Columns) (sized : length ts ≡ 8) (sized_columns : length xs ≡ 9) where
+module _ (v : ℕ) (ts : List Tracks) (xs : List Columns) (sized : length ts ≡ 8) where
   pub number_column : (i : ℕ) → 8 < i → (get_or xs (i - 8 - 1) (record { 0 = 0 })).0 ≡ get_or (v ∷ (tracks_of ts ++ columns_of xs)) i 0
   number_column zero h = absurd (omega arith)
   number_column (suc j) h =
@@ -86,7 +73,7 @@ pub numbers_put : (p : Placement) (n : ℕ) (o : List ℕ) → length o ≡ n �
 unfolding numbers_in numbers
 numbers_put p n o l h =
     let at : ℕ → ℕ = λ i. get_or (numbers_placed p) i 0 in
-    same_places (tabulate n 0 at) o n (length_tabulate n 0 at) l (λ j k. h j k ∙ sym (get_or_tabulate n j at 0 k))
+    ext_get_or 0 o (tabulate n 0 at) (l ∙ sym (length_tabulate n 0 at)) (λ j k. let m : j < n = omega (arith, l) in h j m ∙ sym (get_or_tabulate n j at 0 m))
 
 -- SHORT SPACE after every other refusal
 -- a refusal's numbers are zeros

@@ -545,6 +545,7 @@ fn print_step(rt: &HostRuntime, replay: &Replay, spread: u32) -> Result<Status, 
 
 // Line n: prints the row behind a step, or says that the line is none of a step; answers the line's status, and fails where the output cannot be written. What is held
 // then steps have made in either case. Lines have at most 8,192 bytes since the space that they are read into has one byte more, for the line feed.
+#[tactic(auto, using(crate::proofs::Lines::line_run_made))]
 fn run_line(
     rt: &HostRuntime,
     replay: &mut Replay,

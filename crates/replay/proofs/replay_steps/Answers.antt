@@ -1,3 +1,4 @@
+-- replay_steps meets its contract: a text too long, a line of no step, a line taken, and the end. Assumes nothing.
 use mathlib.Core.Path.{ap, ◌∙◌}
 use mathlib.Core.Bool.{not}
 use lib.ListN.{length}
@@ -16,15 +17,11 @@ take_line-requires c =
     line_short c.args.text.now c.loop-at.at c.loop-at.n c.loop-at.replay c.loop-at.invariant c.loop-at-test.true c.line_from-line.result.bytes.now
     (ap (λ (l : Line). length l.bytes) c.line_from-line.ensures)
 
-pub returns-then-is_none-clause-is_replayed : goal.returns-then-is_none-clause-is_replayed
-returns-then-is_none-clause-is_replayed c =
-    (replaying_stops c.args.text.now c.loop-at.at c.loop-at.n c.loop-at.replay c.loop-at.invariant c.take_line.new.self c.loop-at-test.true
-    (c.take_line.ensures ∙ rw c.line_from-line.ensures) (c.is_none.ensures ∙ ap not c.if-is_none.true)).0
-
-pub returns-then-is_none-clause-made : goal.returns-then-is_none-clause-made
-returns-then-is_none-clause-made c =
-    (replaying_stops c.args.text.now c.loop-at.at c.loop-at.n c.loop-at.replay c.loop-at.invariant c.take_line.new.self c.loop-at-test.true
-    (c.take_line.ensures ∙ rw c.line_from-line.ensures) (c.is_none.ensures ∙ ap not c.if-is_none.true)).1
+pub returns-then-is_none : goal.returns-then-is_none
+returns-then-is_none c =
+    let all = replaying_stops c.args.text.now c.loop-at.at c.loop-at.n c.loop-at.replay c.loop-at.invariant c.take_line.new.self c.loop-at-test.true
+    (c.take_line.ensures ∙ rw c.line_from-line.ensures) (c.is_none.ensures ∙ ap not c.if-is_none.true) in
+    record { is_replayed = all.0; made = all.1 }
 
 pub loop-at-preserved : goal.loop-at-preserved
 unfolding line

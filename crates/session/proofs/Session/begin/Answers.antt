@@ -1,4 +1,5 @@
 -- begin meets its contract. That nothing is held where it is refused, and what `single` makes, is left to the search, so that an edit is refused for that fact.
+-- Assumes nothing.
 use borrow.Author.Rules.{rules}
 use Rattle.session.proofs.Steps.{begin_refused, begin_made}
 use Rattle.session.proofs.Session.begin.Goals as goal
