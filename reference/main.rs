@@ -9,6 +9,7 @@ mod reader;
 mod session;
 mod solver;
 mod specimens;
+mod turn;
 
 use random::Random;
 use reader::Refusal;
@@ -210,8 +211,8 @@ fn small_stack(random: &mut Random) -> reader::Stack {
     }
 }
 
-/// The two ways to place strips and to find rows, at every spread of random small stacks and for several totals; how many spreads and placements, or the first
-/// stack at which they differ.
+/// The two ways to place strips and to find rows, and the totals of the stack turned over, at every spread of random small stacks and for several totals; how
+/// many spreads and placements, or the first stack at which they differ.
 fn check_agreement(seed: u64, count: usize) -> Result<(usize, usize), Vec<u8>> {
     let mut random = Random(seed);
     let (mut spreads, mut placements) = (0, 0);
@@ -225,7 +226,9 @@ fn check_agreement(seed: u64, count: usize) -> Result<(usize, usize), Vec<u8>> {
             let totals = random.totals(&stack, least as u32);
             let place = |total: &u32, brute: bool| solver::place(&stack, spread, *total as usize, brute);
             let same = |total: &u32| place(total, true) == place(total, false);
-            if least != solver::least_total(&stack, spread, false) || !totals.iter().all(same) {
+            let turned = [Some(turn::upside_down(&stack)), turn::left_to_right(&stack)];
+            let other = |turned: &reader::Stack| solver::total_at(turned, spread) != Ok(least);
+            if least != solver::least_total(&stack, spread, false) || !totals.iter().all(same) || turned.iter().flatten().any(other) {
                 return Err(random.text(&stack));
             }
             spreads += 1;

@@ -1,5 +1,5 @@
 //! Whether a channel can be drawn, by a search over paths on the grid: document 01's rule with P4's tracks. L, R and P1's tracks have no part in it.
-//! Every channel within small bounds is searched and set beside the condition with L and R.
+//! Every channel within small bounds is searched and set beside the condition with L and R, and beside a search for paths that stay inside the spread.
 
 use crate::channel::{feasible, formerly_feasible, Pair};
 
@@ -20,14 +20,9 @@ struct Grid {
 }
 
 impl Grid {
-    /// The grid of a channel, where the lower strip is at 0; None if it is too large.
-    ///
-    /// (t - 1) / 2 columns beyond the outermost terminals on each side do as well as any number of them: a piece of a path that goes out there comes back on
-    /// another of the tracks 1 to t - 1, so there are at most (t - 1) / 2 such pieces; no two cross, so each can turn back in the first column beyond those
-    /// between its two tracks.
-    fn new(pairs: &[Pair], t: usize, offset: i64) -> Option<Grid> {
+    /// The grid of a channel, where the lower strip is at 0, with so many columns beyond the outermost terminals on each side; None if it is too large.
+    fn new(pairs: &[Pair], t: usize, offset: i64, margin: i64) -> Option<Grid> {
         let ends: Vec<(i64, i64)> = pairs.iter().map(|p| (p.0, p.1 + offset)).collect();
-        let margin = t.saturating_sub(1) as i64 / 2;
         let first = ends.iter().map(|e| e.0.min(e.1)).min()? - margin;
         let columns = (ends.iter().map(|e| e.0.max(e.1)).max()? + margin - first + 1) as usize;
         if columns.checked_mul(t.checked_add(1)?)? > MOST_POINTS {
@@ -96,13 +91,30 @@ impl Grid {
     }
 }
 
-/// Whether the pairs can be given paths, no point shared; None if the grid is too large.
-pub fn drawable(pairs: &[Pair], t: usize, offset: i64) -> Option<bool> {
+/// Whether the pairs can be given paths, no point shared, with so many columns beyond the outermost terminals on each side; None if the grid is too large.
+fn drawable_with(pairs: &[Pair], t: usize, offset: i64, margin: i64) -> Option<bool> {
     if pairs.is_empty() {
         return Some(true);
     }
-    let grid = Grid::new(pairs, t, offset)?;
+    let grid = Grid::new(pairs, t, offset, margin)?;
     Some(grid.begins(0, grid.ends.iter().fold(0, |taken, e| taken | e.0 | e.1)))
+}
+
+/// So many columns beyond the outermost terminals on each side do as well as any number of them: a piece of a path that goes out there comes back on another of
+/// the tracks 1 to t - 1, so there are at most (t - 1) / 2 such pieces; no two cross, so each can turn back in the first column beyond those between its two
+/// tracks.
+fn margin(t: usize) -> i64 {
+    t.saturating_sub(1) as i64 / 2
+}
+
+/// Whether the pairs can be given paths in any columns.
+pub fn drawable(pairs: &[Pair], t: usize, offset: i64) -> Option<bool> {
+    drawable_with(pairs, t, offset, margin(t))
+}
+
+/// Whether they can be given paths between the outermost terminals. Where both strips lie within a spread so do their terminals, and such paths stay inside it.
+pub fn drawable_inside(pairs: &[Pair], t: usize, offset: i64) -> Option<bool> {
+    drawable_with(pairs, t, offset, 0)
 }
 
 /// The bounds of the comparison: up to so many pairs, terminals from 0 to this, separations up to two above the count of pairs, offsets up to this to each
@@ -116,9 +128,15 @@ const ALL: &str = "channels searched for paths";
 const DRAWABLE: &str = "channels searched, drawable";
 const FORMERLY: &str = "channels searched, not drawable but allowed by the former rule";
 
-/// What must have been met: the last of these, and both answers at separations 0, 1 and the count of pairs; at one more every channel is drawable.
-pub const MET: [&str; 8] = [
+/// The same answer with and without columns beyond the outermost terminals, where such columns are searched at all: from a separation of 3 on.
+const DRAWABLE_INSIDE: &str = "channels searched, drawable inside the spread as with columns beyond";
+const NOT_DRAWABLE_INSIDE: &str = "channels searched, not drawable inside the spread nor with columns beyond";
+
+/// What must have been met: the last three of these, and both answers at separations 0, 1 and the count of pairs; at one more every channel is drawable.
+pub const MET: [&str; 10] = [
     FORMERLY,
+    DRAWABLE_INSIDE,
+    NOT_DRAWABLE_INSIDE,
     "channels searched, drawable at 0",
     "channels searched, not drawable at 0",
     "channels searched, drawable at 1",
@@ -141,13 +159,20 @@ fn all_channels(m: usize) -> Vec<Vec<Pair>> {
     lower.iter().flat_map(over).collect()
 }
 
-/// The search beside the condition for one channel, separation and offset.
+/// The search beside the condition and beside the search inside the spread, for one channel, separation and offset.
 fn compare_one(pairs: &[Pair], t: usize, offset: i64, count: &mut impl FnMut(&'static str)) -> Result<(), String> {
     let found = drawable(pairs, t, offset);
     if found != Some(feasible(pairs, t, offset)) {
         return Err(format!("pairs {:?}, separation {}, offset {}: drawable by search: {:?}", pairs, t, offset, found));
     }
+    let beyond = !pairs.is_empty() && margin(t) > 0;
+    if beyond && drawable_inside(pairs, t, offset) != found {
+        return Err(format!("pairs {:?}, separation {}, offset {}: not as inside the spread: {:?}", pairs, t, offset, found));
+    }
     let found = found == Some(true);
+    if beyond {
+        count(if found { DRAWABLE_INSIDE } else { NOT_DRAWABLE_INSIDE });
+    }
     count(ALL);
     if found {
         count(DRAWABLE);
@@ -157,7 +182,7 @@ fn compare_one(pairs: &[Pair], t: usize, offset: i64, count: &mut impl FnMut(&'s
     let m = pairs.len();
     for (n, at) in [0, 1, m, m + 1].into_iter().enumerate() {
         if m > 0 && t == at {
-            count(MET[1 + 2 * n + !found as usize]);
+            count(MET[3 + 2 * n + !found as usize]);
         }
     }
     Ok(())

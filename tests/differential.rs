@@ -1,5 +1,6 @@
 //! The proved library against the independent program in reference/ and the plain one in bench/, on random stacks and damaged texts; before that the condition
-//! on a channel against a search for paths, at last random sessions. It stops at the first difference.
+//! on a channel against a search for paths, then random sessions, at last the same stacks turned over and the positions of strips in small ones. It stops at
+//! the first difference.
 
 #[path = "../reference/channel.rs"]
 mod channel;
@@ -19,7 +20,9 @@ mod plain {
 }
 #[path = "../reference/random.rs"]
 mod random;
+mod random_positions;
 mod random_sessions;
+mod random_turned;
 #[path = "../reference/reader.rs"]
 mod reader;
 #[path = "../reference/session.rs"]
@@ -28,6 +31,8 @@ mod session;
 mod solver;
 #[path = "../reference/specimens.rs"]
 mod specimens;
+#[path = "../reference/turn.rs"]
+mod turn;
 
 use library::{code, Refusal};
 use random::Random;
@@ -309,11 +314,14 @@ fn judged(stack: &Stack, spread: u32, placement: &[u32; 17]) -> bool {
     judged_by(stack, spread, placement, &channel::feasible)
 }
 
+/// A search for paths in a channel, at a separation and an offset.
+type Search = fn(&[channel::Pair], usize, i64) -> Option<bool>;
+
 /// The same by a search for paths in each channel; None where a grid is too large for it.
-fn searched(stack: &Stack, spread: u32, placement: &[u32; 17]) -> Option<bool> {
+fn searched(stack: &Stack, spread: u32, placement: &[u32; 17], drawable: Search) -> Option<bool> {
     let too_large = Cell::new(false);
     let wired = |pairs: &[channel::Pair], t: usize, offset: i64| {
-        let found = paths::drawable(pairs, t, offset);
+        let found = drawable(pairs, t, offset);
         too_large.set(too_large.get() || found.is_none());
         found == Some(true)
     };
@@ -601,13 +609,15 @@ impl Run {
         self.trial(text, spread, placement, Ok(legal))
     }
 
-    /// The trial of a small stack's placement by a search for paths: it is legal exactly if it can be drawn.
+    /// The trial of a small stack's placement by a search for paths: it is legal exactly if it can be drawn, inside the spread too.
     fn search(&mut self, stack: &Stack, spread: u32, placement: &[u32; 17], legal: bool) -> Checked {
-        match searched(stack, spread, placement) {
+        let by = |search: Search| searched(stack, spread, placement, search);
+        let differs = |what: &str| Err(format!("trial at spread {} of {:?}: {} by search, due {}", spread, placement, what, legal));
+        match by(paths::drawable) {
             None => self.count("trials, a grid too large for a search"),
-            Some(drawn) if drawn != legal => {
-                return Err(format!("trial at spread {} of {:?}: drawable by search: {}", spread, placement, drawn));
-            }
+            Some(true) if !legal => return differs("drawable"),
+            Some(false) if legal => return differs("not drawable"),
+            Some(true) if by(paths::drawable_inside) != Some(true) => return differs("drawable, but not inside the spread,"),
             Some(true) => self.count("trials, legal by a search for paths"),
             Some(false) => self.count("trials, not legal by a search for paths"),
         }
@@ -1052,6 +1062,27 @@ fn compare_damaged(run: &mut Run, count: u64, bases: &[Vec<u8>]) {
     }
 }
 
+/// Everything, so many of each kind.
+fn compare_all(run: &mut Run, counts: [u64; 6]) {
+    let compared = paths::compare(|what| run.count(what));
+    expect("paths in small channels", b"", compared);
+    check_specimens(run);
+    check_page_specimens(run);
+    let mut bases = Vec::new();
+    compare_stacks(run, counts[0], ["small stack", "small stacks"], Run::small, Run::stack, &mut bases);
+    compare_stacks(run, counts[1], ["middle stack", "middle stacks"], Run::middle, Run::stack, &mut bases);
+    compare_stacks(run, counts[3], ["stack at the limits", "stacks at the limits"], Run::large, Run::large_stack, &mut bases);
+    compare_stacks(run, counts[4], ["stack for pages", "stacks for pages"], Run::for_pages, Run::stack_for_pages, &mut bases);
+    if bases.is_empty() {
+        bases.push(specimens::tabbed(specimens::TABLES[1].1).into_bytes());
+    }
+    compare_damaged(run, counts[2], &bases);
+    random_sessions::check_specimens(run);
+    random_sessions::compare(run, counts[5]);
+    random_turned::compare(run, &bases);
+    random_positions::compare(run, counts[0] / 2);
+}
+
 fn main() {
     let words: Vec<String> = std::env::args().skip(1).collect();
     let given: Option<Vec<u64>> = words.iter().map(|w| w.parse().ok()).collect();
@@ -1065,26 +1096,13 @@ fn main() {
         }
     };
     let mut run = Run { random: Random(seed), counts: BTreeMap::new() };
-    let compared = paths::compare(|what| run.count(what));
-    expect("paths in small channels", b"", compared);
-    check_specimens(&mut run);
-    check_page_specimens(&mut run);
-    let mut bases = Vec::new();
-    compare_stacks(&mut run, counts[0], ["small stack", "small stacks"], Run::small, Run::stack, &mut bases);
-    compare_stacks(&mut run, counts[1], ["middle stack", "middle stacks"], Run::middle, Run::stack, &mut bases);
-    compare_stacks(&mut run, counts[3], ["stack at the limits", "stacks at the limits"], Run::large, Run::large_stack, &mut bases);
-    compare_stacks(&mut run, counts[4], ["stack for pages", "stacks for pages"], Run::for_pages, Run::stack_for_pages, &mut bases);
-    if bases.is_empty() {
-        bases.push(specimens::tabbed(specimens::TABLES[1].1).into_bytes());
-    }
-    compare_damaged(&mut run, counts[2], &bases);
-    random_sessions::check_specimens(&mut run);
-    random_sessions::compare(&mut run, counts[5]);
+    compare_all(&mut run, counts);
     for (what, count) in &run.counts {
         println!("{:>9} {}", count, what);
     }
     let usual = counts.iter().zip(COUNTS).all(|(given, usual)| *given >= usual);
-    let mut due = MET.iter().chain(&paths::MET).chain(&faults::MET).chain(&random_sessions::MET);
+    let others = [&paths::MET[..], &faults::MET, &random_sessions::MET, &random_turned::MET, &random_positions::MET];
+    let mut due = MET.iter().chain(others.into_iter().flatten());
     if let Some(what) = due.find(|what| usual && !run.counts.contains_key(*what)) {
         println!("never met: {}", what);
         std::process::exit(1);

@@ -17,6 +17,9 @@ mod solver;
 #[allow(dead_code)]
 #[path = "../reference/specimens.rs"]
 mod specimens;
+#[path = "../reference/turn.rs"]
+mod turn;
+mod turned;
 mod windows;
 
 use library::{code, Refusal};
@@ -1085,6 +1088,7 @@ fn main() {
     check_tall_pages();
     check_page_refusals();
     windows::check();
+    turned::check();
     let (steps, no_steps) = sessions::check();
     let [counts, numbers, windows] = [11, 12, 14].map(|number| refused.iter().filter(|r| r.2 .0 == number).count());
     println!(

@@ -1,35 +1,19 @@
--- One least total, one placement for a total, and the answer is both together. Assumes nothing.
-use mathlib.Core.Path.{◌≡◌, refl, sym, ap, ◌∙◌}
+-- One placement for a total, and the answer is the least total and its placement. Assumes nothing.
+use mathlib.Core.Path.{◌≡◌, refl, sym, ◌∙◌}
 use mathlib.Core.Bool.{true}
 use mathlib.Core.List.{List, [], ◌∷◌}
-use Prim.Native.Nat.{ℕ, suc, ◌+◌, ◌≤◌}
+use Prim.Native.Nat.{ℕ, ◌+◌, ◌≤◌}
 use native.Mathlib.Omega.{arith}
 use lib.ListN.{length}
 use borrow.Author.Tests.{leb-true}
 use Rattle.numbers.proofs.Bools.{ands, impossible}
-use Rattle.stack.specs.Stack.{Channel, Window, free, held, Strip, strip, Stack, in_window, stands, in_spread, channels_good, legal, sum, greatest_of, least_position, first_spread, TotalMet, LeastTotal, Placement, Answer}
+use Rattle.stack.specs.Stack.{Window, free, held, Strip, strip, Stack, in_window, stands, in_spread, legal, sum, greatest_of, least_position, first_spread, TotalMet, LeastTotal, Placement, Answer}
+use Rattle.stack.proofs.Placements.{legal_each, answer_total_is, total_alone}
 use Rattle.spans.proofs.Order.{not_later_both}
-
--- a placement's lengths
-good_length : (cs : List Channel) (ts xs : List ℕ) → channels_good cs ts xs ≡ true → length ts ≡ length cs
-unfolding channels_good
-good_length [] [] xs g = refl
-good_length [] (t ∷ ts) xs g = impossible g
-good_length (c ∷ cs) [] xs g = impossible g
-good_length (c ∷ cs) (t ∷ ts) [] g = impossible g
-good_length (c ∷ cs) (t ∷ ts) (x ∷ xs) g = ap suc (good_length cs ts xs (search ands))
-
-spread_length : (s : ℕ) (ls : List Strip) (xs : List ℕ) → in_spread s ls xs ≡ true → length xs ≡ length ls
-unfolding in_spread
-spread_length s [] [] i = refl
-spread_length s [] (x ∷ xs) i = impossible i
-spread_length s (l ∷ ls) [] i = impossible i
-spread_length s (l ∷ ls) (x ∷ xs) i = ap suc (spread_length s ls xs (search ands))
 
 -- a legal placement has a separation for each channel and a position for each strip
 pub legal_lengths : (k : Stack) (s : ℕ) (ts xs : List ℕ) → legal k s ts xs ≡ true → (length ts ≡ length k.channels) × (length xs ≡ length k.strips)
-unfolding legal
-legal_lengths k s ts xs e = (good_length k.channels ts xs (search ands), spread_length s k.strips xs (search ands))
+legal_lengths k s ts xs e = let p = legal_each k s ts xs e in (p.separations, p.positions)
 
 -- and it is in a spread from the first one on: each strip takes its length from its least position or from further right
 strip_reach : (s n x : ℕ) (w : Window) → stands s (strip n w) x ≡ true → n + least_position w ≤ s
@@ -51,13 +35,6 @@ module _ (k : Stack) (s : ℕ) where
   pub legal_wide : (ts xs : List ℕ) → legal k s ts xs ≡ true → first_spread k.strips ≤ s
   unfolding legal
   legal_wide ts xs e = spread_wide s k.strips xs (search ands)
-
-  -- AT MOST ONE LEAST TOTAL
-  pub total_alone : (v w : ℕ) → LeastTotal k s v → LeastTotal k s w → v ≡ w
-  total_alone v w a b =
-      let m = a.met in
-      let n = b.met in
-      omega (arith, a.least n.separations n.positions n.is_legal, b.least m.separations m.positions m.is_legal, m.exact, n.exact)
 
   -- AT MOST ONE PLACEMENT FOR A TOTAL
   pub placement_alone : (v : ℕ) (ts xs us ys : List ℕ) → Placement k s v ts xs → Placement k s v us ys → (ts ≡ us) × (xs ≡ ys)
@@ -81,9 +58,6 @@ module _ (k : Stack) (s : ℕ) where
         first_places = p.first_places;
       }
 
-  pub answer_total_is : (ts xs : List ℕ) → Answer k s ts xs → LeastTotal k s (sum ts)
-  answer_total_is ts xs a = record { met = record { separations = ts; positions = xs; is_legal = a.is_legal; exact = refl }; least = a.least }
-
   pub answer_placed : (v : ℕ) (ts xs : List ℕ) → Answer k s ts xs → sum ts ≡ v → Placement k s v ts xs
   answer_placed v ts xs a e =
       record { is_legal = a.is_legal; exact = e; first = λ us ys h q. a.first us ys h (q ∙ sym e); first_places = a.first_places }
@@ -91,5 +65,5 @@ module _ (k : Stack) (s : ℕ) where
   -- AT MOST ONE ANSWER
   pub answer_alone : (ts xs us ys : List ℕ) → Answer k s ts xs → Answer k s us ys → (ts ≡ us) × (xs ≡ ys)
   answer_alone ts xs us ys a b =
-      let e = total_alone (sum ts) (sum us) (answer_total_is ts xs a) (answer_total_is us ys b) in
+      let e = total_alone k s (sum ts) (sum us) (answer_total_is k s ts xs a) (answer_total_is k s us ys b) in
       placement_alone (sum us) ts xs us ys (answer_placed (sum us) ts xs a e) (answer_placed (sum us) us ys b refl)

@@ -11,6 +11,7 @@ use borrow.Author.Tests.{leb-true}
 use Rattle.numbers.proofs.Bools.{ands, impossible}
 use Rattle.stack.specs.Stack.{Channel, Window, free, held, Strip, Stack, stack, in_spread, channels_good, legal, sum, least_position, first_spread, not_later, TotalMet, LeastTotal, Placement, Answer}
 use Rattle.stack.specs.Limits.{channels_within, within_limits}
+use Rattle.stack.proofs.Placements.{total_alone}
 use Rattle.spans.specs.Spans.{In}
 use Rattle.spans.specs.Solver.{most, positions}
 use Rattle.spans.specs.Placed.{Placed, alone, under, Widening, Exactly, Chosen}
@@ -18,7 +19,7 @@ use Rattle.spans.proofs.Total.{no_smaller_total, least_total_at_most, least_tota
 use Rattle.spans.proofs.Chosen.{chosen}
 use Rattle.answer.specs.Solve.{last_use, window_span, window, stack_levels, bottom, levels_of, total_with, separations_with, positions_with, answer_total, separations_for, positions_for, answer_separations, answer_positions}
 use Rattle.answer.proofs.Legal.{Stand, stand, legal_placed, placed_legal, stack_widening, channel_fits_open}
-use Rattle.answer.proofs.Alone.{legal_wide, total_alone, placement_alone, placement_met, both_answer}
+use Rattle.answer.proofs.Alone.{legal_wide, placement_alone, placement_met, both_answer}
 
 -- every strip at its least position and every separation the last of use
 unfoldable pub lasts_of : List Channel → List ℕ

@@ -13,6 +13,7 @@ use Rattle.numbers.proofs.Orders.{le_or_lt}
 use Rattle.stack.specs.Stack.{Channel, Window, free, held, Strip, strip, feasible, in_window, stands, in_spread, channels_good, greatest_of, least_position, first_spread}
 use Rattle.stack.specs.Limits.{pairs_within, channel_within, channels_within, window_within, strip_within, strips_within}
 use Rattle.stack.proofs.OnStrips.{terminals_on}
+use Rattle.stack.proofs.Placements.{stands_within}
 use Rattle.limits.specs.Limits.{low_limit, low_term, low_floored, high_floored, FlooredBetween}
 use Rattle.limits.proofs.Between.{Biased, greatest_at_most}
 use Rattle.limits.proofs.Floors.{feasible_between, between_feasible, low_floored_widens, high_floored_widens, low_floored_open, high_floored_open, low_floored_bounded}
@@ -124,10 +125,6 @@ module _ (b s : ℕ) (wide : s + 32 ≤ b) where
   window_only n x free i = rw (le-leb (x + n) s (omega (arith, i.below)))
   window_only n x (held a g) i = rw (le-leb (x + n) s (omega (arith, i.below)), le-leb a x (omega (arith, i.above)), le-leb x g (omega (arith, i.below)))
 
-  fits_spread : (l : Strip) (x : ℕ) → stands s l x ≡ true → x + l.length ≤ s
-  unfolding stands
-  fits_spread l x e = leb-true (x + l.length) s (search ands)
-
   pub legal_placed : (l : Strip) (ls : List Strip) (cs : List Channel) (ts : List ℕ) (x : ℕ) (xs : List ℕ) → channels_within (l ∷ ls) cs ≡ true →
       in_spread s (l ∷ ls) (x ∷ xs) ≡ true → channels_good cs ts (x ∷ xs) ≡ true → Placed b (window s l) (stack_levels b s ls cs) ts x xs
   unfolding channels_within in_spread channels_good stack_levels
@@ -141,8 +138,8 @@ module _ (b s : ℕ) (wide : s + 32 ≤ b) where
   legal_placed l (u ∷ ls) (c ∷ cs) (t ∷ ts) x (y ∷ xs) e i g =
       let here : stands s l x ≡ true = search ands in
       let above : stands s u y ≡ true = search ands in
-      let m = fits_spread l x here in
-      let n = fits_spread u y above in
+      let m = stands_within s l x here in
+      let n = stands_within s u y above in
       under (window_holds l.length x l.window here) (feasible_fits l.length u.length x y t c (search ands) (omega arith) (omega arith) (omega arith) (search ands))
       (legal_placed u ls cs ts y xs (search ands) (search ands) (search ands))
 
@@ -156,8 +153,8 @@ module _ (b s : ℕ) (wide : s + 32 ≤ b) where
       let here : stands s l x ≡ true = window_only l.length x l.window i in
       let rest = placed_legal u ls cs ts y xs (search ands) r in
       let above : stands s u y ≡ true = search ands in
-      let m = fits_spread l x here in
-      let n = fits_spread u y above in
+      let m = stands_within s l x here in
+      let n = stands_within s u y above in
       joined (stands s l x) (in_spread s (u ∷ ls) (y ∷ xs)) (feasible c t x y) (channels_good cs ts (y ∷ xs)) here
       (fits_feasible l.length u.length x y t c (search ands) (omega arith) (omega arith) (omega arith) f) rest
   placed_legal l [] [] [] x (y ∷ xs) e p = elim p [ ]

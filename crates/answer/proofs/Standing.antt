@@ -13,7 +13,7 @@ use Rattle.numbers.specs.Lists.{tabulate, padded}
 use Rattle.numbers.proofs.Bools.{ands}
 use Rattle.numbers.proofs.Lists.{length_tabulate, get_or_tabulate}
 use Rattle.numbers.proofs.Orders.{lt_or_eq, le_or_lt}
-use Rattle.stack.specs.Stack.{no_channel, channel_in, Window, free, held, Strip, no_strip, Stack, greatest_of, least_position, first_spread}
+use Rattle.stack.specs.Stack.{no_channel, strip_in, channel_in, Window, free, held, Strip, no_strip, Stack, greatest_of, least_position, first_spread}
 use Rattle.stack.specs.Limits.{pairs_within, channel_within, channels_within, strip_within, within_limits}
 use Rattle.stack.specs.Value.{no_terminals, strip_at, floor_at, channel_at, stack_of}
 use Rattle.stack.specs.declared.Stack.{Stack as StackStruct}
@@ -41,7 +41,7 @@ use Rattle.arrays.specs.declared.StripSpans.{StripSpans}
 use Rattle.separations.specs.Separations.{SeparateAsks}
 use Rattle.solver.specs.Placing.{separations_of, PlaceAsks, PlacementIs}
 use Rattle.answer.specs.Solve.{last_use, window_span, window, growth, channel_limits, stack_levels, bottom, levels_of, total_with, separations_with, positions_with, answer_total, separations_for}
-use Rattle.answer.specs.Arrays.{strip_in, LimitsIn, Held, with_windows, WindowsIn, Ready, BelowGrowths, PlacedIs, AnswerIs}
+use Rattle.answer.specs.Arrays.{LimitsIn, Held, with_windows, WindowsIn, Ready, BelowGrowths, PlacedIs, AnswerIs}
 use Rattle.answer.proofs.Legal.{low_bounded}
 use Rattle.answer.proofs.Answers.{total_most, widening_with, exactly_with, total_any_bias, placement_any_bias}
 

@@ -1,8 +1,8 @@
 -- When what is given to the solver stands for a stack: the limits of its channels, and the windows of its strips in a spread; what the code gives. Assumes nothing: these are definitions.
-use Rattle.std.specs.Prelude.{◌≡◌, true, List, ℕ, suc, ◌≤◌, ◌<◌, length, get_or}
+use Rattle.std.specs.Prelude.{◌≡◌, true, List, ℕ, suc, ◌≤◌, ◌<◌, length}
 use Rattle.stack.specs.Value.{tracks_of, columns_of, stack_of}
 use Rattle.numbers.specs.Lists.{tabulate, padded}
-use Rattle.stack.specs.Stack.{Channel, channel_in, Strip, no_strip, Stack, first_spread}
+use Rattle.stack.specs.Stack.{Channel, strip_in, channel_in, Stack, first_spread}
 use Rattle.stack.specs.Limits.{within_limits}
 use Rattle.stack.specs.declared.Stack.{Stack as StackStruct}
 use Rattle.stack.specs.Sizes.{channels_held, strips_held, separations_held}
@@ -13,9 +13,6 @@ use Rattle.arrays.specs.declared.ChannelLimits.{ChannelLimits}
 use Rattle.arrays.specs.declared.Given.{Given}
 use Rattle.stack.specs.declared.Placement.{Placement}
 use Rattle.answer.specs.Solve.{last_use, window, growth, answer_total, separations_for, positions_for}
-
-abbrev pub strip_in : Stack → (i : ℕ) → Strip
-strip_in k i = get_or k.strips i no_strip
 
 -- a channel's limits, in a row of lows and a row of highs
 abbrev pub limit_rows : Channel → ChannelLimits

@@ -12,11 +12,12 @@ use Rattle.numbers.proofs.Bools.{ands}
 use Rattle.stack.specs.Stack.{Stack}
 use Rattle.stack.specs.Limits.{all_rising}
 use Rattle.stack.proofs.Within.{within_rising}
+use Rattle.stack.proofs.Placements.{total_alone}
 use Rattle.routing.proofs.Drawable.{drawable_legal, legal_drawable}
 use Rattle.text.specs.Text.{Refusal, refusal, fine, stack_in}
 use Rattle.text.specs.Outcome.{refusal_of}
 use Rattle.reading.proofs.Within.{accepted_within}
-use Rattle.answer.proofs.Alone.{total_alone, placement_alone, placement_met, answer_alone}
+use Rattle.answer.proofs.Alone.{placement_alone, placement_met, answer_alone}
 use Rattle.rows.proofs.Rows.{rows_alone}
 use Rattle.writing.specs.TableText.{table_text}
 use Rattle.trial.specs.Legal.{is_legal}
@@ -36,7 +37,7 @@ total_told_alone : (f : Refusal) (v : ℕ) (r q : TotalResult) → total_told f 
 unfolding total_told
 total_told_alone f v r q a b = record { refusals = a.0 ∙ sym b.0; totals = a.1 ∙ sym b.1 }
 
-totalled_alone : (n : ℕ) (f : Refusal) (k : Stack) (s : ℕ) (r q : TotalResult) → Totalled n f k s r → Totalled n f k s q → SameTotal r q
+pub totalled_alone : (n : ℕ) (f : Refusal) (k : Stack) (s : ℕ) (r q : TotalResult) → Totalled n f k s r → Totalled n f k s q → SameTotal r q
 unfolding Totalled
 totalled_alone zero f k s r q a b = total_told_alone f b.0 r q (rw (total_alone k s a.0 b.0 a.1 b.1) at a.2) b.2
 totalled_alone (suc n) f k s r q a b = total_told_alone f 0 r q a b
@@ -45,7 +46,7 @@ pub total_says_alone : TotalSaysAlone
 unfolding TotalSaysAlone TotalSays
 total_says_alone bs s r q a b = totalled_alone _ _ (stack_in bs) s r q a b
 
-code_alone : (a c : TotalResult) (r q : ℕ) → SameTotal a c → r ≡ code (refusal_of a) (total_in a) → q ≡ code (refusal_of c) (total_in c) → r ≡ q
+pub code_alone : (a c : TotalResult) (r q : ℕ) → SameTotal a c → r ≡ code (refusal_of a) (total_in a) → q ≡ code (refusal_of c) (total_in c) → r ≡ q
 code_alone a c r q e d f = d ∙ (rw (e.refusals, e.totals) (sym f))
 
 pub total_coded_alone : TotalCodedAlone

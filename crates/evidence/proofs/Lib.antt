@@ -4,3 +4,4 @@ pub mod Replies
 pub mod Opened
 pub mod Specimens
 pub mod WrongVersions
+pub mod Turned

@@ -12,6 +12,7 @@ use borrow.Author.Tests.{eqb-true, eqb-false, ne_eqb, leb-true, leb-false, lt-lt
 use Rattle.numbers.proofs.Bools.{ands, impossible}
 use Rattle.stack.specs.Stack.{Stack, stack, TotalMet, LeastTotal, Placement, Answer, free, strip, greatest_of, least_position, first_spread}
 use Rattle.stack.specs.Limits.{within_limits}
+use Rattle.stack.proofs.Placements.{total_alone}
 use Rattle.lines.specs.Lines.{same_bytes}
 use Rattle.spans.specs.Solver as solver
 use Rattle.text.specs.Text.{Refusal, refusal, fine, or_else, text_refusal, stack_in}
@@ -19,7 +20,7 @@ use Rattle.text.proofs.Refusals.{or_else_fine, when_fine, not_fine}
 use Rattle.reading.proofs.Within.{accepted_within}
 use Rattle.answer.specs.Solve as solve
 use Rattle.answer.specs.Solve.{answer_total, separations_for, positions_for, answer_separations, answer_positions}
-use Rattle.answer.proofs.Alone.{total_alone, placement_alone, placement_met, answer_alone}
+use Rattle.answer.proofs.Alone.{placement_alone, placement_met, answer_alone}
 use Rattle.answer.proofs.Answers.{least_there, placement_there, met_from_least}
 use Rattle.rows.specs.Walk.{rows_of}
 use Rattle.rows.proofs.Rows.{rows_are, rows_alone}

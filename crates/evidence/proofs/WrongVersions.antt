@@ -12,7 +12,8 @@ use Rattle.numbers.specs.Lists.{padded}
 use Rattle.numbers.proofs.Bools.{impossible}
 use Rattle.stack.specs.Stack.{Stack, in_spread, stands, in_window, legal, greatest_of, least_position, first_spread, sum, Answer}
 use Rattle.stack.specs.Limits.{rises_above, rising, all_rising}
-use Rattle.answer.proofs.Alone.{answer_total_is, answer_placed}
+use Rattle.stack.proofs.Placements.{answer_total_is}
+use Rattle.answer.proofs.Alone.{answer_placed}
 use Rattle.answer.proofs.Answers.{leasts_of}
 use Rattle.rows.proofs.Floored.{floors_of, all_covered, floors_answer}
 use Rattle.reading.proofs.Within.{accepted_within}

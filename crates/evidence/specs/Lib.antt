@@ -2,3 +2,4 @@
 pub mod Alone
 pub mod Replies
 pub mod Specimens
+pub mod Turned

@@ -14,6 +14,7 @@ use Rattle.routing.proofs.Drawable.{drawable_legal, legal_drawable}
 use Rattle.text.specs.Text.{text_refusal, stack_in}
 use Rattle.reading.proofs.Within.{accepted_within}
 use Rattle.answer.specs.Solve.{answer_total, separations_for, positions_for, answer_separations, answer_positions}
+use Rattle.stack.proofs.Placements as placements
 use Rattle.answer.proofs.Alone as alone
 use Rattle.answer.proofs.Answers as answers
 use Rattle.rows.specs.Walk.{rows_of}
@@ -23,9 +24,12 @@ use Rattle.nabetsu.specs.Best.{SpreadSays}
 use Rattle.spread.proofs.Both.{both_of}
 use Rattle.nabetsu.specs.Promise.{accepted, AnswerDrawable, NoneSmaller, AnswerThere, AnswerAlone, TotalThere, TotalAlone, TotalsMet, PlacementThere, PlacementAlone, PlacementDrawn, AnswerIsBoth, BothTogether, RowsThere}
 
-pub stack_within : (bs : List ℕ) → accepted bs ≡ true → within_limits (stack_in bs) ≡ true
+pub none_refused : (bs : List ℕ) → accepted bs ≡ true → (text_refusal bs).number ≡ 0
 unfolding accepted
-stack_within bs e = accepted_within bs (eqb-true (text_refusal bs).number 0 (search ands))
+none_refused bs e = eqb-true (text_refusal bs).number 0 (search ands)
+
+pub stack_within : (bs : List ℕ) → accepted bs ≡ true → within_limits (stack_in bs) ≡ true
+stack_within bs e = accepted_within bs (none_refused bs e)
 
 stack_rises : (bs : List ℕ) → accepted bs ≡ true → all_rising (stack_in bs).channels ≡ true
 stack_rises bs e = within_rising (stack_in bs) (stack_within bs e)
@@ -52,7 +56,7 @@ total_there bs s e h = (answer_total (stack_in bs) s, answers.least_there (stack
 
 pub total_alone : TotalAlone
 unfolding TotalAlone
-total_alone bs s v w e a b = alone.total_alone (stack_in bs) s v w a b
+total_alone bs s v w e a b = placements.total_alone (stack_in bs) s v w a b
 
 pub totals_met : TotalsMet
 unfolding TotalsMet
@@ -78,7 +82,7 @@ pub answer_is_both : AnswerIsBoth
 unfolding AnswerIsBoth
 answer_is_both bs s ts xs =
     let k = stack_in bs in
-    ((λ a. (alone.answer_total_is k s ts xs a, alone.answer_placed k s (sum ts) ts xs a refl)), (λ b. alone.both_answer k s (sum ts) ts xs b.0 b.1))
+    ((λ a. (placements.answer_total_is k s ts xs a, alone.answer_placed k s (sum ts) ts xs a refl)), (λ b. alone.both_answer k s (sum ts) ts xs b.0 b.1))
 
 -- the placement for the total returned is the answer
 pub both_together : BothTogether

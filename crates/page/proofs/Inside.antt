@@ -5,13 +5,13 @@ use mathlib.Core.List.{List, [], ◌∷◌}
 use Prim.Native.Nat.{ℕ, zero, suc, ◌+◌, ◌≤◌, ◌<◌}
 use native.Mathlib.Omega.{arith}
 use borrow.Author.Tests.{leb-true, le-leb}
-use lib.Dec.{leb}
 use lib.IntN.{pos}
 use lib.ListN.{length, get_or}
-use Rattle.numbers.proofs.Bools.{ands, and_both, or_left, or_right, impossible}
-use Rattle.stack.specs.Stack.{Pair, Channel, no_channel, channel_in, Strip, no_strip, Stack, p_at, q_at, edge_clear, stands, in_spread, channels_good, legal}
-use Rattle.stack.specs.Limits.{on_strips, pairs_within, channel_within, channels_within, within_limits}
-use Rattle.stack.proofs.Within.{channel_in_limits, strips_count}
+use Rattle.numbers.proofs.Bools.{ands, and_both, or_left, or_right}
+use Rattle.stack.specs.Stack.{Pair, channel_in, no_strip, Stack, p_at, q_at, legal}
+use Rattle.stack.specs.Limits.{on_strips, pairs_within, channel_within, within_limits}
+use Rattle.stack.proofs.Within.{limits_each}
+use Rattle.stack.proofs.Placements.{legal_each, stands_within}
 use Rattle.stack.proofs.Feasible.{feasible_says}
 use Rattle.stack.proofs.OnStrips.{terminals_on}
 use Rattle.routing.specs.Paths.{Point, same_point, on_path}
@@ -21,22 +21,6 @@ use Rattle.routing.proofs.Sufficiency.{wiring_led, wiring_clear}
 use Rattle.routing.proofs.Runs.{ColumnBetween, path_within, wiring_at}
 use Rattle.page.specs.Promise.{inside, path_inside, all_inside, LedInside}
 use Rattle.page.specs.Arrivals.{ChannelPlaced}
-
-clear_at : (cs : List Channel) (ts xs : List ℕ) (i : ℕ) → channels_good cs ts xs ≡ true → i < length cs
-    → edge_clear (get_or cs i no_channel).pairs (get_or ts i 0) (get_or xs i 0) (get_or xs (suc i) 0) ≡ true
-unfolding channels_good
-clear_at [] ts xs i g l = absurd (omega arith)
-clear_at (c ∷ cs) [] xs i g l = impossible g
-clear_at (c ∷ cs) (t ∷ ts) [] i g l = impossible g
-clear_at (c ∷ cs) (t ∷ ts) (x ∷ xs) zero g l = (feasible_says c t x (get_or xs 0 0) (search ands)).1
-clear_at (c ∷ cs) (t ∷ ts) (x ∷ xs) (suc i) g l = clear_at cs ts xs i (search ands) (omega arith)
-
-fits_at : (s : ℕ) (ls : List Strip) (xs : List ℕ) (i : ℕ) → in_spread s ls xs ≡ true → i < length ls → get_or xs i 0 + (get_or ls i no_strip).length ≤ s
-unfolding in_spread stands
-fits_at s [] xs i e l = absurd (omega arith)
-fits_at s (m ∷ ls) [] i e l = impossible e
-fits_at s (m ∷ ls) (x ∷ xs) zero e l = let h : leb (x + m.length) s ≡ true = search ands in omega (arith, leb-true)
-fits_at s (m ∷ ls) (x ∷ xs) (suc i) e l = fits_at s ls xs i (search ands) (omega arith)
 
 -- INSIDE, point by point
 inside_column : (s n : ℕ) (z : Point) → z.column ≡ pos n → n ≤ s → inside s z ≡ true
@@ -68,19 +52,18 @@ module _ (s : ℕ) (c : List Pair) (t a b : ℕ) (p : ChannelPlaced s c t a b) w
 
 pub channel_placed : (k : Stack) (s : ℕ) (ts xs : List ℕ) (i : ℕ) → within_limits k ≡ true → legal k s ts xs ≡ true → i < length k.channels
     → ChannelPlaced s (channel_in k i).pairs (get_or ts i 0) (get_or xs i 0) (get_or xs (suc i) 0)
-unfolding legal channel_within pairs_within within_limits
+unfolding channel_within pairs_within
 channel_placed k s ts xs i w e l =
     let c = (channel_in k i).pairs in
-    let good : channels_good k.channels ts xs ≡ true = search ands in
-    let fit : in_spread s k.strips xs ≡ true = search ands in
-    let shape : channels_within k.strips k.channels ≡ true = search ands in
-    let n = strips_count k w in
-    let limits = channel_in_limits k.strips k.channels i shape l in
+    let p = legal_each k s ts xs e in
+    let z = limits_each k w in
+    let limits = z.channels i l in
+    let fits = λ (i : ℕ) (l : i < length k.strips). stands_within s (get_or k.strips i no_strip) (get_or xs i 0) (p.stand i l) in
     let o : on_strips (get_or k.strips i no_strip).length (get_or k.strips (suc i) no_strip).length c ≡ true = search ands in
     record {
       rises = search ands;
-      good = clear_at k.channels ts xs i good l;
+      good = (feasible_says (channel_in k i) _ _ _ (p.wired i l)).1;
       few = leb-true (length c) 32 (search ands);
-      from_within = λ j h. omega (arith, (terminals_on _ _ c o j h).0, fits_at s k.strips xs i fit (omega arith));
-      upto_within = λ j h. omega (arith, (terminals_on _ _ c o j h).1, fits_at s k.strips xs (suc i) fit (omega arith));
+      from_within = λ j h. omega (arith, (terminals_on _ _ c o j h).0, fits i (omega (arith, z.count)));
+      upto_within = λ j h. omega (arith, (terminals_on _ _ c o j h).1, fits (suc i) (omega (arith, z.count)));
     }

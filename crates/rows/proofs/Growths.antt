@@ -8,13 +8,13 @@ use lib.Dec.{ltb}
 use lib.ListN.{length, get_or, drop, drop_of_length-le}
 use lib.Seq.{drop-cons}
 use borrow.Author.Tests.{ltb-false}
-use Rattle.stack.specs.Stack.{Window, free, held, Strip, no_strip, Stack}
+use Rattle.stack.specs.Stack.{strip_in, Window, free, held, Strip, no_strip, Stack}
 use Rattle.stack.specs.Limits.{within_limits}
 use Rattle.stack.proofs.Within.{strips_count}
 use Rattle.arrays.specs.Arrays.{bias, entry, window_of, taken}
 use Rattle.arrays.specs.declared.Given.{Given}
 use Rattle.answer.specs.Solve.{window_span, window_growth, growth}
-use Rattle.answer.specs.Arrays.{strip_in, WindowsIn, BelowGrowths}
+use Rattle.answer.specs.Arrays.{WindowsIn, BelowGrowths}
 use Rattle.rows.specs.Growths.{growths_of, bottom_growth, upper_growths, GrowthsIn}
 
 -- without an array: the list of them

@@ -16,7 +16,8 @@ use Rattle.numbers.proofs.Orders.{le_or_lt}
 use Rattle.stack.specs.Stack.{Channel, Window, free, held, Strip, strip, Stack, stack, feasible, in_window, stands, in_spread, channels_good, legal, sum, greatest_of, least_position, first_spread}
 use Rattle.stack.specs.Limits.{pairs_within, channel_within, channels_within, window_within, strip_within, strips_within, within_limits}
 use Rattle.stack.specs.Lengths.{lengths, greatest_position, last_position}
-use Rattle.stack.proofs.Feasible.{ByPairs, by_pairs_clear, clear_by_pairs, feasible_says, says_feasible}
+use Rattle.stack.proofs.Feasible.{ByPairs, by_pairs_clear, clear_by_pairs, feasible_says, says_feasible, feasible_convex}
+use Rattle.stack.proofs.Placements.{free_stands}
 use Rattle.stack.proofs.OnStrips.{terminals_on}
 use Rattle.stack.proofs.Within.{strips_count, channels_few}
 use Rattle.limits.specs.Limits.{open_from}
@@ -28,12 +29,7 @@ feasible_open c t x y h k =
 
 -- feasibility goes by the offset alone
 feasible_moved : (c : Channel) (t x y x' y' : ℕ) → y + x' ≡ y' + x → feasible c t x y ≡ true → feasible c t x' y' ≡ true
-feasible_moved c t x y x' y' e f =
-    let both = feasible_says c t x y f in
-    let g : ByPairs c.pairs (t - 1) x y = clear_by_pairs c.pairs t x y both.1 in
-    says_feasible c t x' y' both.0
-    (by_pairs_clear c.pairs t x' y'
-    (record { left = λ j i h l. omega (arith, g.left j i h l); right = λ j i h l. omega (arith, g.right j i h l) }))
+feasible_moved c t x y x' y' e f = feasible_convex c t x y x y x' y' f f (omega arith) (omega arith)
 
 -- where some offset is closed there are more pairs than tracks between the edges, and the strips touch
 record Touch (l u x y : ℕ) : Type 0 where
@@ -53,10 +49,6 @@ touch l u t x y c e h f =
 restand : (s r : ℕ) (l : Strip) (x : ℕ) → x + l.length ≤ r → stands s l x ≡ true → stands r l x ≡ true
 unfolding stands
 restand s r l x h e = and_both (leb (x + l.length) r) (in_window l.window x) (le-leb (x + l.length) r h) (search ands)
-
-free_stands : (r n x : ℕ) → x + n ≤ r → stands r (strip n free) x ≡ true
-unfolding stands in_window
-free_stands r n x h = rw (le-leb (x + n) r h)
 
 held_upto : (g s n x a e : ℕ) → e ≤ g → stands s (strip n (held a e)) x ≡ true → x ≤ g
 unfolding stands in_window
@@ -112,7 +104,7 @@ module _ (g s n : ℕ) (u : Strip) (ls : List Strip) (c : Channel) (cs : List Ch
     free_open k =
         loose 0 n (omega arith) (omega arith) (omega arith) λ z r i j m.
         let (q, p) = somewhere g u ls cs ts y k r (omega arith) in
-        one_more r (strip n free) u ls c cs t ts z q (free_stands r n z j) (opened z q) p
+        one_more r (strip n free) u ls c cs t ts z q (free_stands r (strip n free) z refl j) (opened z q) p
 
     held_open : (a e : ℕ) → e ≤ g → stands s (strip n (held a e)) x ≡ true → Tail g u ls cs ts y → Tail g (strip n (held a e)) (u ∷ ls) (c ∷ cs) (t ∷ ts) x
     unfolding sum lengths
@@ -133,20 +125,20 @@ module _ (g s n : ℕ) (u : Strip) (ls : List Strip) (c : Channel) (cs : List Ch
     free_joined : (x ≤ y) ⊎ (y < x) → Tail g u ls cs ts y → Tail g (strip n free) (u ∷ ls) (c ∷ cs) (t ∷ ts) x
     unfolding sum lengths
     free_joined d (fast m p) =
-        fast (omega (arith, o.left)) λ r i. one_more r (strip n free) u ls c cs t ts x y (free_stands r n x (omega (arith, o.left))) f (p r (omega arith))
+        fast (omega (arith, o.left)) λ r i. one_more r (strip n free) u ls c cs t ts x y (free_stands r (strip n free) x refl (omega (arith, o.left))) f (p r (omega arith))
     free_joined (inl d) (loose b v j k i p) =
         loose (b - (y - x)) (max n ((y - x) + v)) (omega arith) (omega arith) (right_fits n u.length b v (u.length + sum (lengths ls)) (y - x) k i (omega (arith, o.right))) λ z r h q w.
-        one_more r (strip n free) u ls c cs t ts z (z + (y - x)) (free_stands r n z (omega arith)) (feasible_moved c t x y z (z + (y - x)) (omega arith) f)
+        one_more r (strip n free) u ls c cs t ts z (z + (y - x)) (free_stands r (strip n free) z refl (omega arith)) (feasible_moved c t x y z (z + (y - x)) (omega arith) f)
         (p (z + (y - x)) r (omega arith) (omega arith) (omega arith))
     free_joined (inr d) (loose b v j k i p) =
         loose (b + (x - y)) (max n (v - (x - y))) (omega arith) (omega arith) (left_fits n u.length b v (u.length + sum (lengths ls)) (x - y) k i (omega (arith, o.left))) λ z r h q w.
-        one_more r (strip n free) u ls c cs t ts z (z - (x - y)) (free_stands r n z (omega arith)) (feasible_moved c t x y z (z - (x - y)) (omega arith) f)
+        one_more r (strip n free) u ls c cs t ts z (z - (x - y)) (free_stands r (strip n free) z refl (omega arith)) (feasible_moved c t x y z (z - (x - y)) (omega arith) f)
         (p (z - (x - y)) r (omega arith) (omega arith) (omega arith))
 
 -- the top strip
 top : (g s n : ℕ) (w : Window) (x : ℕ) → greatest_position w ≤ g → stands s (strip n w) x ≡ true → Tail g (strip n w) [] [] [] x
 unfolding Placeable in_spread channels_good sum lengths greatest_position
-top g s n free x h i = loose 0 n (omega arith) (omega arith) (omega arith) (λ z r j m k. ([], rw (free_stands r n z m)))
+top g s n free x h i = loose 0 n (omega arith) (omega arith) (omega arith) (λ z r j m k. ([], rw (free_stands r (strip n free) z refl m)))
 top g s n (held a e) x h i =
     let upto = held_upto g s n x a e h i in
     fast (omega arith) (λ r m. ([], rw (restand s r (strip n (held a e)) x (omega arith) i)))

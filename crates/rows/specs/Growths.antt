@@ -1,9 +1,8 @@
 -- The growing ends of a stack's windows in a spread. Assumes nothing: these are definitions.
 use Rattle.std.specs.Prelude.{◌≡◌, List, [], ◌∷◌, ℕ, ◌<◌, get_or, drop}
-use Rattle.stack.specs.Stack.{Strip, no_strip, Stack}
+use Rattle.stack.specs.Stack.{strip_in, Strip, no_strip, Stack}
 use Rattle.arrays.specs.Arrays.{bias, entry}
 use Rattle.answer.specs.Solve.{growth}
-use Rattle.answer.specs.Arrays.{strip_in}
 
 unfoldable pub growths_of : (b s : ℕ) → List Strip → List ℕ
 growths_of b s [] = []

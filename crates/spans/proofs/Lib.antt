@@ -10,4 +10,3 @@ pub mod Positions
 pub mod Chosen
 pub mod Jump
 pub mod Growths
-pub mod TwoSpans

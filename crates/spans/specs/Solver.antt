@@ -1,8 +1,8 @@
 -- The solver as executable definitions: how the least total and a placement are found. Assumes nothing: these are definitions.
 -- They are proved to meet the relations of Placed.antt; nobody has to believe them.
 -- From the top strip down, `back` is the span of the positions of a strip from which the strips above it can be placed with a total of at most v.
--- WARNING: the bottom strip's positions form one span; those of a strip between two others need not, see proofs/TwoSpans.antt. So the solver never
--- asks for the span of a middle strip: it places strips from the bottom up, each time treating the rest as a stack of its own.
+-- WARNING: the bottom strip's positions form one span; those of a strip between two others need not, see turned/proofs/MiddleStrip.antt. So the solver
+-- never asks for the span of a middle strip: it places strips from the bottom up, each time treating the rest as a stack of its own.
 use Rattle.std.specs.Prelude.{Bool, true, false, List, [], ◌∷◌, ℕ, zero, suc, ◌+◌, ◌-◌, min, max, leb}
 use Rattle.spans.specs.Spans.{span, Limit, last, low_at, high_at, cut, shift_back, shift_on, nonempty, gather}
 use Rattle.spans.specs.declared.Span.{Span}

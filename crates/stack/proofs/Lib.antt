@@ -5,3 +5,4 @@ pub mod Rising
 pub mod Feasible
 pub mod OnStrips
 pub mod Within
+pub mod Placements

@@ -1,12 +1,13 @@
--- What a stack within the limits keeps, channel by channel and strip by strip, as lists and as a struct. By induction on the strips. Assumes nothing.
+-- What a stack within the limits keeps, channel by channel and strip by strip, as lists and as a struct; as lists a stack that keeps this is within the limits. By induction on the
+-- strips. Assumes nothing.
 use mathlib.Core.Path.{◌≡◌, refl, ap}
 use mathlib.Core.Bool.{true}
 use mathlib.Core.List.{List, [], ◌∷◌}
 use Prim.Native.Nat.{ℕ, zero, suc, ◌≤◌, ◌<◌}
 use native.Mathlib.Omega.{arith}
 use lib.ListN.{length, get_or}
-use borrow.Author.Tests.{leb-true}
-use Rattle.numbers.proofs.Bools.{ands, impossible}
+use borrow.Author.Tests.{leb-true, le-leb}
+use Rattle.numbers.proofs.Bools.{ands, and_both, impossible}
 use Rattle.numbers.proofs.Lists.{length_tabulate, get_or_tabulate}
 use Rattle.stack.specs.Stack.{Channel, no_channel, channel_in, Strip, no_strip, Stack, stack}
 use Rattle.stack.specs.Limits.{rising, all_rising, on_strips, pairs_within, channel_within, channels_within, strip_within, strips_within, within_limits}
@@ -114,3 +115,47 @@ strips_count k e = strips_length k.strips k.channels (search ands)
 pub channels_few : (k : Stack) → within_limits k ≡ true → length k.channels ≤ 8
 unfolding within_limits
 channels_few k e = leb-true (length k.channels) 8 (search ands)
+
+-- A STACK within the limits, each strip and each channel
+pub record EachWithin (k : Stack) : Type 0 where
+  pub some : 1 ≤ length k.channels
+  pub few : length k.channels ≤ 8
+  pub count : length k.strips ≡ suc (length k.channels)
+  pub strips : (i : ℕ) → i < length k.strips → strip_within (get_or k.strips i no_strip) ≡ true
+  pub channels :
+      (i : ℕ) → i < length k.channels
+      → channel_within (get_or k.strips i no_strip).length (get_or k.strips (suc i) no_strip).length (channel_in k i) ≡ true
+
+pub limits_each : (k : Stack) → within_limits k ≡ true → EachWithin k
+unfolding within_limits
+limits_each k e = record {
+  some = leb-true 1 (length k.channels) (search ands);
+  few = channels_few k e;
+  count = strips_count k e;
+  strips = λ i h. strip_in_limits k.strips i (search ands) h;
+  channels = λ i h. channel_in_limits k.strips k.channels i (search ands) h;
+}
+
+strips_each : (ls : List Strip) → ((i : ℕ) → i < length ls → strip_within (get_or ls i no_strip) ≡ true) → strips_within ls ≡ true
+unfolding strips_within
+strips_each [] h = refl
+strips_each (l ∷ ls) h = and_both (strip_within l) (strips_within ls) (h 0 (omega arith)) (strips_each ls (λ i m. h (suc i) (omega arith)))
+
+channels_each : (ls : List Strip) (cs : List Channel) → length ls ≡ suc (length cs)
+    → ((i : ℕ) → i < length cs → channel_within (get_or ls i no_strip).length (get_or ls (suc i) no_strip).length (get_or cs i no_channel) ≡ true)
+    → channels_within ls cs ≡ true
+unfolding channels_within
+channels_each [] cs e h = absurd (omega arith)
+channels_each (a ∷ []) [] e h = refl
+channels_each (a ∷ []) (c ∷ cs) e h = absurd (omega arith)
+channels_each (a ∷ b ∷ ls) [] e h = absurd (omega arith)
+channels_each (a ∷ b ∷ ls) (c ∷ cs) e h =
+    and_both (channel_within a.length b.length c) (channels_within (b ∷ ls) cs) (h 0 (omega arith))
+    (channels_each (b ∷ ls) cs (omega arith) (λ i m. h (suc i) (omega arith)))
+
+pub each_within : (k : Stack) → EachWithin k → within_limits k ≡ true
+unfolding within_limits
+each_within k w =
+    let some = le-leb 1 (length k.channels) w.some in
+    let few = le-leb (length k.channels) 8 w.few in
+    rw (some, few, strips_each k.strips w.strips) (channels_each k.strips k.channels w.count w.channels)

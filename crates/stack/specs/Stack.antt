@@ -48,6 +48,10 @@ no_channel = channel [] 0
 abbrev pub no_strip : Strip
 no_strip = strip 0 free
 
+-- the strip at place i, from the bottom
+abbrev pub strip_in : Stack → (i : ℕ) → Strip
+strip_in k i = get_or k.strips i no_strip
+
 -- the channel between strips i and i + 1
 abbrev pub channel_in : Stack → (i : ℕ) → Channel
 channel_in k i = get_or k.channels i no_channel

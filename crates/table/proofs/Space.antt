@@ -12,8 +12,9 @@ use lib.ListN.{length, get_or}
 use borrow.Author.Tests.{leb-true}
 use Rattle.numbers.proofs.Bools.{ands, and_both, impossible}
 use Rattle.numbers.proofs.Orders.{le_or_lt}
-use Rattle.stack.specs.Stack.{Channel, no_channel, channel_in, Strip, Stack, Row, row, feasible, stands, in_spread, channels_good, legal, sum, total, Answer, Stays, RowsAfter, RowsAre}
+use Rattle.stack.specs.Stack.{Channel, no_channel, channel_in, Stack, Row, row, feasible, in_spread, channels_good, legal, sum, total, Answer, Stays, RowsAfter, RowsAre}
 use Rattle.stack.specs.Limits.{pairs_within, channel_within, within_limits}
+use Rattle.stack.proofs.Placements.{legal_each, position_most}
 use Rattle.stack.proofs.Within.{channel_in_limits, strips_count, channels_few}
 use Rattle.answer.specs.Solve.{last_use}
 use Rattle.answer.proofs.Alone.{legal_lengths}
@@ -74,15 +75,6 @@ unfolding sum
 sum_most [] h = omega arith
 sum_most (t ∷ ts) h = omega (arith, h 0 (omega arith), sum_most ts (λ i l. h (suc i) (omega arith)))
 
--- a position is at most the spread
-position_below : (s : ℕ) (ls : List Strip) (xs : List ℕ) → in_spread s ls xs ≡ true → (i : ℕ) → i < length xs → get_or xs i 0 ≤ s
-unfolding in_spread stands
-position_below s [] [] e i h = absurd (omega arith)
-position_below s [] (x ∷ xs) e i h = impossible e
-position_below s (l ∷ ls) [] e i h = impossible e
-position_below s (l ∷ ls) (x ∷ xs) e zero h = omega (arith, leb-true (x + l.length) s (search ands))
-position_below s (l ∷ ls) (x ∷ xs) e (suc i) h = position_below s ls xs (search ands) i (omega arith)
-
 -- and no legal one is below that sum
 floors_below : (k : Stack) (s : ℕ) (ts xs : List ℕ) → legal k s ts xs ≡ true → sum (floors_of k.channels) ≤ sum ts
 unfolding legal
@@ -124,10 +116,9 @@ module _ (k : Stack) (good : within_limits k ≡ true) where
 
   -- a row up to the greatest spread of use is within the limits of its numbers
   row_limited : (r : Row) → r.spread ≤ widest k → Answer k r.spread r.separations r.positions → RowLimited r
-  unfolding legal total
+  unfolding total
   row_limited r h a =
-      let n = legal_lengths k r.spread r.separations r.positions a.is_legal in
-      let g : (in_spread r.spread k.strips r.positions && channels_good k.channels r.separations r.positions) ≡ true = a.is_legal in
+      let n = legal_each k r.spread r.separations r.positions a.is_legal in
       let wide = widest_small k good in
       record {
         channels = omega (arith, channels_few k good);
@@ -135,7 +126,7 @@ module _ (k : Stack) (good : within_limits k ≡ true) where
         spread_below = omega arith;
         total_below = omega (arith, total_small r.spread r.separations r.positions a);
         separations_below = separations_small r.spread r.separations r.positions a;
-        positions_below = λ i l. omega (arith, position_below r.spread k.strips r.positions (search ands) i l);
+        positions_below = λ i l. omega (arith, position_most r.spread k.strips k.channels r.separations r.positions n i l);
       }
 
   -- past the greatest spread of use nothing falls, so no row stands there
