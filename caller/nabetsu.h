@@ -37,8 +37,9 @@
 uint64_t nabetsu_write_table(const uint8_t *text, size_t text_length, uint8_t *output, size_t output_length);
 
 /* The least total in a spread, at most 512. Or a refusal of the text, then 7. A placement with that total can be drawn in that spread with no channel below its floor and
- * each strip inside its window, and no placement that can be drawn so has a smaller one, whether or not its paths stay inside the spread. The text of the card upside down, its strips in reverse
- * with their windows, the terminals of each pair exchanged and the floors carried along, has the same answer at every spread; so has that of its mirror image where no strip has a window. */
+ * each strip inside its window, all paths inside the spread, and no placement that can be drawn so, inside the spread or not, has a smaller one. The text of the card upside down, its strips in
+ * reverse with their windows, its channels in reverse with their floors and the terminals of each pair exchanged, has the same answer at every spread; so has that of its mirror image where no
+ * strip has a window. */
 uint64_t nabetsu_least_total(const uint8_t *text, size_t text_length, uint32_t spread);
 
 /* The placement in a spread for a stated total: 0, with total, separations and positions in the output, zeros in unused places and behind them. Of the legal

@@ -103,6 +103,14 @@ const SPACE: usize = 32768;
 /// What was due and what was found, in words.
 type Checked = Result<(), String>;
 
+fn has_floors(stack: &Stack) -> bool {
+    stack.floors.iter().any(|floor| *floor > 0)
+}
+
+fn has_held(stack: &Stack) -> bool {
+    stack.windows.iter().any(Option::is_some)
+}
+
 /// The refusal that a code is, if it is one.
 fn refusal_of(code: u64) -> Option<Refusal> {
     (code >> 40 > 0).then_some(((code >> 40) as u32, (code >> 20 & 0xfffff) as u32, (code & 0xfffff) as u32))
@@ -252,7 +260,7 @@ fn window_kinds(stack: &Stack) -> Vec<&'static str> {
             all.push(what);
         }
     };
-    count(stack.floors.iter().any(|f| *f > 0), "stacks with windows and floors");
+    count(has_floors(stack), "stacks with windows and floors");
     count(held.iter().any(|w| w.0 == w.1), "stacks with a window of one position");
     count(held.iter().any(|w| w.0 < w.1 && w.1 == 9999), "stacks with a window up to 9,999");
     count(held.iter().any(|w| w.0 == 9999), "stacks with a strip held at 9,999");
@@ -603,7 +611,7 @@ impl Run {
                 self.count("trials, not legal by a floor alone");
             }
         }
-        if stack.windows.iter().any(Option::is_some) {
+        if has_held(stack) {
             window_trial(stack, spread, placement, legal).into_iter().for_each(|what| self.count(what));
         }
         self.trial(text, spread, placement, Ok(legal))
@@ -1014,7 +1022,7 @@ fn check_page_specimens(run: &mut Run) {
 
 /// What is counted of a stack's floors.
 fn count_floors(run: &mut Run, stack: &Stack, text: &[u8]) {
-    if stack.floors.iter().any(|f| *f > 0) {
+    if has_floors(stack) {
         run.count("stacks with floors");
     }
     if stack.floors.iter().zip(&stack.channels).any(|(f, c)| *f > 0 && c.is_empty()) {
@@ -1080,7 +1088,7 @@ fn compare_all(run: &mut Run, counts: [u64; 6]) {
     random_sessions::check_specimens(run);
     random_sessions::compare(run, counts[5]);
     random_turned::compare(run, &bases);
-    random_positions::compare(run, counts[0] / 2);
+    random_positions::compare(run, counts[0]);
 }
 
 fn main() {

@@ -5,7 +5,7 @@ use crate::channel::Pair;
 use crate::library;
 use crate::random::Random;
 use crate::reader::Stack;
-use crate::{expect, solver, Checked, Run};
+use crate::{expect, has_floors, has_held, solver, Checked, Run};
 use std::collections::BTreeSet;
 
 /// What must have been met in a run of at least the usual counts; where a strip has no gap it has several positions.
@@ -39,7 +39,7 @@ fn channel(random: &mut Random, lower: i64, upper: i64) -> Vec<Pair> {
     q.iter().map(|c| (from + c - q[0], *c)).collect()
 }
 
-/// Up to 3 channels of up to 3 pairs, lengths up to 5, and a spread up to 8 in which the strips lie. In most of the stacks strips that nearly fill the
+/// Up to 3 channels of up to 3 pairs, floors up to 2, lengths up to 5, and a spread up to 8 in which the strips lie. In most of the stacks strips that nearly fill the
 /// spread take turns with short ones: these have room on both sides of a gap.
 fn small(random: &mut Random) -> (Stack, u32) {
     let (k, longest) = ([1, 2, 2, 3][random.below(4)], random.between(2, 5));
@@ -51,7 +51,9 @@ fn small(random: &mut Random) -> (Stack, u32) {
     let lengths: Vec<i64> = (0..=k).map(|i| length(random, i)).collect();
     let channels = lengths.windows(2).map(|l| channel(random, l[0], l[1])).collect();
     let spread = if apart { longest + random.between(1, 3) } else { random.between(longest, 8) };
-    (random.limited(lengths, channels, spread, false), spread as u32)
+    let mut stack = random.limited(lengths, channels, spread, false);
+    stack.floors.iter_mut().for_each(|floor| *floor = (*floor).min(2));
+    (stack, spread as u32)
 }
 
 /// Every list of so many numbers with a sum.
@@ -97,10 +99,10 @@ impl Run {
     /// Three counts: of all stacks, of those with floors, of those with windows.
     fn count_strips(&mut self, stack: &Stack, counted: &[&'static str]) {
         self.count(counted[0]);
-        if stack.floors.iter().any(|f| *f > 0) {
+        if has_floors(stack) {
             self.count(counted[1]);
         }
-        if stack.windows.iter().any(Option::is_some) {
+        if has_held(stack) {
             self.count(counted[2]);
         }
     }

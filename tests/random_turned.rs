@@ -4,7 +4,7 @@
 use crate::library::{self, code};
 use crate::random::Random;
 use crate::reader::{self, Stack};
-use crate::{expect, in_words, refusal_of, same_code, solver, turn, Checked, Run, SPACE};
+use crate::{expect, has_floors, in_words, refusal_of, same_code, solver, turn, Checked, Run, SPACE};
 
 /// What must have been met in a run of at least the usual counts.
 pub const MET: [&str; 8] = [
@@ -40,7 +40,7 @@ fn rows(text: &[u8]) -> Result<Vec<Row>, String> {
     lines.map(row).collect()
 }
 
-/// Spreads from each row up to where the next one begins: at the row, one before the next, one between; one past the last row, and any behind it.
+/// Spreads from each row up to where the next one begins: at the row, one before the next, one between; past the last row one further, any, and 2^32 - 1.
 fn spreads(random: &mut Random, rows: &[Row]) -> Vec<u32> {
     let mut reaches: Vec<[u32; 2]> = rows.windows(2).map(|w| [w[0].0, w[1].0 - 1]).collect();
     let last = rows[rows.len() - 1].0;
@@ -115,7 +115,7 @@ impl Run {
 
     fn turned_over(&mut self, stack: &Stack, text: &[u8], turned: &Stack, way: &Way) -> Checked {
         self.count(way.counted[0]);
-        if stack.floors.iter().any(|f| *f > 0) {
+        if has_floors(stack) {
             self.count(way.counted[1]);
         }
         let turned_text = self.random.text(turned);
@@ -127,7 +127,10 @@ impl Run {
     /// With its windows as they are the mirror image of a stack with a held strip may have another total.
     fn held_mirrored(&mut self, stack: &Stack, text: &[u8]) -> Checked {
         let mirrored = self.random.text(&turn::with_ends_reversed(stack));
-        let differs = |spread: u32| library::least_total(&mirrored, spread) != library::least_total(text, spread);
+        let differs = |spread: u32| {
+            let told = library::least_total(&mirrored, spread);
+            refusal_of(told).is_none() && told != library::least_total(text, spread)
+        };
         if spreads(&mut self.random, &rows(text)?).into_iter().any(differs) {
             self.count(HELD);
         }

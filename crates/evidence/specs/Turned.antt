@@ -56,4 +56,5 @@ pub record TopTried (bs : List ℕ) (s v x : ℕ) : Type 0 where
 
 unfoldable pub TopText : Type 0
 TopText =
-    (bs : List ℕ) (s v x y z : ℕ) → accepted bs ≡ true → s < 4294967296 → v < 4294967296 → TopTried bs s v x → TopTried bs s v z → x ≤ y → y ≤ z → TopTried bs s v y
+    (bs : List ℕ) (s v x y z : ℕ) → accepted bs ≡ true → s < 4294967296 → v < 4294967296 → TopTried bs s v x → TopTried bs s v z → x ≤ y →
+    y ≤ z → TopTried bs s v y

@@ -8,7 +8,7 @@ use borrow.Author.Tests.{leb-true, le-leb}
 use lib.IntN.{pos}
 use lib.ListN.{length, get_or}
 use Rattle.numbers.proofs.Bools.{ands, and_both, or_left, or_right}
-use Rattle.stack.specs.Stack.{Pair, channel_in, no_strip, Stack, p_at, q_at, legal}
+use Rattle.stack.specs.Stack.{Pair, strip_in, channel_in, Stack, p_at, q_at, legal}
 use Rattle.stack.specs.Limits.{on_strips, pairs_within, channel_within, within_limits}
 use Rattle.stack.proofs.Within.{limits_each}
 use Rattle.stack.proofs.Placements.{legal_each, stands_within}
@@ -58,8 +58,8 @@ channel_placed k s ts xs i w e l =
     let p = legal_each k s ts xs e in
     let z = limits_each k w in
     let limits = z.channels i l in
-    let fits = λ (i : ℕ) (l : i < length k.strips). stands_within s (get_or k.strips i no_strip) (get_or xs i 0) (p.stand i l) in
-    let o : on_strips (get_or k.strips i no_strip).length (get_or k.strips (suc i) no_strip).length c ≡ true = search ands in
+    let fits = λ (i : ℕ) (l : i < length k.strips). stands_within s (strip_in k i) (get_or xs i 0) (p.stand i l) in
+    let o : on_strips (strip_in k i).length (strip_in k (suc i)).length c ≡ true = search ands in
     record {
       rises = search ands;
       good = (feasible_says (channel_in k i) _ _ _ (p.wired i l)).1;

@@ -9,7 +9,7 @@ use lib.ListN.{length, get_or}
 use borrow.Author.Tests.{leb-true, le-leb}
 use Rattle.numbers.proofs.Bools.{ands, and_both, impossible}
 use Rattle.numbers.proofs.Lists.{length_tabulate, get_or_tabulate}
-use Rattle.stack.specs.Stack.{Channel, no_channel, channel_in, Strip, no_strip, Stack, stack}
+use Rattle.stack.specs.Stack.{Channel, no_channel, strip_in, channel_in, Strip, no_strip, Stack, stack}
 use Rattle.stack.specs.Limits.{rising, all_rising, on_strips, pairs_within, channel_within, channels_within, strip_within, strips_within, within_limits}
 use Rattle.stack.specs.Value.{no_terminals, channel_of, strip_at, floor_at, channel_at, stack_of}
 use Rattle.stack.specs.declared.Stack.{Stack as StackStruct}
@@ -121,10 +121,10 @@ pub record EachWithin (k : Stack) : Type 0 where
   pub some : 1 ≤ length k.channels
   pub few : length k.channels ≤ 8
   pub count : length k.strips ≡ suc (length k.channels)
-  pub strips : (i : ℕ) → i < length k.strips → strip_within (get_or k.strips i no_strip) ≡ true
+  pub strips : (i : ℕ) → i < length k.strips → strip_within (strip_in k i) ≡ true
   pub channels :
       (i : ℕ) → i < length k.channels
-      → channel_within (get_or k.strips i no_strip).length (get_or k.strips (suc i) no_strip).length (channel_in k i) ≡ true
+      → channel_within (strip_in k i).length (strip_in k (suc i)).length (channel_in k i) ≡ true
 
 pub limits_each : (k : Stack) → within_limits k ≡ true → EachWithin k
 unfolding within_limits

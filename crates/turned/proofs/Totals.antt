@@ -1,5 +1,5 @@
 -- Where each legal placement of one stack gives one of another in the same spread and with the same total, and the other way round, their least totals are the
--- same; then, with the same first spread, their tables fall at the same spreads. Assumes nothing.
+-- same; then, with the same first spread, their tables have rows at the same spreads with the same totals. Assumes nothing.
 use mathlib.Core.Path.{◌≡◌, refl, sym, ap, ◌∙◌}
 use mathlib.Core.Bool.{true}
 use mathlib.Core.List.{List, [], ◌∷◌}
@@ -31,7 +31,7 @@ same_back : (k h : Stack) → SameTotals k h → SameTotals h k
 unfolding SameTotals
 same_back k h e s v = ((e s v).1, (e s v).0)
 
--- THE ROWS: where one table spreads_and_totals the other does
+-- THE ROWS: where the total of one table falls that of the other does, and to the same
 row_least : (k : Stack) (r : Row) → Answer k r.spread r.separations r.positions → LeastTotal k r.spread (total r)
 unfolding total
 row_least k r a = answer_total_is k r.spread r.separations r.positions a
