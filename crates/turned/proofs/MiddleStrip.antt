@@ -48,7 +48,7 @@ never_at_one k s v e ts xs g h a = impossible (rw (lt_false, at_one) at (placeme
 pub free_middle_gap : MiddleGap free_card 3 2
 unfolding searching elsewhere
 free_middle_gap = record {
-  least = least_by_search free_card 3 (0 ∷ 2 ∷ []) (1 ∷ 0 ∷ 0 ∷ []) refl refl;
+  least = least_by_search free_card 3 (0 ∷ 2 ∷ []) (1 ∷ 0 ∷ 0 ∷ []) refl;
   left = (0 ∷ 2 ∷ [], 1, 0, refl, refl);
   right = (2 ∷ 0 ∷ [], 0, 0, refl, refl);
   gap = never_at_one free_card 3 2 refl;
@@ -58,7 +58,7 @@ free_middle_gap = record {
 pub floored_middle_gap : MiddleGap floored_card 3 3
 unfolding searching elsewhere
 floored_middle_gap = record {
-  least = least_by_search floored_card 3 (1 ∷ 2 ∷ []) (0 ∷ 0 ∷ 0 ∷ []) refl refl;
+  least = least_by_search floored_card 3 (1 ∷ 2 ∷ []) (0 ∷ 0 ∷ 0 ∷ []) refl;
   left = (1 ∷ 2 ∷ [], 0, 0, refl, refl);
   right = (2 ∷ 1 ∷ [], 0, 0, refl, refl);
   gap = never_at_one floored_card 3 3 refl;

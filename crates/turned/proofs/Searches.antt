@@ -9,7 +9,7 @@ use native.Mathlib.Omega.{arith}
 use lib.Dec.{leb}
 use lib.ListN.{length, get_or}
 use borrow.Author.Tests.{leb-true, le-leb}
-use Rattle.numbers.proofs.Bools.{and_both, impossible}
+use Rattle.numbers.proofs.Bools.{ands, and_both, impossible}
 use Rattle.numbers.proofs.Orders.{le_or_lt}
 use Rattle.stack.specs.Stack as stacks
 use Rattle.stack.specs.Stack.{Stack, every, legal, sum, LeastTotal}
@@ -35,12 +35,6 @@ unfoldable pub placements_pass : Stack → (s v : ℕ) → (List ℕ → List �
 placements_pass k s v f =
     lists_pass (length k.channels) v (λ ts. lists_pass (length k.strips) s (λ xs. not (leb (sum ts) v && legal k s ts xs) || f ts xs))
 
--- to unfold searching is to unfold every definition that such a test runs through
-unfoldable pub searching : Stack → (s v : ℕ) → (List ℕ → List ℕ → Bool) → Bool
-unfolding stacks.pair stacks.stack stacks.p_at stacks.q_at stacks.every stacks.left_good stacks.right_good stacks.wirable stacks.edge_clear stacks.feasible
-    stacks.in_window stacks.stands stacks.in_spread stacks.channels_good stacks.legal stacks.sum lists_pass placements_pass
-searching k s v f = placements_pass k s v f
-
 implied : (a b : Bool) → (not a || b) ≡ true → a ≡ true → b ≡ true
 implied true b h e = h
 implied false b h e = impossible e
@@ -60,14 +54,26 @@ placement_passes k s v f e ts xs g h =
     let q = list_passes (length k.strips) s _ r xs p.positions (position_most s k.strips k.channels ts xs p) in
     implied (leb (sum ts) v && legal k s ts xs) (f ts xs) q (and_both (leb (sum ts) v) (legal k s ts xs) (le-leb (sum ts) v h) g)
 
--- a total that is met, where no legal placement up to it has another, is the least
-pub least_by_search : (k : Stack) (s : ℕ) (ts xs : List ℕ) → legal k s ts xs ≡ true → placements_pass k s (sum ts) (λ us ys. leb (sum ts) (sum us)) ≡ true
-    → LeastTotal k s (sum ts)
-least_by_search k s ts xs g e = record { met = record { separations = ts; positions = xs; is_legal = g; exact = refl }; least = none }
+-- a legal placement whose total is the least, since no legal placement up to it has a smaller one
+unfoldable pub is_least : Stack → (s : ℕ) → (ts xs : List ℕ) → Bool
+is_least k s ts xs = legal k s ts xs && placements_pass k s (sum ts) (λ us ys. leb (sum ts) (sum us))
+
+pub least_by_search : (k : Stack) (s : ℕ) (ts xs : List ℕ) → is_least k s ts xs ≡ true → LeastTotal k s (sum ts)
+unfolding is_least
+least_by_search k s ts xs e = record { met = record { separations = ts; positions = xs; is_legal = search ands; exact = refl }; least = none }
   where
+    passed : placements_pass k s (sum ts) (λ us ys. leb (sum ts) (sum us)) ≡ true
+    passed = search ands
+
     none : (us ys : List ℕ) → legal k s us ys ≡ true → sum ts ≤ sum us
     none us ys h = go (le_or_lt (sum ts) (sum us))
       where
         go : (sum ts ≤ sum us) ⊎ (sum us < sum ts) → sum ts ≤ sum us
         go (inl l) = l
-        go (inr l) = leb-true (sum ts) (sum us) (placement_passes k s (sum ts) (λ us ys. leb (sum ts) (sum us)) e us ys h (omega arith))
+        go (inr l) = leb-true (sum ts) (sum us) (placement_passes k s (sum ts) (λ us ys. leb (sum ts) (sum us)) passed us ys h (omega arith))
+
+-- to unfold searching is to unfold every definition that such a test runs through
+unfoldable pub searching : Stack → (s v : ℕ) → (List ℕ → List ℕ → Bool) → Bool
+unfolding stacks.pair stacks.stack stacks.p_at stacks.q_at stacks.every stacks.left_good stacks.right_good stacks.wirable stacks.edge_clear stacks.feasible
+    stacks.in_window stacks.stands stacks.in_spread stacks.channels_good stacks.legal stacks.sum lists_pass placements_pass is_least
+searching k s v f = placements_pass k s v f

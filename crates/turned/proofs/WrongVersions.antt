@@ -1,18 +1,20 @@
 -- Wrong versions of a card turned over, each within the limits and with another least total, on a card of two or three strips; and the mirror image of a card with a
 -- held strip, for which left to right the least total does change. Assumes nothing.
 use mathlib.Core.Path.{◌≡◌, refl}
-use mathlib.Core.Bool.{Bool, true}
+use mathlib.Core.Bool.{Bool, true, ◌&&◌, not}
 use mathlib.Core.List.{List, [], ◌∷◌, map, reverse}
 use Prim.Native.Nat.{ℕ, suc, ◌-◌}
-use native.Mathlib.Omega.{arith}
+use lib.Dec.{eqb}
 use lib.ListN.{length}
+use borrow.Author.Tests.{eqb-false, not-true}
 use Rattle.numbers.specs.Lists.{tabulate}
-use Rattle.stack.specs.Stack.{Pair, pair, channel, strip_in, channel_in, free, held, strip, Stack, stack, LeastTotal}
+use Rattle.numbers.proofs.Bools.{ands}
+use Rattle.stack.specs.Stack.{Pair, pair, channel, strip_in, channel_in, free, held, strip, Stack, stack, sum, LeastTotal}
 use Rattle.stack.specs.Limits as limits
 use Rattle.stack.specs.Limits.{within_limits}
 use Rattle.stack.proofs.Placements.{total_alone}
 use Rattle.turned.specs.Turned.{SameTotals, exchanged, upside_down, mirrored, mirrored_channel, left_to_right}
-use Rattle.turned.proofs.Searches.{least_by_search, searching}
+use Rattle.turned.proofs.Searches.{is_least, least_by_search, searching}
 
 -- THE EDGES not exchanged
 unfoldable pub edges_kept : Stack → Stack
@@ -47,9 +49,26 @@ pub differ_breaks : (k h : Stack) (s v w : ℕ) → Differ k h s v w → SameTot
 unfolding SameTotals
 differ_breaks k h s v w d e = d.differ (total_alone h s v w ((e s v).0 d.one) d.other)
 
+-- by search: a legal placement of each with its least total
+unfoldable are_other : (k h : Stack) (s : ℕ) (ts xs us ys : List ℕ) → Bool
+are_other k h s ts xs us ys =
+    (within_limits k && within_limits h) && ((is_least k s ts xs && is_least h s us ys) && not (eqb (sum ts) (sum us)))
+
+differ_by_search : (k h : Stack) (s : ℕ) (ts xs us ys : List ℕ) → are_other k h s ts xs us ys ≡ true → Differ k h s (sum ts) (sum us)
+unfolding are_other
+differ_by_search k h s ts xs us ys e =
+    let other : not (eqb (sum ts) (sum us)) ≡ true = search ands in
+    record {
+      within = search ands;
+      also = search ands;
+      one = least_by_search k s ts xs (search ands);
+      other = least_by_search h s us ys (search ands);
+      differ = eqb-false (sum ts) (sum us) (not-true (eqb (sum ts) (sum us)) other);
+    }
+
 -- to unfold turning is to unfold every definition of a stack turned over, and of the limits
 unfoldable turning : Stack → List Stack × Bool
-unfolding tabulate exchanged upside_down mirrored mirrored_channel left_to_right edges_kept floors_kept windows_kept lower_kept
+unfolding tabulate exchanged upside_down mirrored mirrored_channel left_to_right edges_kept floors_kept windows_kept lower_kept are_other
     limits.rises_above limits.rising limits.on_strips limits.pairs_within limits.channel_within limits.channels_within limits.window_within limits.strip_within
     limits.strips_within limits.within_limits
 turning k = (upside_down k ∷ left_to_right k ∷ edges_kept k ∷ floors_kept k ∷ windows_kept k ∷ lower_kept k ∷ [], within_limits k)
@@ -58,40 +77,18 @@ turning k = (upside_down k ∷ left_to_right k ∷ edges_kept k ∷ floors_kept 
 abbrev pub held_card : Stack
 held_card = stack (strip 1 (held 1 1) ∷ strip 1 free ∷ []) (channel (pair 0 1 ∷ []) 0 ∷ [])
 
-held_at_2 : LeastTotal held_card 2 0
-unfolding searching
-held_at_2 = least_by_search held_card 2 (0 ∷ []) (1 ∷ 0 ∷ []) refl refl
-
 pub edges_kept_differs : Differ held_card (edges_kept held_card) 2 0 2
 unfolding searching turning
-edges_kept_differs = record {
-  within = refl;
-  also = refl;
-  one = held_at_2;
-  other = least_by_search (edges_kept held_card) 2 (2 ∷ []) (0 ∷ 1 ∷ []) refl refl;
-  differ = λ e. omega arith;
-}
+edges_kept_differs = differ_by_search held_card (edges_kept held_card) 2 (0 ∷ []) (1 ∷ 0 ∷ []) (2 ∷ []) (0 ∷ 1 ∷ []) refl
 
 pub windows_kept_differs : Differ held_card (windows_kept held_card) 2 0 2
 unfolding searching turning
-windows_kept_differs = record {
-  within = refl;
-  also = refl;
-  one = held_at_2;
-  other = least_by_search (windows_kept held_card) 2 (2 ∷ []) (1 ∷ 0 ∷ []) refl refl;
-  differ = λ e. omega arith;
-}
+windows_kept_differs = differ_by_search held_card (windows_kept held_card) 2 (0 ∷ []) (1 ∷ 0 ∷ []) (2 ∷ []) (1 ∷ 0 ∷ []) refl
 
 -- A HELD STRIP: left to right, its window as it is, the least total changes, so the strips must be free
 pub held_strip_differs : Differ held_card (left_to_right held_card) 2 0 2
 unfolding searching turning
-held_strip_differs = record {
-  within = refl;
-  also = refl;
-  one = held_at_2;
-  other = least_by_search (left_to_right held_card) 2 (2 ∷ []) (1 ∷ 0 ∷ []) refl refl;
-  differ = λ e. omega arith;
-}
+held_strip_differs = differ_by_search held_card (left_to_right held_card) 2 (0 ∷ []) (1 ∷ 0 ∷ []) (2 ∷ []) (1 ∷ 0 ∷ []) refl
 
 -- three strips as long as the spread: the lower channel's pair needs two tracks, the upper channel's floor asks for two
 abbrev floor_card : Stack
@@ -99,13 +96,7 @@ floor_card = stack (strip 1 free ∷ strip 1 free ∷ strip 1 free ∷ []) (chan
 
 pub floors_kept_differs : Differ floor_card (floors_kept floor_card) 1 4 2
 unfolding searching turning
-floors_kept_differs = record {
-  within = refl;
-  also = refl;
-  one = least_by_search floor_card 1 (2 ∷ 2 ∷ []) (0 ∷ 0 ∷ 0 ∷ []) refl refl;
-  other = least_by_search (floors_kept floor_card) 1 (0 ∷ 2 ∷ []) (0 ∷ 0 ∷ 0 ∷ []) refl refl;
-  differ = λ e. omega arith;
-}
+floors_kept_differs = differ_by_search floor_card (floors_kept floor_card) 1 (2 ∷ 2 ∷ []) (0 ∷ 0 ∷ 0 ∷ []) (0 ∷ 2 ∷ []) (0 ∷ 0 ∷ 0 ∷ []) refl
 
 -- two strips as long as the spread, and a pair whose terminals are above one another
 abbrev level_card : Stack
@@ -113,10 +104,4 @@ level_card = stack (strip 1 free ∷ strip 1 free ∷ []) (channel (pair 0 0 ∷
 
 pub lower_kept_differs : Differ level_card (lower_kept level_card) 1 0 2
 unfolding searching turning
-lower_kept_differs = record {
-  within = refl;
-  also = refl;
-  one = least_by_search level_card 1 (0 ∷ []) (0 ∷ 0 ∷ []) refl refl;
-  other = least_by_search (lower_kept level_card) 1 (2 ∷ []) (0 ∷ 0 ∷ []) refl refl;
-  differ = λ e. omega arith;
-}
+lower_kept_differs = differ_by_search level_card (lower_kept level_card) 1 (0 ∷ []) (0 ∷ 0 ∷ []) (2 ∷ []) (0 ∷ 0 ∷ []) refl
