@@ -1,7 +1,7 @@
 // The least total of a stack in a spread, and the placement for a total.
 #![tactic(auto)]
 
-ghost use Rattle.std.specs.Prelude.{◌≡◌, true, suc, ◌+◌, ◌-◌, ◌<◌, ◌≤◌, max, MatchOption};
+ghost use Rattle.std.specs.Prelude.{◌≡◌, true, suc, ◌+◌, ◌-◌, ◌<◌, ◌≤◌, ltb, max, MatchOption};
 ghost use Rattle.stack.specs.Limits.{within_limits};
 ghost use Rattle.stack.specs.Value.{strip_of, stack_of};
 ghost use Rattle.stack.specs.Stack.{first_spread};
@@ -159,6 +159,13 @@ pub fn answer_in(stack: &Stack, spread: u32) -> Placement
     place_in(&given, scan.total, &table)
 }
 
+// Whether a span has a position.
+fn has_position(span: Span) -> bool
+    ensures { result ≡ ltb span.from span.upto }
+{
+    0 < span.upto.saturating_sub(span.from)
+}
+
 // The placement for a stated total in a spread from the first one on, if some legal placement there has that total. The least total is not looked for: the
 // total is met exactly if the bottom strip has a position for it.
 pub fn placement_in(stack: &Stack, spread: u32, total: Tracks) -> Option<Placement>
@@ -172,7 +179,7 @@ pub fn placement_in(stack: &Stack, spread: u32, total: Tracks) -> Option<Placeme
     let stated = total.0 as usize;
     fill_band(&given, stated, &mut table);
     let used = stated.min(given.plan.above[0]);
-    if table[0].upto[used] <= table[0].from[used] {
+    if !has_position(table[0].at(used)) {
         return None;
     }
     Some(place_in(&given, stated, &table))

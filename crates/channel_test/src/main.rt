@@ -8,52 +8,53 @@ use arrays::ChannelLimits;
 use channel::{channel_limits, open_from};
 use feasibility::is_feasible;
 use stack::{Columns, Stack, Strip, Terminals, Tracks};
-use std::io;
-use test_io::{next_number, read_full};
+use test_io::{next_number, print_bytes, print_number, read_full};
+
+// What is printed passes a failed write over, as `print_bytes` does: the status does not tell of it.
 
 // A biased number, with its sign.
-fn print_biased(to: &impl Print, v: u64) -> io::Result<()> {
-    print!(to; "{}", v.wrapping_sub(Stack::BIAS).cast_signed())
+fn print_biased(to: &impl Print, v: u64) {
+    if v < Stack::BIAS {
+        print_bytes(to, b"-");
+    }
+    print_number(to, v.abs_diff(Stack::BIAS));
 }
 
-fn print_range(to: &impl Print, low: u64, high: u64) -> io::Result<()> {
-    print!(to; "\t")?;
-    print_biased(to, low)?;
-    print!(to; " to ")?;
-    print_biased(to, high)
+fn print_range(to: &impl Print, low: u64, high: u64) {
+    print_bytes(to, b"\t");
+    print_biased(to, low);
+    print_bytes(to, b" to ");
+    print_biased(to, high);
 }
 
 // The limits of the first so many separations.
-fn print_limits(to: &impl Print, limits: &ChannelLimits, separations: usize) -> io::Result<()> {
+fn print_limits(to: &impl Print, limits: &ChannelLimits, separations: usize) {
     for (low, high) in limits.low.iter().zip(&limits.high).take(separations) {
-        print_range(to, *low, *high)?;
+        print_range(to, *low, *high);
     }
-    println!(to; "")
+    print_bytes(to, b"\n");
 }
 
 // For each separation up to two more than the count of pairs, 1 if the channel, with floor 0, is feasible with the strips at these positions.
-fn print_feasible(
-    to: &impl Print,
-    terminals: &Terminals,
-    lower: Columns,
-    upper: Columns,
-) -> io::Result<()>
+fn print_feasible(to: &impl Print, terminals: &Terminals, lower: Columns, upper: Columns)
     requires { terminals.now.count ≤ 32 }
 {
     // t is the separation itself.
     for t in 0..terminals.count as u32 + 3 {
         let feasible = is_feasible(terminals, Tracks(0), Tracks(t), lower, upper);
-        print!(to; "{}", u8::from(feasible))?;
+        print_bytes(to, if feasible { b"1" } else { b"0" });
     }
-    println!(to; "")
+    print_bytes(to, b"\n");
 }
 
-fn print_all_feasible(
-    to: &impl Print,
-    terminals: &Terminals,
-    text: &[u8],
-    from: usize,
-) -> io::Result<usize>
+fn print_positions(to: &impl Print, lower: u32, upper: u32) {
+    print_number(to, u64::from(lower));
+    print_bytes(to, b" ");
+    print_number(to, u64::from(upper));
+    print_bytes(to, b": ");
+}
+
+fn print_all_feasible(to: &impl Print, terminals: &Terminals, text: &[u8], from: usize) -> usize
     requires { terminals.now.count ≤ 32 }
 {
     let queries = next_number(text, from);
@@ -62,11 +63,11 @@ fn print_all_feasible(
     for _ in 0..queries.value {
         let lower = next_number(text, at);
         let upper = next_number(text, lower.at);
-        print!(to; "{} {}: ", lower.value, upper.value)?;
-        print_feasible(to, terminals, Columns(lower.value), Columns(upper.value))?;
+        print_positions(to, lower.value, upper.value);
+        print_feasible(to, terminals, Columns(lower.value), Columns(upper.value));
         at = upper.at;
     }
-    Ok(at)
+    at
 }
 
 fn read_values(text: &[u8], from: usize, count: usize, values: &mut [u32; 64]) -> usize {
@@ -82,7 +83,7 @@ fn read_values(text: &[u8], from: usize, count: usize, values: &mut [u32; 64]) -
     at
 }
 
-fn channel(to: &impl Print, text: &[u8], from: usize) -> io::Result<usize> {
+fn channel(to: &impl Print, text: &[u8], from: usize) -> usize {
     let pairs = next_number(text, from);
     let m = pairs.value as usize % 64;
     let mut values = [0; 64];
@@ -90,19 +91,20 @@ fn channel(to: &impl Print, text: &[u8], from: usize) -> io::Result<usize> {
     let longest = Columns(Strip::MAX_LENGTH);
     match Terminals::new(&values, m, longest, longest) {
         Ok(terminals) => {
-            print!(to; "pairs {m}")?;
+            print_bytes(to, b"pairs ");
+            print_number(to, m as u64);
             let limits = channel_limits(&terminals, Tracks(0));
-            print_limits(to, &limits, open_from(terminals.count))?;
+            print_limits(to, &limits, open_from(terminals.count));
             print_all_feasible(to, &terminals, text, at)
         }
         Err(_) => {
-            println!(to; "refused")?;
-            Ok(at)
+            print_bytes(to, b"refused\n");
+            at
         }
     }
 }
 
-fn main(rt: HostRuntime) -> io::Result<()> {
+fn main(rt: HostRuntime) {
     let mut text = [0; 65536];
     let mut input = rt.stdin();
     let n = read_full(&mut input, &mut text);
@@ -110,7 +112,6 @@ fn main(rt: HostRuntime) -> io::Result<()> {
     let mut at = channels.at;
     // Each channel begins at the place where the one before it ends.
     for _ in 0..channels.value {
-        at = channel(&rt, &text[..n], at)?;
+        at = channel(&rt, &text[..n], at);
     }
-    Ok(())
 }

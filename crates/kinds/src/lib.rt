@@ -31,7 +31,7 @@ pub fn read_head(line: Line) -> Result<Stack, Refused>
     ensures { HeadRead (line_of line.entry) result }
 {
     let mut values = [0; KEPT];
-    read_kind(line, 1, b"STACK", Counts::Exactly(1), &mut values)?;
+    read_kind(line, 1, b"STACK", Counts::Exactly(1), &mut values).accepted()?;
     Stack::new(values[0] as usize).ok_or(Refused::new(Refusal::Crowd, 1, 2))
 }
 
@@ -65,7 +65,7 @@ pub fn read_part(line: Line, n: u32) -> Result<Strip, Refused>
     ensures { IsPartRead n (line_of line.entry) result }
 {
     let mut values = [0; KEPT];
-    let count = read_kind(line, n, b"PART", Counts::OneOrThree, &mut values)?;
+    let count = read_kind(line, n, b"PART", Counts::OneOrThree, &mut values).accepted()?;
     if count == 1 {
         return part_content(values[0], n);
     }
@@ -108,7 +108,7 @@ pub fn read_nets(line: Line, n: u32, lower: Columns, upper: Columns) -> Result<T
     ensures { IsNetsRead lower.0 upper.0 n (line_of line.entry) result }
 {
     let mut values = [0; KEPT];
-    let count = read_kind(line, n, b"NETS", Counts::InPairs, &mut values)?;
+    let count = read_kind(line, n, b"NETS", Counts::InPairs, &mut values).accepted()?;
     nets_content(&values, count, n, lower, upper)
 }
 
@@ -152,6 +152,6 @@ pub fn read_gap(line: Line, n: u32, k: usize, before: Option<u32>) -> Result<Gap
     ensures { IsGapRead k (unwrap_or before 0) n (line_of line.entry) result }
 {
     let mut values = [0; KEPT];
-    read_kind(line, n, b"GAP", Counts::Exactly(2), &mut values)?;
+    read_kind(line, n, b"GAP", Counts::Exactly(2), &mut values).accepted()?;
     gap_content(values[0], values[1], k, before, n)
 }

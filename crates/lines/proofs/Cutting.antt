@@ -1,6 +1,6 @@
--- Where a line and a field end: the first field goes up to the first tab, and all of them are what std's split gives; the first line goes up to the first line feed and the other lines are
+-- Where a line and a field end: the first field goes up to the first tab, the others are those from there on, and all of them are what std's split gives; the first line goes up to the first line feed and the other lines are
 -- those behind it. By induction on the bytes. Then what std's search for a place finds. Assumes nothing.
-use mathlib.Core.Path.{◌≡◌, refl, ap, ◌∙◌}
+use mathlib.Core.Path.{◌≡◌, refl, ap, sym, ◌∙◌}
 use mathlib.Core.Bool.{Bool, true, false, cond}
 use mathlib.Core.List.{List, [], ◌∷◌}
 use Prim.Native.Nat.{ℕ, suc, ◌+◌, ◌≤◌, ◌<◌}
@@ -47,6 +47,22 @@ first_field (x ∷ xs) = go (eqb x 9) (first_field xs)
     go : (v : Bool) → get_or (fields xs) 0 [] ≡ take (run 9 xs) xs → get_or (cond v ([] ∷ fields xs) (into_field x (fields xs))) 0 [] ≡ take (cond v 0 (suc (run 9 xs))) (x ∷ xs)
     go true e = refl
     go false e = front_field x (fields xs) ∙ ap (λ r. x ∷ r) e
+
+rest_field : (x : ℕ) (fs : List (List ℕ)) → drop 1 (into_field x fs) ≡ drop 1 fs
+unfolding into_field
+rest_field x [] = refl
+rest_field x (f ∷ fs) = refl
+
+-- the other fields are those from the first tab on
+pub other_fields : (xs : List ℕ) → drop 1 (fields (drop (run 9 xs) xs)) ≡ drop 1 (fields xs)
+unfolding fields run
+other_fields [] = refl
+other_fields (x ∷ xs) = go (eqb x 9) refl (other_fields xs)
+  where
+    go : (v : Bool) → eqb x 9 ≡ v → drop 1 (fields (drop (run 9 xs) xs)) ≡ drop 1 (fields xs) →
+        drop 1 (fields (drop (cond v 0 (suc (run 9 xs))) (x ∷ xs))) ≡ drop 1 (cond v ([] ∷ fields xs) (into_field x (fields xs)))
+    go true e h = rw e
+    go false e h = h ∙ sym (rest_field x (fields xs))
 
 front_first : (x : ℕ) (ls : List Line) → line_at (to_front x ls) 0 ≡ line (x ∷ (line_at ls 0).bytes) (line_at ls 0).ended
 unfolding line_at to_front line no_line

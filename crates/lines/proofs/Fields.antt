@@ -16,7 +16,7 @@ use Rattle.std.specs.Prelude.{Option, None, Some}
 use Rattle.std.specs.Option.{option_or}
 use Rattle.lines.specs.Numbers.{field_read, number_in, numbers_in, in_places, field_if_any, NumbersRead, IsLineRead}
 use Rattle.lines.specs.declared.Numbers.{Numbers}
-use Rattle.lines.proofs.Cutting.{first_field}
+use Rattle.lines.proofs.Cutting.{first_field, other_fields}
 
 set_in_places : (n : ℕ) (vs : List ℕ) (v : ℕ) → set (in_places n vs) (length vs) v ≡ in_places n (vs ++ (v ∷ []))
 unfolding in_places
@@ -178,6 +178,10 @@ no_field f h = go (eqb f 0) refl h
     go : (v : Bool) → eqb f 0 ≡ v → cond v None (Some f) ≡ None → f ≡ 0
     go true e h = eqb-true f 0 e
     go false e h = cc
+
+-- the numbers are read from the end of the word on
+pub read_behind : (xs : List ℕ) (r : ℕ) (n : Numbers) (values : List ℕ) → r ≡ run 9 xs → NumbersRead (drop 1 (fields (take (length xs - r) (drop r xs)))) n values → NumbersRead (drop 1 (fields xs)) n values
+read_behind xs r n values e m = rw (rest_of xs r, e, other_fields xs) at m
 
 -- A LINE whose word ends at r
 pub line_reads : (xs w : List ℕ) (b v : Bool) (r : ℕ) (n : Numbers) (values : List ℕ) → r ≡ run 9 xs → NumbersRead (drop 1 (fields xs)) n values →

@@ -134,13 +134,14 @@ pub struct LineRead {
 }
 
 // The line, its first numbers into these places, which are zeros before.
-#[tactic(auto, using(crate::proofs::Places::run_length))]
+#[tactic(auto, using(crate::proofs::Places::run_length, crate::proofs::Cutting::run_below))]
 pub fn read_line(line: Line, word: &[u8], values: &mut [u32; KEPT]) -> LineRead
     requires { values.old ≡ replicate 64 0 }
     ensures { IsLineRead (line_of line.entry) word.now result values.new }
 {
     let end = run(line.bytes, TAB);
-    let numbers = read_numbers(line.bytes, values);
+    // From the word's end on, so that a long word is not gone over twice.
+    let numbers = read_numbers(&line.bytes[end..], values);
     LineRead {
         worded: line.ended && &line.bytes[..end] == word,
         ill: numbers.ill,

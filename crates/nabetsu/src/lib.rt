@@ -209,7 +209,12 @@ fn put_numbers(placement: Placement, output: &mut [u32])
     ensures { output.new ≡ numbers_in (length output.old) (Ok placement) }
 {
     for (i, place) in output.iter_mut().enumerate() {
-        *place = number_at(placement, i);
+        // Zeros are put without a placement handed on for each: an output may be long.
+        *place = if i < NUMBERS {
+            number_at(placement, i)
+        } else {
+            0
+        };
     }
 }
 

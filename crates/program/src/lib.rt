@@ -3,7 +3,7 @@
 // goes with it come from crate commands, the words for a refusal from crate complaint; the functions here read, write and pass the status on.
 #![tactic(auto)]
 
-ghost use Rattle.std.specs.Prelude.{◌≡◌, ◌≤◌, ◌<◌, true, List, ℕ, length, replicate, IfOk};
+ghost use Rattle.std.specs.Prelude.{◌≡◌, ◌≤◌, ◌<◌, true, List, ℕ, length, replicate, set, IfOk};
 ghost use Rattle.std.specs.Fn.{FnOnceReturnsAtMut};
 ghost use Rattle.commands.specs.declared.Reply.{Reply};
 ghost use Rattle.text.specs.Text.{or_else, text_refusal};
@@ -13,7 +13,7 @@ ghost use Rattle.session.specs.Value.{held_of};
 ghost use Rattle.spread.specs.Answers.{spread_refusal};
 ghost use Rattle.nabetsu.specs.Pages.{page_refusal};
 ghost use Rattle.commands.specs.Output.{status_number, status_after, status_of, trial_status};
-ghost use Rattle.program.specs.Status.{PassedOn, PlacePassedOn};
+ghost use Rattle.program.specs.Status.{PassedOn, PlacePassedOn, exit_status};
 ghost use Rattle.program.specs.Input.{LineIn, IsNextLine};
 
 use commands::{
@@ -288,6 +288,16 @@ fn number_argument(rt: &HostRuntime, i: usize) -> Result<u32, Said> {
     Err(Said)
 }
 
+// Puts a number in its place, where there is one.
+fn store(values: &mut [u32; TRIAL_NUMBERS], i: usize, x: u32)
+    ensures { values.new ≡ set values.old i x }
+{
+    // As in lines, `put_number`: by `get_mut` the proof did not close.
+    if i < TRIAL_NUMBERS {
+        values[i] = x;
+    }
+}
+
 // The runtime, the place of the command among the arguments, and how many arguments there are.
 #[derive(Clone, Copy)]
 struct Arguments<'a> {
@@ -321,10 +331,7 @@ impl<'a> Arguments<'a> {
         let first = self.place + 1;
         // i is the number by which the system knows the argument.
         for i in first..self.end {
-            let value = number_argument(self.rt, i)?;
-            if let Some(place) = values.get_mut(i - first) {
-                *place = value;
-            }
+            store(values, i - first, number_argument(self.rt, i)?);
         }
         Ok(self.end.saturating_sub(first).min(TRIAL_NUMBERS))
     }
@@ -624,6 +631,13 @@ fn run_command(command: Command, arguments: Arguments) -> Result<Status, Said> {
     }
 }
 
+// What has come of a command: its status, or that of a failure that was said.
+fn concluded(run: Result<Status, Said>) -> Status
+    ensures { status_number result ≡ exit_status run }
+{
+    run.unwrap_or(Status::Failed)
+}
+
 // Runs the program on its arguments, and answers what has come of it, whose number is the exit status: 0 where an answer was printed, 1 where a refusal was, 2 where
 // arguments are wrong or reading or writing fails. That the number is at most 2 holds of every `Status`: the clause is kept as the promise to those who see only a number.
 pub fn run(rt: &HostRuntime) -> Status
@@ -636,7 +650,7 @@ pub fn run(rt: &HostRuntime) -> Status
     let mut word = [0u8; ARGUMENT_BYTES];
     let n = argument(rt, arguments.place, &mut word);
     match read_command(&word[..n], words) {
-        Some(command) => run_command(command, arguments).unwrap_or(Status::Failed),
+        Some(command) => concluded(run_command(command, arguments)),
         None => print_wrong(rt, b"wrong arguments"),
     }
 }

@@ -4,11 +4,15 @@ use mathlib.Core.Bool.{Bool, true, false, ◌&&◌, cond}
 use Prim.Native.Nat.{ℕ, ◌≤◌, ◌<◌}
 use lib.Dec.{leb, ltb}
 use lib.ListN.{length}
-use borrow.Author.Tests.{le-leb, lt-leb, lt-ltb, le-ltb, leb-true, ltb-false}
+use borrow.Author.Tests.{le-leb, lt-leb, leb-true, ltb-false}
 use Rattle.numbers.proofs.Bools.{and_left, and_right}
 use Rattle.stack.specs.Stack.{Stack, first_spread}
 use Rattle.text.specs.Text.{Refusal, refusal, fine, or_else}
-use Rattle.text.proofs.Refusals.{or_else_fine, or_else_then, when_fine, only_fine}
+use Rattle.std.specs.Prelude.{Result, Ok, Err, ⊤}
+use Rattle.std.specs.Result.{result_and}
+use Rattle.text.specs.Outcome.{refusal_of}
+use Rattle.text.specs.declared.Refused.{Refused}
+use Rattle.text.proofs.Refusals.{or_else_fine, or_else_then, first_refused, when_fine, only_fine}
 use Rattle.reply.specs.Refusals.{narrow_refusal, channel_refusal, broad_refusal, asked_refusal}
 
 -- WHAT MAY BE ASKED: a channel from 1 to k, and a spread from the first one to 63
@@ -54,11 +58,7 @@ module _ (k : Stack) (s n : ℕ) where
     unfolding asked_refusal
     asked_next f e = or_else_then (channel_refusal k n) (or_else (narrow_refusal k s) (broad_refusal s)) f channel_there e
 
-    module _ (wide : fine ≡ narrow_refusal k s) where
-      pub asked_broad : 63 < s → refusal 9 0 0 ≡ asked_refusal k s n
-      unfolding broad_refusal
-      asked_broad l = asked_next _ (or_else_then (narrow_refusal k s) (broad_refusal s) _ wide (rw (lt-ltb 63 s l)))
-
-      pub asked_all : s ≤ 63 → fine ≡ asked_refusal k s n
-      unfolding broad_refusal
-      asked_all l = asked_next _ (or_else_then (narrow_refusal k s) (broad_refusal s) _ wide (rw (le-ltb 63 s l)))
+-- what two outcomes joined by `and` are refused for: the second counts where the first refuses nothing
+pub and_refused : (a b : Result ⊤ Refused) (f g : Refusal) → refusal_of a ≡ f → (fine ≡ f → refusal_of b ≡ g) → refusal_of (result_and a b) ≡ or_else f g
+and_refused (Ok x) b f g p q = or_else_then f g (refusal_of b) p (q p)
+and_refused (Err e) b f g p q = first_refused e f g p

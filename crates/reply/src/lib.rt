@@ -6,7 +6,7 @@ ghost use Rattle.stack.specs.Value.{stack_of};
 ghost use Rattle.stack.specs.Limits.{within_limits};
 ghost use Rattle.text.specs.Text.{refusal, fine};
 ghost use Rattle.text.specs.Outcome.{refusal_of};
-ghost use Rattle.reply.specs.Refusals.{narrow_refusal, asked_refusal};
+ghost use Rattle.reply.specs.Refusals.{narrow_refusal, broad_refusal, asked_refusal};
 ghost use Rattle.reply.specs.Parts.{RefusedTable, Finished};
 
 use extent::first_spread;
@@ -59,6 +59,17 @@ pub fn finish(put: Result<usize, Refused>, output: &mut [u8]) -> Result<usize, R
 // The greatest spread that a page can show.
 const PAGE_SPREAD: u32 = 63;
 
+// Whether a page can show a spread: none above 63.
+#[tactic(auto, unfolding(crate::specs::Refusals::broad_refusal))]
+fn broad_outcome(spread: u32) -> Result<(), Refused>
+    ensures { refusal_of result ≡ broad_refusal spread }
+{
+    if PAGE_SPREAD < spread {
+        return Err(Refused::new(Refusal::Broad, 0, 0));
+    }
+    Ok(())
+}
+
 // Document 02, P1: whether a page can be asked for: a channel from 1 to k, a spread that is not narrow, and not above 63.
 pub fn page_outcome(stack: &Stack, spread: u32, channel: u32) -> Result<(), Refused>
     requires { within_limits (stack_of stack.now) ≡ true }
@@ -67,9 +78,5 @@ pub fn page_outcome(stack: &Stack, spread: u32, channel: u32) -> Result<(), Refu
     if channel < 1 || stack.count < channel as usize {
         return Err(Refused::new(Refusal::Crowd, 0, 0));
     }
-    spread_outcome(stack, spread)?;
-    if PAGE_SPREAD < spread {
-        return Err(Refused::new(Refusal::Broad, 0, 0));
-    }
-    Ok(())
+    spread_outcome(stack, spread).and(broad_outcome(spread))
 }

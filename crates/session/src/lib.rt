@@ -6,8 +6,9 @@ ghost use Rattle.std.specs.Prelude.{◌≡◌, ◌≤◌, ◌<◌};
 ghost use Rattle.stack.specs.Stack.{free, strip};
 ghost use Rattle.stack.specs.Value.{free_strip, channel_of, stack_of};
 ghost use Rattle.text.specs.Outcome.{refusal_of};
+ghost use Rattle.text.specs.Text.{fine};
 ghost use Rattle.spread.specs.Best.{BestTotal, BestPlacement};
-ghost use Rattle.session.specs.Session.{begin, off, nothing, room_refusal, top_length, taken, Made, session_refusal, SessionTotalSays, SessionPlacementSays};
+ghost use Rattle.session.specs.Session.{begin, off, nothing, room_refusal, top_length, length_refusal, taken, Made, session_refusal, SessionTotalSays, SessionPlacementSays};
 ghost use Rattle.session.specs.Value.{held_of, Stepped, Added};
 ghost use Rattle.session.specs.Parts.{TerminalsRead, session_step, topped};
 
@@ -32,6 +33,13 @@ pub struct Session {
 pub struct SessionStep {
     pub outcome: Result<(), Refused>,
     pub session: Session,
+}
+
+// Whether a strip may have this length: as in a PART line.
+fn length_outcome(length: u32) -> Result<(), Refused>
+    ensures { refusal_of result ≡ length_refusal length }
+{
+    part_content(length, 0).and(Ok(()))
 }
 
 // The terminals between two strips of these lengths, or why not: an odd list, then as in a NETS line.
@@ -108,12 +116,11 @@ impl Session {
         Ok(())
     }
 
-    // The top strip's length.
+    // The top strip's length where there is room for one more, else any.
     fn top(&self) -> Columns
-        requires { (1 ≤ self.now.count) × (self.now.count ≤ 9) }
-        ensures { result.0 ≡ top_length (held_of self.now) }
+        ensures { fine ≡ room_refusal (held_of self.now) → result.0 ≡ top_length (held_of self.now) }
     {
-        self.lengths[self.count - 1]
+        self.lengths[self.count.saturating_sub(1).min(Stack::STRIPS - 1)]
     }
 
     // Puts a strip on top, with the terminals of the channel below it.
@@ -127,15 +134,19 @@ impl Session {
         self.count = n + 1;
     }
 
-    // Adds a strip on top, or says why not: then the session stays.
+    // Adds a strip on top, or says why not, and the session stays: no room, then its length, then the channel below it, the first refusal that applies.
+    // All three are asked before any is told, so that their order stands in the operands alone. That `nets` is good is known behind `fits.and(wired)?`.
     fn try_add(&mut self, length: u32, terminals: &[u32; KEPT], count: u16) -> Result<(), Refused>
         ensures { Added (held_of self.old) length terminals.now count (session_step result self.new) }
     {
-        self.room()?;
-        let below = self.top();
-        let strip = part_content(length, 0)?;
-        let pairs = read_terminals(terminals, count, below, strip.length)?;
-        self.put_top(strip.length, pairs);
+        let upper = Columns(length);
+        let room = self.room();
+        let sized = length_outcome(length);
+        let nets = read_terminals(terminals, count, self.top(), upper);
+        let wired = nets.and(Ok(()));
+        let fits = room.and(sized);
+        fits.and(wired)?;
+        self.put_top(upper, nets?);
         Ok(())
     }
 

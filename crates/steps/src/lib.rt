@@ -50,7 +50,9 @@ fn part_length(line: Line) -> Option<u32>
     ensures { result ≡ cond (is_line length_kind (line_of line.entry)) (Some (length_in (line_of line.entry))) None }
 {
     let mut values = [0; KEPT];
-    read_kind(line, 0, b"PART", Counts::Exactly(1), &mut values).ok()?;
+    read_kind(line, 0, b"PART", Counts::Exactly(1), &mut values)
+        .accepted()
+        .ok()?;
     Some(values[0])
 }
 
@@ -60,7 +62,9 @@ fn list_count(line: Line, values: &mut [u32; KEPT]) -> Option<u16>
     ensures count { result ≡ cond (is_line list_kind (line_of line.entry)) (Some (length (numbers_of (line_of line.entry)))) None }
     ensures kept { OnSome result (values.new ≡ in_places 64 (numbers_of (line_of line.entry))) }
 {
-    let count = read_kind(line, 0, b"NETS", Counts::Any, values).ok()?;
+    let count = read_kind(line, 0, b"NETS", Counts::Any, values)
+        .accepted()
+        .ok()?;
     Some(count as u16)
 }
 

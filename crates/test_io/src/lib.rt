@@ -1,4 +1,4 @@
-// Numbers read by the test programs.
+// Numbers read and printed by the test programs.
 #![tactic(auto)]
 
 ghost use Rattle.std.specs.Prelude.{◌≤◌, length};
@@ -54,4 +54,36 @@ pub fn read_full(source: &mut impl Read, text: &mut [u8]) -> usize
         }
     }
     filled
+}
+
+// Prints bytes up to the first write that takes nothing or fails, which is passed over; how many were written.
+pub fn print_bytes(to: &impl Print, bytes: &[u8]) -> usize
+    ensures { result ≤ length bytes.now }
+{
+    let mut done = 0;
+    // The place goes on by what each write takes, as in `read_full`.
+    while done < bytes.len() {
+        match to.write_some(&bytes[done..]) {
+            Ok(0) | Err(_) => break,
+            Ok(taken) => done += taken,
+        }
+    }
+    done
+}
+
+// Prints a number and answers how many digits it has.
+pub fn print_number(to: &impl Print, v: u64) -> usize
+    ensures { result ≤ 20 }
+{
+    let mut digits = [b'0'; 20];
+    let mut rest = v;
+    let mut at = 20;
+    // From the last digit on, of which there is one in any case, up to the first.
+    while 0 < at && (at == 20 || 0 < rest) {
+        at -= 1;
+        digits[at] = (rest % 10) as u8 + b'0';
+        rest /= 10;
+    }
+    print_bytes(to, &digits[at..]);
+    20 - at
 }

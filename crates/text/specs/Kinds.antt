@@ -1,5 +1,5 @@
 -- What the reader of a line of any kind answers. Assumes nothing: these are definitions.
-use Rattle.std.specs.Prelude.{◌≡◌, Bool, cond, Option, None, Some, Result, IfOk, OnOk, List, ℕ, length}
+use Rattle.std.specs.Prelude.{◌≡◌, Bool, cond, Option, None, Some, Result, Ok, Err, IfOk, OnOk, List, ℕ, ⊤, length}
 use Rattle.lines.specs.Lines.{Line, numbers_of}
 use Rattle.lines.specs.Numbers.{in_places}
 use Rattle.text.specs.Text.{Refusal, refusal, fine, or_else, Entry, entry, Kind, kind, exactly, one_or_three, in_pairs, layout, Check}
@@ -23,6 +23,11 @@ refused_at m n (Some f) = refusal m n f
 -- the layout of line n: whether it has its word, the field at which its count of numbers is at fault, and the first that is no number
 unfoldable pub layout_found : (worded : Bool) → (fault ill : Option ℕ) → (n : ℕ) → Refusal
 layout_found w f i n = cond w (or_else (refused_at 11 n f) (refused_at 12 n i)) (refusal 2 n 0)
+
+-- how many numbers a line has where its layout is good, or why it is not
+abbrev pub accepted : Result ⊤ Refused → (count : ℕ) → Result ℕ Refused
+accepted (Ok t) n = Ok n
+accepted (Err x) n = Err x
 
 -- line n as a line of a word and counts, whatever is asked of its numbers: its layout, and where that is good how many numbers it has, a good count, and they
 pub record IsKindRead (w : List ℕ) (f : ℕ → ℕ) (n : ℕ) (l : Line) (r : Result ℕ Refused) (values : List ℕ) : Type 0 where

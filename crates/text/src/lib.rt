@@ -2,11 +2,11 @@
 #![tactic(auto)]
 
 ghost use Rattle.std.specs.Prelude.{◌≡◌, true, ◌^◌, ◌≤◌, ◌<◌, length, replicate, IfSome};
-ghost use Rattle.lines.specs.Lines.{line_of};
+ghost use Rattle.lines.specs.Lines.{line_of, numbers_of};
 ghost use Rattle.lines.specs.Numbers.{field_if_any};
 ghost use Rattle.text.specs.Text.{exactly, one_or_three, in_pairs, misplaced};
 ghost use Rattle.text.specs.Outcome.{number_of, refusal_of, refused};
-ghost use Rattle.text.specs.Kinds.{fault_of, layout_found, IsKindRead};
+ghost use Rattle.text.specs.Kinds.{fault_of, layout_found, accepted, IsKindRead};
 
 use lines::{KEPT, Line, read_line};
 
@@ -116,13 +116,21 @@ impl Counts {
     }
 }
 
-// The layout of line n behind its word: the field at which its count of numbers is at fault, then the first that is no number.
+// The layout of line n: whether it has its word, the field at which its count of numbers is at fault, then the first that is no number.
 #[tactic(auto, unfolding(crate::specs::Kinds::layout_found, crate::specs::Text::or_else, crate::specs::Text::fine, crate::specs::Text::refusal))]
-fn test_layout(fault: Option<usize>, ill: Option<usize>, n: u32) -> Result<(), Refused>
+fn test_layout(
+    worded: bool,
+    fault: Option<usize>,
+    ill: Option<usize>,
+    n: u32,
+) -> Result<(), Refused>
     requires fault_small { IfSome fault (λ field. field < 2 ^ 32) }
     requires ill_small { IfSome ill (λ field. field < 2 ^ 32) }
-    ensures { refusal_of result ≡ layout_found true fault ill n }
+    ensures { refusal_of result ≡ layout_found worded fault ill n }
 {
+    if !worded {
+        return Err(Refused::new(Refusal::Layout, n, 0));
+    }
     if let Some(field) = fault {
         return Err(Refused::new(Refusal::Count, n, field as u32));
     }
@@ -136,10 +144,27 @@ fn test_layout(fault: Option<usize>, ill: Option<usize>, n: u32) -> Result<(), R
 pub fn test_count(counts: Counts, count: u16, n: u32) -> Result<(), Refused>
     ensures { refusal_of result ≡ misplaced 11 n 0 (fault_of counts count) }
 {
-    test_layout(counts.fault(usize::from(count)), None, n)
+    test_layout(true, counts.fault(usize::from(count)), None, n)
 }
 
-// Line n as a line of a kind, by its word and how many numbers it may have: how many it has. The first numbers come into these places, which are zeros before.
+// A line as one of a kind: its layout, and how many numbers it has, also where the layout is refused.
+#[derive(Clone, Copy)]
+pub struct KindRead {
+    pub layout: Result<(), Refused>,
+    pub count: usize,
+}
+
+impl KindRead {
+    // How many numbers the line has, where its layout is good, or why it is not.
+    pub fn accepted(self) -> Result<usize, Refused>
+        ensures { result ≡ accepted self.layout self.count }
+    {
+        self.layout?;
+        Ok(self.count)
+    }
+}
+
+// Line n as a line of a kind, by its word and how many numbers it may have. The first numbers come into these places, which are zeros before.
 // That a line has at most 8,192 bytes, as a text has, and that the places are zeros, is asked in the contract: types with these invariants would ask more of callers.
 // A line and its number stay two parameters: the number is told in refusals alone; `read_line` has a line without one, and `test_count` a number without a line.
 pub fn read_kind(
@@ -148,15 +173,15 @@ pub fn read_kind(
     word: &[u8],
     counts: Counts,
     values: &mut [u32; KEPT],
-) -> Result<usize, Refused>
+) -> KindRead
     requires { (length line.bytes.now ≤ 8192) × (values.old ≡ replicate 64 0) }
-    ensures { IsKindRead word.now (λ c. fault_of counts c) n (line_of line.entry) result values.new }
+    ensures read { IsKindRead word.now (λ c. fault_of counts c) n (line_of line.entry) (accepted result.layout result.count) values.new }
+    ensures count { result.count ≡ length (numbers_of (line_of line.entry)) }
 {
     let read = read_line(line, word, values);
     let fault = counts.fault(read.count);
-    if !read.worded {
-        return Err(Refused::new(Refusal::Layout, n, 0));
+    KindRead {
+        layout: test_layout(read.worded, fault, read.ill, n),
+        count: read.count,
     }
-    test_layout(fault, read.ill, n)?;
-    Ok(read.count)
 }

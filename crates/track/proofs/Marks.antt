@@ -1,14 +1,16 @@
--- Eight marks, 1 where a path only passes upward, compared as one number: where it is that of eight ones, no path of the eight runs. The code compares the columns
--- themselves (`eight_marked`, Rows.antt). Assumes nothing.
-use mathlib.Core.Path.{◌≡◌, sym, ◌∙◌}
+-- Eight marks, 1 where a path only passes upward, compared as one number: where it is that of eight ones, no path of the eight runs. The code compares the eight columns
+-- themselves; they are the same exactly where the marks are eight ones. Assumes nothing.
+use mathlib.Core.Path.{◌≡◌, refl, sym, ◌∙◌}
 use mathlib.Core.Bool.{Bool, true, false, cond}
 use mathlib.Core.List.{List}
 use mathlib.Core.Logic.{◌⊎◌, inl, inr}
 use Prim.Native.Nat.{ℕ, zero, suc, ◌+◌, ◌*◌, ◌≤◌, ◌<◌}
+use native.Mathlib.Nat.{zero-add}
 use native.Mathlib.Omega.{arith}
-use borrow.Author.Tests.{ne_eqb}
+use borrow.Author.Tests.{ne_eqb, eq-eqb}
 use lib.Dec.{eqb}
-use lib.ListN.{get_or, replicate, get_or-replicate}
+use lib.ListN.{length, get_or, replicate, get_or-replicate}
+use lib.Seq.{ext_get_or}
 use Rattle.numbers.specs.Lists.{tabulate}
 use Rattle.numbers.proofs.Lists.{get_or_tabulate}
 use Rattle.numbers.proofs.Orders.{eq_or_not}
@@ -79,3 +81,30 @@ none_run starts ends marks a l m h i k =
   where
     mark_at : (n : ℕ) → n < 8 → get_or marks (a + n) 0 ≡ upward (get_or starts (a + n) 0) (get_or ends (a + n) 0)
     mark_at n o = rw m (get_or_tabulate 32 (a + n) (λ j. upward (get_or starts j 0) (get_or ends j 0)) 0 (omega arith))
+
+-- WHAT THE CODE COMPARES: the columns of eight paths where they come and where they leave
+abbrev pub marks_of : (starts ends : List ℕ) → List ℕ
+marks_of starts ends = tabulate 32 0 (λ j. upward (get_or starts j 0) (get_or ends j 0))
+
+upward_same : (s : ℕ) → upward s s ≡ 1
+unfolding upward
+upward_same s = rw (eq-eqb s s refl)
+
+same_marks : (xs : List ℕ) (i : ℕ) → i < 8 → get_or (marks_of xs xs) i 0 ≡ 1
+same_marks xs i l = get_or_tabulate 32 i (λ j. upward (get_or xs j 0) (get_or xs j 0)) 0 (omega arith) ∙ upward_same (get_or xs i 0)
+
+-- they are the same exactly where the marks are eight ones
+pub columns_same : (starts ends : List ℕ) → starts ≡ ends → eight_of (marks_of starts ends) 0 ≡ 72340172838076673
+unfolding eight_of
+columns_same starts ends e =
+    rw (← e) (rw (same_marks starts 0 (omega arith), same_marks starts 1 (omega arith), same_marks starts 2 (omega arith), same_marks starts 3 (omega arith), same_marks starts 4 (omega arith), same_marks starts 5 (omega arith), same_marks starts 6 (omega arith), same_marks starts 7 (omega arith)))
+
+ones_run : (starts ends : List ℕ) → eight_of (marks_of starts ends) 0 ≡ 72340172838076673 → (i : ℕ) → i < 8 → get_or starts i 0 ≡ get_or ends i 0
+ones_run starts ends h i k = rw (zero-add i) at (none_run starts ends (marks_of starts ends) 0 (omega arith) refl h i k)
+
+pub marks_same : (starts ends : List ℕ) → length starts ≡ 8 → length ends ≡ 8 → eight_of (marks_of starts ends) 0 ≡ 72340172838076673 → starts ≡ ends
+marks_same starts ends l m h = ext_get_or 0 starts ends (l ∙ sym m) (λ i k. ones_run starts ends h i (omega arith))
+
+-- so eight paths at the same columns where they come and where they leave do not run
+pub none_runs : (starts ends : List ℕ) → starts ≡ ends → (i : ℕ) → i < 8 → get_or starts i 0 ≡ get_or ends i 0
+none_runs starts ends e = ones_run starts ends (columns_same starts ends e)

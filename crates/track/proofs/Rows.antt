@@ -11,10 +11,10 @@ use native.Mathlib.Nat.{zero-mul, suc-mul}
 use borrow.Author.Tests.{le-leb, lt-leb, lt-ltb, le-ltb, eq-eqb, ne_eqb}
 use lib.Dec.{ltb, leb, eqb}
 use lib.ListN.{length, get_or, set, take, drop, replicate, length-append, length-take, length-drop, length-replicate, get_or-replicate}
-use lib.Seq.{length-take-le, ext_get_or, get_or-set_same, get_or-set_other}
+use lib.Seq.{length-take-le, ext_get_or}
 use Rattle.numbers.specs.Lists.{tabulate}
 use Rattle.numbers.proofs.Lists.{length_tabulate, get_or_tabulate, tabulate_same, tabulate_constant, tabulate_set}
-use Rattle.numbers.proofs.Orders.{le_or_lt, lt_or_eq, eq_or_not}
+use Rattle.numbers.proofs.Orders.{le_or_lt, eq_or_not}
 use Rattle.page.specs.Page.{how_many, arms_character}
 use Rattle.page.specs.Arrivals.{drawn, painted}
 use Rattle.std.specs.Int.{from_bool}

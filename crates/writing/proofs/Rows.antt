@@ -55,11 +55,12 @@ row_made k s t ts xs asks us vs a b c d e f =
     let numbers = row_numbers s t (take k (tracks_of ts)) (take (k + 1) (columns_of xs)) in
     rw (f, e, d, c, b, a, us, vs, ← asks.added, ← add-one k) (rw (numbers, tabbed_append (s ∷ []) (t ∷ [])) (simp append_assoc))
 
--- a number and a line feed are a total's line; a number, two behind tabs and a line feed are a refusal's
-pub total_made : (v : ℕ) → digits v ++ (10 ∷ []) ≡ total_text v
+-- a number and a line feed that are added to an empty line are a total's; a number, two behind tabs and a line feed are a refusal's
+pub total_made : (v : ℕ) {a b c : List ℕ} → a ≡ [] → b ≡ a ++ digits v → c ≡ b ++ (10 ∷ []) → c ≡ total_text v
 unfolding total_text
-total_made v = refl
+total_made v a b c = rw (c, b, a)
 
-pub refusal_made : (number line field : ℕ) → digits number ++ tabbed (line ∷ field ∷ []) ++ (10 ∷ []) ≡ refusal_text number line field
+pub refusal_made : (number line field : ℕ) {a b c d : List ℕ} → a ≡ [] → b ≡ a ++ digits number → c ≡ b ++ tabbed (line ∷ field ∷ []) → d ≡ c ++ (10 ∷ []) →
+    d ≡ refusal_text number line field
 unfolding refusal_text
-refusal_made number line field = refl
+refusal_made number line field a b c d = rw (d, c, b, a) (simp append_assoc)

@@ -139,7 +139,6 @@ pub fn put_row(out: &mut [u8], k: usize, spread: u32, placement: Placement) -> u
 }
 
 // A total by itself over the output's first bytes, where there is space for it; its length.
-#[tactic(auto, unfolding(crate::specs::TableText::total_text))]
 pub fn put_total(out: &mut [u8], total: u32) -> usize
     ensures { LinePut (total_text total) out.old out.new result }
 {
@@ -150,7 +149,6 @@ pub fn put_total(out: &mut [u8], total: u32) -> usize
 }
 
 // Document 01, "Lines and tabs": a refusal's line over the output's first bytes, where there is space for it; its length.
-#[tactic(auto, unfolding(crate::specs::TableText::refusal_text))]
 pub fn put_refusal(out: &mut [u8], number: u32, line: u32, field: u32) -> usize
     ensures { LinePut (refusal_text number line field) out.old out.new result }
 {

@@ -6,8 +6,8 @@ use Rattle.steps.proofs.part_length.Goals as goal
 
 pub returns-in_err-ok : goal.returns-in_err-ok
 unfolding part_word
-returns-in_err-ok c = rw (c.from_residual.ensures) (part_ill (line_of c.args.line) _ c.read_kind.result c.read_kind.ensures c.in_err-ok.ensures.value)
+returns-in_err-ok c = rw (c.from_residual.ensures) (part_ill (line_of c.args.line) _ c.accepted.result (rw (← c.accepted.ensures) at c.read_kind.ensures.read) c.in_err-ok.ensures.value)
 
 pub returns : goal.returns
 unfolding part_word
-returns c = part_told (line_of c.args.line) _ c.read_kind.result _ c.read_kind.ensures c.in_ok-ok.ensures.value
+returns c = part_told (line_of c.args.line) _ c.accepted.result _ (rw (← c.accepted.ensures) at c.read_kind.ensures.read) c.in_ok-ok.ensures.value
