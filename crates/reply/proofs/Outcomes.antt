@@ -4,7 +4,7 @@ use mathlib.Core.Bool.{Bool, true, false, ◌&&◌, cond}
 use Prim.Native.Nat.{ℕ, ◌≤◌, ◌<◌}
 use lib.Dec.{leb, ltb}
 use lib.ListN.{length}
-use borrow.Author.Tests.{le-leb, lt-leb, leb-true, ltb-false}
+use borrow.Author.Tests.{le-leb, lt-leb, lt-ltb, le-ltb, leb-true, ltb-false}
 use Rattle.numbers.proofs.Bools.{and_left, and_right}
 use Rattle.stack.specs.Stack.{Stack, first_spread}
 use Rattle.text.specs.Text.{Refusal, refusal, fine, or_else}
@@ -57,6 +57,15 @@ module _ (k : Stack) (s n : ℕ) where
     pub asked_next : (f : Refusal) → f ≡ or_else (narrow_refusal k s) (broad_refusal s) → f ≡ asked_refusal k s n
     unfolding asked_refusal
     asked_next f e = or_else_then (channel_refusal k n) (or_else (narrow_refusal k s) (broad_refusal s)) f channel_there e
+
+    module _ (wide : fine ≡ narrow_refusal k s) where
+      pub asked_broad : 63 < s → refusal 9 0 0 ≡ asked_refusal k s n
+      unfolding broad_refusal
+      asked_broad l = asked_next _ (or_else_then (narrow_refusal k s) (broad_refusal s) _ wide (rw (lt-ltb 63 s l)))
+
+      pub asked_all : s ≤ 63 → fine ≡ asked_refusal k s n
+      unfolding broad_refusal
+      asked_all l = asked_next _ (or_else_then (narrow_refusal k s) (broad_refusal s) _ wide (rw (le-ltb 63 s l)))
 
 -- what two outcomes joined by `and` are refused for: the second counts where the first refuses nothing
 pub and_refused : (a b : Result ⊤ Refused) (f g : Refusal) → refusal_of a ≡ f → (fine ≡ f → refusal_of b ≡ g) → refusal_of (result_and a b) ≡ or_else f g

@@ -75,7 +75,41 @@ pub begin_made : (k : Stack) (l : ℕ) (x : StripStruct) (s : Session) → PartC
 unfolding step_refusal taken
 begin_made k l x s r h = let read = length_read l (Ok x) r in step_made k (begin l) s read.refused (rw read.length at h)
 
--- ADD: the refusals in their order, the first that applies
+-- ADD: the refusals in their order, where each is asked behind those before it
+module _ (u : Session) (l : ℕ) (vs : List ℕ) (c : ℕ) where
+  not_added : (ns : List ℕ) (e : Refused) → refusal (number_of e.why) e.line e.field ≡ step_refusal (held_of u) (add l ns) → Stepped (held_of u) (add l ns) (session_step (Err e) u)
+  unfolding left
+  not_added ns e q = step_refused (held_of u) (add l ns) e u q refl
+
+  pub no_room : (e : Refused) → refusal (number_of e.why) e.line e.field ≡ room_refusal (held_of u) → Added (held_of u) l vs c (session_step (Err e) u)
+  unfolding step_refusal
+  no_room e q ns g = not_added ns e (first_refused e _ _ (first_refused e _ _ q))
+
+  module _ (roomy : fine ≡ room_refusal (held_of u)) where
+    pub no_length : (e : Refused) → LengthRead l (Err e) → Added (held_of u) l vs c (session_step (Err e) u)
+    unfolding step_refusal
+    no_length e r ns g = not_added ns e (first_refused e _ _ (or_else_then _ _ _ roomy r.refused))
+
+    module _ (x : StripStruct) (r : LengthRead l (Ok x)) (top : ℕ) (t : top ≡ top_length (held_of u)) (q : Result Terminals Refused) (n : TerminalsRead top x.length.0 vs c q) where
+      sized : fine ≡ or_else (room_refusal (held_of u)) (length_refusal l)
+      sized = or_else_then _ _ _ roomy r.refused
+
+      pairs_read : (ns : List ℕ) → Given ns vs c → PairsRead (top_length (held_of u)) l ns q
+      pairs_read ns g = rw (t, r.length) at (n ns g)
+
+      pub no_pairs : (e : Refused) → q ≡ Err e → Added (held_of u) l vs c (session_step (Err e) u)
+      unfolding step_refusal
+      no_pairs e h ns g =
+          let m : PairsRead (top_length (held_of u)) l ns (Err e) = rw h at (pairs_read ns g) in
+          not_added ns e (or_else_then _ _ _ sized m.refused)
+
+      pub strip_added : (ts : Terminals) (s : Session) → q ≡ Ok ts → held_of s ≡ topped (held_of u) (strip x.length.0 free) (channel_of ts) → Added (held_of u) l vs c (session_step (Ok tt) s)
+      unfolding step_refusal taken
+      strip_added ts s h e ns g =
+          let m : PairsRead (top_length (held_of u)) l ns (Ok ts) = rw h at (pairs_read ns g) in
+          step_made (held_of u) (add l ns) s (or_else_then _ _ _ sized m.refused) (e ∙ rw (r.length, m.pairs))
+
+-- all asked before one is told, as `try_add` asks them: the first that applies
 pub outcome_is : {A : Type 0} (a : Result A Refused) (r : Result ⊤ Refused) → r ≡ result_and a (Ok tt) → refusal_of r ≡ refusal_of a
 outcome_is (Ok x) r e = rw e
 outcome_is (Err x) r e = rw e
@@ -83,8 +117,8 @@ outcome_is (Err x) r e = rw e
 module _ (u : Session) (l : ℕ) (vs : List ℕ) (c : ℕ) (room sized wired : Result ⊤ Refused) (top : ℕ) (q : Result Terminals Refused)
     (n : refusal_of room ≡ room_refusal (held_of u)) (z : refusal_of sized ≡ length_refusal l) (t : fine ≡ room_refusal (held_of u) → top ≡ top_length (held_of u))
     (m : TerminalsRead top l vs c q) (w : wired ≡ result_and q (Ok tt)) where
-  pairs_read : fine ≡ room_refusal (held_of u) → (ns : List ℕ) → Given ns vs c → PairsRead (top_length (held_of u)) l ns q
-  pairs_read r ns g = rw (t r) at (m ns g)
+  joined_pairs : fine ≡ room_refusal (held_of u) → (ns : List ℕ) → Given ns vs c → PairsRead (top_length (held_of u)) l ns q
+  joined_pairs r ns g = rw (t r) at (m ns g)
 
   roomy : fine ≡ or_else (room_refusal (held_of u)) (length_refusal l) → fine ≡ room_refusal (held_of u)
   roomy r = sym (number_fine room (ap (λ (x : Refusal). x.number) n ∙ (or_else_fine _ _ (fine_number _ r)).0)) ∙ n
@@ -92,15 +126,15 @@ module _ (u : Session) (l : ℕ) (vs : List ℕ) (c : ℕ) (room sized wired : R
   refused : (ns : List ℕ) → Given ns vs c → refusal_of (result_and (result_and room sized) wired) ≡ step_refusal (held_of u) (add l ns)
   unfolding step_refusal
   refused ns g =
-      and_refused (result_and room sized) wired _ _ (and_refused room sized _ _ n (λ _. z)) (λ r. outcome_is q wired w ∙ (pairs_read (roomy r) ns g).refused)
+      and_refused (result_and room sized) wired _ _ (and_refused room sized _ _ n (λ _. z)) (λ r. outcome_is q wired w ∙ (joined_pairs (roomy r) ns g).refused)
 
-  pub not_added : (o : Result ⊤ Refused) → IsErr o → o ≡ result_and (result_and room sized) wired → (v : Session) → held_of v ≡ held_of u → Added (held_of u) l vs c (session_step o v)
+  pub joined_refused : (o : Result ⊤ Refused) → IsErr o → o ≡ result_and (result_and room sized) wired → (v : Session) → held_of v ≡ held_of u → Added (held_of u) l vs c (session_step o v)
   unfolding left
-  not_added (Ok x) h e v k ns g = absurd (cc)
-  not_added (Err x) h e v k ns g = step_refused (held_of u) (add l ns) x v (ap refusal_of e ∙ refused ns g) k
+  joined_refused (Ok x) h e v k ns g = absurd (cc)
+  joined_refused (Err x) h e v k ns g = step_refused (held_of u) (add l ns) x v (ap refusal_of e ∙ refused ns g) k
 
-  pub strip_added : Ok tt ≡ result_and (result_and room sized) wired → (ts : Terminals) (s : Session) → q ≡ Ok ts → held_of s ≡ topped (held_of u) (strip l free) (channel_of ts) → Added (held_of u) l vs c (session_step (Ok tt) s)
+  pub joined_added : Ok tt ≡ result_and (result_and room sized) wired → (ts : Terminals) (s : Session) → q ≡ Ok ts → held_of s ≡ topped (held_of u) (strip l free) (channel_of ts) → Added (held_of u) l vs c (session_step (Ok tt) s)
   unfolding taken
-  strip_added e ts s h k ns g =
+  joined_added e ts s h k ns g =
       let p : PairsRead top l ns (Ok ts) = rw h at (m ns g) in
       step_made (held_of u) (add l ns) s (ap refusal_of e ∙ refused ns g) (k ∙ rw p.pairs)

@@ -1,7 +1,7 @@
 -- The layout of a line in document 02's words; that its numbers have at most four digits; then the layout as the reader of lines tells it: refused as the documents
 -- refuse it, and else the numbers are kept. Assumes nothing.
 use mathlib.Core.Path.{◌≡◌, refl, ap, sym, ◌∙◌}
-use mathlib.Core.Bool.{Bool, true, false, cond}
+use mathlib.Core.Bool.{Bool, true, false, cond, not}
 use mathlib.Core.List.{List, [], ◌∷◌}
 use mathlib.Core.Logic.{◌⊎◌, inl, inr}
 use Prim.Native.Nat.{ℕ, zero, suc, ◌+◌, ◌≤◌, ◌<◌, ◌%◌}
@@ -9,6 +9,7 @@ use native.Mathlib.Nat.{zero-add}
 use native.Mathlib.Omega.{arith}
 use lib.Dec.{ltb, leb, eqb}
 use lib.ListN.{length, get_or}
+use borrow.Author.Rules.{rules}
 use borrow.Author.Tests.{leb-true, ltb-true, eqb-true, ne_eqb}
 use Rattle.lines.specs.Lines.{Line, number_fields, has_word, all_digits, is_number, ill_formed, value_of, value, values, numbers_of}
 use Rattle.std.specs.Prelude.{Option, None, Some, IfSome, Result, Ok, Err, ⊤}
@@ -19,7 +20,8 @@ use Rattle.lines.proofs.Fields.{getD_in_places, numbers_count}
 use Rattle.numbers.proofs.Bools.{ands}
 use Rattle.text.specs.Text.{Refusal, refusal, fine, or_else, Entry, entry, Kind, kind, exactly, one_or_three, in_pairs, misplaced, count_refusal, number_refusal, layout}
 use Rattle.text.specs.Layout.{FirstIll, LayoutIs, line_fault, count_fault, number_fault, good, LayoutTold}
-use Rattle.text.specs.Outcome.{refusal_of}
+use Rattle.text.specs.Outcome.{refusal_of, refused}
+use Rattle.text.specs.declared.Refusal.TheVariants.{Layout}
 use Rattle.text.specs.Kinds.{fault_of, refused_at, layout_found, accepted, IsKindRead, kind_refusal}
 use Rattle.text.specs.declared.Refused.{Refused}
 use Rattle.text.specs.declared.Counts.{Counts}
@@ -209,10 +211,18 @@ module _ (w : List ℕ) (d : Counts) (n : ℕ) (l : Line) (r : LineRead) (vs : L
   unfolding fine refusal
   layout_good a = layout_says (kind w (λ i. fault_of d i) (λ c. fine)) n l (ap (λ (x : Refusal). x.number) (sym (a ∙ reader_told (λ c. fine))))
 
-  kind_refused : (x : Refused) → refusal_of {A = ⊤} (Err x) ≡ layout_found r.worded (field_if_any (fault_of d r.count)) r.ill n → IsKindRead w (λ i. fault_of d i) n l (Err x) vs
+  pub kind_refused : (x : Refused) → refusal_of {A = ⊤} (Err x) ≡ layout_found r.worded (field_if_any (fault_of d r.count)) r.ill n → IsKindRead w (λ i. fault_of d i) n l (Err x) vs
   kind_refused x e = record { layout = λ c. e ∙ reader_told c; fault = tt; count = tt; kept = tt }
 
-  kind_read : fine ≡ layout_found r.worded (field_if_any (fault_of d r.count)) r.ill n → IsKindRead w (λ i. fault_of d i) n l (Ok r.count) vs
+  -- a line without its word, and one with it, of which the count and the numbers are then tested
+  pub kind_unworded : not r.worded ≡ true → IsKindRead w (λ i. fault_of d i) n l (Err (refused Layout n 0)) vs
+  unfolding layout_found
+  kind_unworded e = let unworded : r.worded ≡ false = search rules in kind_refused (refused Layout n 0) (rw unworded)
+
+  pub kind_worded : not r.worded ≡ false → layout_found true (field_if_any (fault_of d r.count)) r.ill n ≡ layout_found r.worded (field_if_any (fault_of d r.count)) r.ill n
+  kind_worded e = let worded : r.worded ≡ true = search rules in rw worded
+
+  pub kind_read : fine ≡ layout_found r.worded (field_if_any (fault_of d r.count)) r.ill n → IsKindRead w (λ i. fault_of d i) n l (Ok r.count) vs
   unfolding kind
   kind_read e = record {
     layout = λ c. e ∙ reader_told c;
